@@ -1,0 +1,1 @@
+// Base64: decoding and encoding, a step of its own over bytes.

@@ -1,0 +1,1 @@
+// A cell of BINARY and of BINARY2: read, measured, written.

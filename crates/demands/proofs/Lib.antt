@@ -1,0 +1,9 @@
+pub mod Everything
+pub mod PCases
+pub mod Writing
+pub mod Lengths
+pub mod Unseen
+pub mod Demand1
+pub mod Demand2
+pub mod Demand3
+pub mod Wrong

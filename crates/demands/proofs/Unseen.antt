@@ -1,0 +1,357 @@
+-- Bytes that show nothing change nothing. Two BINARY2 streams that agree at every place that shows something split alike into flags, counts
+-- and contents (`Alike`), and each content shows the same; so the same rows are read.
+use Prim.Native.Nat.{_+_, _-_, _<_, suc, zero, ℕ}
+use native.Mathlib.Omega.{arith}
+use mathlib.Core.Bool.{Bool, cond, false, true}
+use mathlib.Core.List.{List, [], _++_, _∷_, append-assoc, map}
+use mathlib.Core.Path.{_∙_, _≡_, ap, ap₂, refl, subst, subst₂, sym}
+use lib.Dec.{eqb, ltb}
+use lib.IntN.{ℤ}
+use lib.ListN.{getD, length, length-append, length-replicate, length-take, replicate, take, take-append-drop}
+use lib.Seq.{take-at}
+use borrow.Author.Tests.{ltb-false}
+use Rattle.binary.proofs.Laws.{front-back}
+use Rattle.binary.specs.Binary.{atMost, beforeNul, bitBytes, content, contentBytes, countIn, counted, element, front, numbersIn, readBinary2, shows, unpack}
+use Rattle.demands.specs.Places.{cellsShow, contentShows, rowShows, showsAt, showsThen, streamShows, streamShowsF, throughNul}
+use Rattle.demands.specs.Tables.{count}
+use Rattle.number.specs.Number.{ofDigits}
+use Rattle.rows.proofs.Laws.{read-step}
+use Rattle.rows.specs.Stream.{Table, atEnd, flag, flagsLeft, isEmpty, isOne, read, readCell, readCells, readEnd, readRow, readStart, row, rowThen}
+use Rattle.table.proofs.Laws.{cond-cases, holds-bind, holds-cond, holds-eq}
+use Rattle.table.specs.Cell.{AreColumns, Cell, show}
+use Rattle.table.specs.Outcome.{Refusal, at}
+use Rattle.table.specs.Result.{Holds, Result, _>>=_, bad, every, good, holds, refusedAs, refuses}
+use Rattle.table.specs.Shape.{Bits, Shape, Text, Truths, Whole, shape}
+use Rattle.table.specs.declared.Column.{Column}
+use Rattle.table.specs.declared.Len.{Len}
+use Rattle.table.specs.declared.Len.the-variants.{Bounded, Fixed, Free}
+use Rattle.table.specs.declared.Rows.the-variants.{Binary2}
+
+-- the bytes of a cell's content that show something: none under a null flag, those before the first NUL of a text
+unfoldable seen : Shape → Bool → List ℕ → List ℕ
+seen k true p = []
+seen Truths false p = p
+seen Bits false p = p
+seen (Whole g v) false p = p
+seen Text false p = beforeNul p
+
+-- two runs of a row's cells that differ only in bytes that show nothing; counts are the same
+data CellsAlike : List Column → List Bool → List ℕ → List ℕ → Type 0 where
+  no-cell : {fs : List Bool} → CellsAlike [] fs [] []
+  a-cell : {c : Column} {cs : List Column} {fs : List Bool} (n : ℕ) (count p q : List ℕ) {ps qs : List ℕ}
+      → ((t : List ℕ) → countIn (c .len) (count ++ t) ≡ good (n, t))
+      → length p ≡ contentBytes (shape (c .kind)) n → length q ≡ contentBytes (shape (c .kind)) n
+      → seen (shape (c .kind)) (flag fs) p ≡ seen (shape (c .kind)) (flag fs) q
+      → CellsAlike cs (flagsLeft fs) ps qs → CellsAlike (c ∷ cs) fs (count ++ (p ++ ps)) (count ++ (q ++ qs))
+
+-- two BINARY2 streams that do
+data Alike (cs : List Column) : List ℕ → List ℕ → Type 0 where
+  the-same : {s : List ℕ} → Alike cs s s
+  a-row : (flags bits : List ℕ) {p q s t : List ℕ} → length flags ≡ bitBytes (length cs) → unpack (length cs) flags ≡ good bits
+      → CellsAlike cs (map isOne bits) p q → Alike cs s t → Alike cs (flags ++ (p ++ s)) (flags ++ (q ++ t))
+
+content-seen : (k : Shape) (n : ℕ) (p q : List ℕ) → seen k false p ≡ seen k false q → content k n p ≡ content k n q
+unfolding seen content numbersIn
+content-seen Truths n p q e = ap (content Truths n) e
+content-seen Bits n p q e = ap (content Bits n) e
+content-seen (Whole g v) n p q e = ap (content (Whole g v) n) e
+content-seen Text n p q e = ap (every (element Text)) e
+
+shows-seen : (c : Column) (f : Bool) (n : ℕ) (p q : List ℕ) → seen (shape (c .kind)) f p ≡ seen (shape (c .kind)) f q → shows c f n p ≡ shows c f n q
+unfolding shows
+shows-seen c true n p q e = refl
+shows-seen c false n p q e = ap (λ (r : Result ℕ (List ℤ)). r >>= λ es. good (show c es)) (content-seen (shape (c .kind)) n p q e)
+
+-- both give the same, and go on behind what was read
+data Both {E A : Type 0} (s t : List ℕ) : Result E (A × List ℕ) → Result E (A × List ℕ) → Type 0 where
+  give : {a : A} → Both s t (good (a, s)) (good (a, t))
+  refuse : {e : E} → Both s t (bad e) (bad e)
+
+cell-reads : (c : Column) (f : Bool) (n : ℕ) (count p rest : List ℕ) → ((t : List ℕ) → countIn (c .len) (count ++ t) ≡ good (n, t)) → length p ≡ contentBytes (shape (c .kind)) n
+    → readBinary2 c f (count ++ (p ++ rest)) ≡ (shows c f n p >>= λ x. good (x, rest))
+unfolding readBinary2
+cell-reads c f n count p rest h l = rw (h (p ++ rest), front-back (contentBytes (shape (c .kind)) n) p rest l)
+
+cells-both : {cs : List Column} {fs : List Bool} {p q : List ℕ} → CellsAlike cs fs p q → (k : ℕ) (s t : List ℕ) → Both s t (readCells Binary2 cs fs k (p ++ s)) (readCells Binary2 cs fs k (q ++ t))
+unfolding readCells readCell
+cells-both no-cell k s t = give
+cells-both {fs = fs} (a-cell {c = c} {cs = cs} n count p q {ps = ps} {qs = qs} h l m e a) k s t =
+    rw (append-assoc, append-assoc, append-assoc, append-assoc, cell-reads c (flag fs) n count p (ps ++ s) h l, cell-reads c (flag fs) n count q (qs ++ t) h m, shows-seen c (flag fs) n p q e)
+    (go (shows c (flag fs) n q) (cells-both a (k + 1) s t))
+  where
+    again : (x : Cell) (a b : Result Refusal (List Cell × List ℕ)) → Both s t a b → Both s t (a >>= λ xs. good (x ∷ xs .0, xs .1)) (b >>= λ xs. good (x ∷ xs .0, xs .1))
+    again x a b give = give
+    again x a b refuse = refuse
+
+    go : (r : Result ℕ Cell) → Both s t (readCells Binary2 cs (flagsLeft fs) (k + 1) (ps ++ s)) (readCells Binary2 cs (flagsLeft fs) (k + 1) (qs ++ t))
+        → Both s t
+        (refusedAs {A = Cell × List ℕ} (at k) (r >>= λ x. good (x, ps ++ s)) >>= λ x. readCells Binary2 cs (flagsLeft fs) (k + 1) (x .1) >>= λ xs. good (x .0 ∷ xs .0, xs .1))
+        (refusedAs {A = Cell × List ℕ} (at k) (r >>= λ x. good (x, qs ++ t)) >>= λ x. readCells Binary2 cs (flagsLeft fs) (k + 1) (x .1) >>= λ xs. good (x .0 ∷ xs .0, xs .1))
+    go (good x) b = again x _ _ b
+    go (bad n) b = refuse
+
+row-both : (cs : List Column) (flags bits p q s t : List ℕ) → length flags ≡ bitBytes (length cs) → unpack (length cs) flags ≡ good bits
+    → CellsAlike cs (map isOne bits) p q → Both s t (readRow Binary2 cs (flags ++ (p ++ s))) (readRow Binary2 cs (flags ++ (q ++ t)))
+unfolding readRow readStart readEnd
+row-both cs flags bits p q s t l u a =
+    rw (front-back (bitBytes (length cs)) flags (p ++ s) l, front-back (bitBytes (length cs)) flags (q ++ t) l, u)
+    (go (readCells Binary2 cs (map isOne bits) 0 (p ++ s)) (readCells Binary2 cs (map isOne bits) 0 (q ++ t)) (cells-both a 0 s t))
+  where
+    go : (a b : Result Refusal (List Cell × List ℕ)) → Both s t a b
+        → Both s t (a >>= λ x. refusedAs (at (length cs)) (good (x .1)) >>= λ rest. good (x .0, rest)) (b >>= λ x. refusedAs (at (length cs)) (good (x .1)) >>= λ rest. good (x .0, rest))
+    go a b give = give
+    go a b refuse = refuse
+
+some-flags : (n : ℕ) (flags s : List ℕ) → 0 < n → length flags ≡ bitBytes n → isEmpty (flags ++ s) ≡ false
+unfolding isEmpty bitBytes
+some-flags n [] s h l = absurd (omega arith)
+some-flags n (b ∷ flags) s h l = refl
+
+then-both : (s t : List ℕ) (a b : Result Refusal (List Cell × List ℕ)) (f : List ℕ → Table) → f s ≡ f t → Both s t a b → rowThen a f ≡ rowThen b f
+unfolding rowThen
+then-both s t a b f e (give {a = x}) = ap (row x) e
+then-both s t a b f e refuse = refl
+
+alike : (cs : List Column) → AreColumns cs → {s t : List ℕ} → Alike cs s t → read Binary2 cs s ≡ read Binary2 cs t
+unfolding atEnd
+alike cs i the-same = refl
+alike cs i (a-row flags bits {p = p} {q = q} {s = s} {t = t} l u a r) =
+    read-step Binary2 cs i (flags ++ (p ++ s))
+    ∙ rw (some-flags (length cs) flags (p ++ s) (i .some) l)
+    (then-both s t _ _ (read Binary2 cs) (alike cs i r) (row-both cs flags bits p q s t l u a)
+    ∙ sym (read-step Binary2 cs i (flags ++ (q ++ t)) ∙ rw (some-flags (length cs) flags (q ++ t) (i .some) l)))
+
+-- ---- a cell's parts
+
+-- a cell's count, where it has one
+unfoldable countPart : Len → List ℕ → List ℕ
+countPart (Fixed n) s = []
+countPart (Bounded n) s = take 4 s
+countPart Free s = take 4 s
+
+front-splits : (n : ℕ) (s : List ℕ) → Holds (λ (p : List ℕ × List ℕ). (s ≡ p .0 ++ p .1) × (length (p .0) ≡ n)) (front n s)
+unfolding front
+front-splits n s =
+    holds-cond (ltb (length s) n) (λ _. refuses)
+    (λ f. holds (sym (take-append-drop n s), length-take n s ∙ omega (arith, ltb-false (length s) n f)))
+
+abbrev Counts : Len → List ℕ → ℕ × List ℕ → Type 0
+Counts l s p = (s ≡ countPart l s ++ p .1) × ((t : List ℕ) → countIn l (countPart l s ++ t) ≡ good (p .0, t))
+
+counted-splits : (most : ℕ) (s : List ℕ) → Holds (λ (p : ℕ × List ℕ). (s ≡ take 4 s ++ p .1) × ((t : List ℕ) → counted most (take 4 s ++ t) ≡ good (p .0, t))) (counted most s)
+unfolding counted atMost
+counted-splits most s =
+    holds-bind (front-splits 4 s) (λ p h.
+    let e : take 4 s ≡ p .0 = ap (take 4) (h .0) ∙ take-at (p .0) (p .1) 4 (h .1) in
+    holds-cond (ltb most (ofDigits 256 0 (p .0))) (λ _. refuses)
+    (λ g. holds (h .0 ∙ ap (λ (x : List ℕ). x ++ p .1) (sym e), λ t. rw (e, front-back 4 (p .0) t (h .1), g))))
+
+count-splits : (l : Len) (s : List ℕ) → Holds (Counts l s) (countIn l s)
+unfolding countIn countPart
+count-splits (Fixed n) s = holds (refl, λ t. refl)
+count-splits (Bounded n) s = counted-splits n s
+count-splits Free s = counted-splits 4096 s
+
+-- ---- from places that show something to streams that are alike
+
+-- two texts agree where the marks say so, and past them
+abbrev Agree : List Bool → List ℕ → List ℕ → Type 0
+Agree [] s t = t ≡ s
+Agree (m ∷ ms) [] t = t ≡ []
+Agree (m ∷ ms) (b ∷ s) [] = ⊥
+Agree (true ∷ ms) (b ∷ s) (c ∷ t) = (c ≡ b) × Agree ms s t
+Agree (false ∷ ms) (b ∷ s) (c ∷ t) = Agree ms s t
+
+no-length : (t : List ℕ) → length t ≡ 0 → t ≡ []
+no-length [] h = refl
+no-length (c ∷ t) h = absurd (omega arith)
+
+agree-of : (ms : List Bool) (s t : List ℕ) → length t ≡ length s → ((i : ℕ) → i < length s → getD ms i true ≡ true → getD t i 0 ≡ getD s i 0) → Agree ms s t
+agree-of [] [] t l h = no-length t l
+agree-of [] (b ∷ s) [] l h = absurd (omega arith)
+agree-of [] (b ∷ s) (c ∷ t) l h =
+    let r : t ≡ s = agree-of [] s t (omega arith) (λ i k m. h (suc i) (omega arith) refl) in
+    ap₂ (λ (x : ℕ) (xs : List ℕ). x ∷ xs) (h 0 (omega arith) refl) r
+agree-of (m ∷ ms) [] t l h = no-length t l
+agree-of (m ∷ ms) (b ∷ s) [] l h = absurd (omega arith)
+agree-of (true ∷ ms) (b ∷ s) (c ∷ t) l h = (h 0 (omega arith) refl, agree-of ms s t (omega arith) (λ i k m. h (suc i) (omega arith) m))
+agree-of (false ∷ ms) (b ∷ s) (c ∷ t) l h = agree-of ms s t (omega arith) (λ i k m. h (suc i) (omega arith) m)
+
+record Cut (ms ns : List Bool) (p s t : List ℕ) : Type 0 where
+  other : List ℕ
+  left : List ℕ
+  splits : t ≡ other ++ left
+  here : Agree ms p other
+  rest : Agree ns s left
+
+cut : (ms ns : List Bool) (p s t : List ℕ) → length ms ≡ length p → Agree (ms ++ ns) (p ++ s) t → Cut ms ns p s t
+cut [] ns [] s t l a = record { other = []; left = t; splits = refl; here = refl; rest = a }
+cut [] ns (b ∷ p) s t l a = absurd (omega arith)
+cut (m ∷ ms) ns [] s t l a = absurd (omega arith)
+cut (m ∷ ms) ns (b ∷ p) s [] l a = absurd a
+cut (true ∷ ms) ns (b ∷ p) s (c ∷ t) l a =
+    let r : Cut ms ns p s t = cut ms ns p s t (omega arith) (a .1) in
+    record { other = c ∷ r .other; left = r .left; splits = ap (λ (x : List ℕ). c ∷ x) (r .splits); here = (a .0, r .here); rest = r .rest }
+cut (false ∷ ms) ns (b ∷ p) s (c ∷ t) l a =
+    let r : Cut ms ns p s t = cut ms ns p s t (omega arith) a in
+    record { other = c ∷ r .other; left = r .left; splits = ap (λ (x : List ℕ). c ∷ x) (r .splits); here = r .here; rest = r .rest }
+
+all-seen : (p q : List ℕ) → Agree (replicate (length p) true) p q → q ≡ p
+all-seen [] q a = a
+all-seen (b ∷ p) [] a = absurd a
+all-seen (b ∷ p) (c ∷ q) a = ap₂ (λ (x : ℕ) (xs : List ℕ). x ∷ xs) (a .0) (all-seen p q (a .1))
+
+agree-length : (ms : List Bool) (p q : List ℕ) → Agree ms p q → length q ≡ length p
+agree-length [] p q a = ap length a
+agree-length (m ∷ ms) [] q a = ap length a
+agree-length (m ∷ ms) (b ∷ p) [] a = absurd a
+agree-length (true ∷ ms) (b ∷ p) (c ∷ q) a = ap suc (agree-length ms p q (a .1))
+agree-length (false ∷ ms) (b ∷ p) (c ∷ q) a = ap suc (agree-length ms p q a)
+
+through-seen : (p q : List ℕ) → Agree (throughNul p) p q → beforeNul p ≡ beforeNul q
+unfolding throughNul beforeNul
+through-seen [] q a = rw a
+through-seen (b ∷ p) [] a = absurd a
+through-seen (b ∷ p) (c ∷ q) a = rw (a .0) (go (eqb b 0) (a .1) (through-seen p q))
+  where
+    go : (z : Bool) → Agree (cond z (replicate (length p) false) (throughNul p)) p q → (Agree (throughNul p) p q → beforeNul p ≡ beforeNul q)
+        → cond z [] (b ∷ beforeNul p) ≡ cond z [] (b ∷ beforeNul q)
+    go true a h = refl
+    go false a h = ap (λ (x : List ℕ). b ∷ x) (h a)
+
+content-agree : (k : Shape) (f : Bool) (p q : List ℕ) → Agree (contentShows k f p) p q → seen k f p ≡ seen k f q
+unfolding contentShows seen
+content-agree k true p q a = refl
+content-agree Truths false p q a = sym (all-seen p q a)
+content-agree Bits false p q a = sym (all-seen p q a)
+content-agree (Whole g v) false p q a = sym (all-seen p q a)
+content-agree Text false p q a = through-seen p q a
+
+length-through : (p : List ℕ) → length (throughNul p) ≡ length p
+unfolding throughNul
+length-through [] = refl
+length-through (b ∷ p) =
+    cond-cases (λ (m : List Bool). suc (length m) ≡ suc (length p)) (eqb b 0) (replicate (length p) false) (throughNul p)
+    (λ _. ap suc (length-replicate (length p) false)) (λ _. ap suc (length-through p))
+
+length-content : (k : Shape) (f : Bool) (p : List ℕ) → length (contentShows k f p) ≡ length p
+unfolding contentShows
+length-content k true p = length-replicate _ _
+length-content Truths false p = length-replicate _ _
+length-content Bits false p = length-replicate _ _
+length-content (Whole g v) false p = length-replicate _ _
+length-content Text false p = length-through p
+
+record CellsAgree (cs : List Column) (fs : List Bool) (s t rest : List ℕ) (ns : List Bool) : Type 0 where
+  cells : List ℕ
+  others : List ℕ
+  left : List ℕ
+  splits : s ≡ cells ++ rest
+  splits′ : t ≡ others ++ left
+  alike-cells : CellsAlike cs fs cells others
+  behind : Agree ns rest left
+
+part-length : (a s t : List ℕ) → s ≡ a ++ t → length (replicate (length s - length t) true) ≡ length a
+part-length a s t e = length-replicate (length s - length t) true ∙ omega (arith, ap length e, length-append a t)
+
+one-cell : (c : Column) (cs : List Column) (fs : List Bool) (s : List ℕ) (n : ℕ) (t p u : List ℕ) (m : List Bool) (rest : List ℕ) → Counts (c .len) s (n, t)
+    → (t ≡ p ++ u) → length p ≡ contentBytes (shape (c .kind)) n
+    → ((ns : List Bool) (w : List ℕ) → Agree (m ++ ns) u w → CellsAgree cs (flagsLeft fs) u w rest ns)
+    → (ns : List Bool) (w : List ℕ) → Agree ((replicate (length s - length t) true ++ (contentShows (shape (c .kind)) (flag fs) p ++ m)) ++ ns) s w
+    → CellsAgree (c ∷ cs) fs s w rest ns
+one-cell c cs fs s n t p u m rest h g l more ns w a =
+    let k : Shape = shape (c .kind) in
+    let count : List ℕ = countPart (c .len) s in
+    let e : s ≡ count ++ (p ++ u) = h .0 ∙ ap (λ (x : List ℕ). count ++ x) g in
+    let marks : List Bool = replicate (length s - length t) true in
+    let long : length marks ≡ length count = part-length count s t (h .0) in
+    let a′ : Agree (marks ++ (contentShows k (flag fs) p ++ (m ++ ns))) (count ++ (p ++ u)) w
+    = subst₂ (λ (x : List Bool) (y : List ℕ). Agree x y w) (append-assoc marks (contentShows k (flag fs) p ++ m) ns ∙ ap (λ (x : List Bool). marks ++ x) (append-assoc (contentShows k (flag fs) p) m ns)) e a in
+    let first : Cut marks (contentShows k (flag fs) p ++ (m ++ ns)) count (p ++ u) w = cut marks (contentShows k (flag fs) p ++ (m ++ ns)) count (p ++ u) w long a′ in
+    let second : Cut (contentShows k (flag fs) p) (m ++ ns) p u (first .left) = cut (contentShows k (flag fs) p) (m ++ ns) p u (first .left) (length-content k (flag fs) p) (first .rest) in
+    let third : CellsAgree cs (flagsLeft fs) u (second .left) rest ns = more ns (second .left) (second .rest) in
+    let same-count : first .other ≡ count
+    = all-seen count (first .other) (subst (λ (x : ℕ). Agree (replicate x true) count (first .other)) (sym (length-replicate (length s - length t) true) ∙ long) (first .here)) in
+    record {
+      cells = count ++ (p ++ third .cells);
+      others = count ++ (second .other ++ third .others);
+      left = third .left;
+      splits = e ∙ ap (λ (x : List ℕ). count ++ x) (ap (λ (x : List ℕ). p ++ x) (third .splits) ∙ sym (append-assoc p (third .cells) rest)) ∙ sym (append-assoc count (p ++ third .cells) rest);
+      splits′ =
+          first .splits ∙ ap₂ _++_ same-count (second .splits ∙ ap (λ (x : List ℕ). second .other ++ x) (third .splits′) ∙ sym (append-assoc (second .other) (third .others) (third .left)))
+          ∙ sym (append-assoc count (second .other ++ third .others) (third .left));
+      alike-cells = a-cell n count p (second .other) (h .1) l (agree-length (contentShows k (flag fs) p) p (second .other) (second .here) ∙ l) (content-agree k (flag fs) p (second .other) (second .here)) (third .alike-cells);
+      behind = third .behind;
+    }
+
+cells-agree : (cs : List Column) (fs : List Bool) (s : List ℕ)
+    → Holds (λ (m : List Bool × List ℕ). (ns : List Bool) (w : List ℕ) → Agree (m .0 ++ ns) s w → CellsAgree cs fs s w (m .1) ns) (cellsShow cs fs s)
+unfolding cellsShow
+cells-agree [] fs s = holds (λ ns w a. record { cells = []; others = []; left = w; splits = refl; splits′ = refl; alike-cells = no-cell; behind = a })
+cells-agree (c ∷ cs) fs s =
+    holds-bind (count-splits (c .len) s) (λ n h.
+    holds-bind (front-splits (contentBytes (shape (c .kind)) (n .0)) (n .1)) (λ p g.
+    holds-bind (cells-agree cs (flagsLeft fs) (p .1)) (λ m more.
+    holds (one-cell c cs fs s (n .0) (n .1) (p .0) (p .1) (m .0) (m .1) h (g .0) (g .1) more))))
+
+record RowAgree (cs : List Column) (s t rest : List ℕ) (ns : List Bool) : Type 0 where
+  flags : List ℕ
+  bits : List ℕ
+  cells : List ℕ
+  others : List ℕ
+  left : List ℕ
+  splits : s ≡ flags ++ (cells ++ rest)
+  splits′ : t ≡ flags ++ (others ++ left)
+  long : length flags ≡ bitBytes (length cs)
+  says : unpack (length cs) flags ≡ good bits
+  alike-cells : CellsAlike cs (map isOne bits) cells others
+  behind : Agree ns rest left
+
+one-row : (cs : List Column) (s flags t bits : List ℕ) (m : List Bool) (rest : List ℕ) → s ≡ flags ++ t → length flags ≡ bitBytes (length cs) → unpack (length cs) flags ≡ good bits
+    → ((ns : List Bool) (w : List ℕ) → Agree (m ++ ns) t w → CellsAgree cs (map isOne bits) t w rest ns)
+    → (ns : List Bool) (w : List ℕ) → Agree ((replicate (length flags) true ++ m) ++ ns) s w → RowAgree cs s w rest ns
+one-row cs s flags t bits m rest e l u more ns w a =
+    let marks : List Bool = replicate (length flags) true in
+    let a′ : Agree (marks ++ (m ++ ns)) (flags ++ t) w = subst₂ (λ (x : List Bool) (y : List ℕ). Agree x y w) (append-assoc marks m ns) e a in
+    let first : Cut marks (m ++ ns) flags t w = cut marks (m ++ ns) flags t w (length-replicate (length flags) true) a′ in
+    let second : CellsAgree cs (map isOne bits) t (first .left) rest ns = more ns (first .left) (first .rest) in
+    record {
+      flags = flags;
+      bits = bits;
+      cells = second .cells;
+      others = second .others;
+      left = second .left;
+      splits = e ∙ ap (λ (x : List ℕ). flags ++ x) (second .splits);
+      splits′ = first .splits ∙ ap₂ _++_ (all-seen flags (first .other) (first .here)) (second .splits′);
+      long = l;
+      says = u;
+      alike-cells = second .alike-cells;
+      behind = second .behind;
+    }
+
+row-agree : (cs : List Column) (s : List ℕ)
+    → Holds (λ (m : List Bool × List ℕ). (ns : List Bool) (w : List ℕ) → Agree (m .0 ++ ns) s w → RowAgree cs s w (m .1) ns) (rowShows cs s)
+unfolding rowShows
+row-agree cs s =
+    holds-bind (front-splits (bitBytes (length cs)) s) (λ f h.
+    holds-bind (holds-eq (unpack (length cs) (f .0))) (λ bits u.
+    holds-bind (cells-agree cs (map isOne bits) (f .1)) (λ m more.
+    holds (one-row cs s (f .0) (f .1) bits (m .0) (m .1) (h .0) (h .1) u more))))
+
+rows-agree : (f : ℕ) (cs : List Column) (s t : List ℕ) → Agree (streamShowsF f cs s) s t → Alike cs s t
+unfolding streamShowsF
+rows-agree zero cs s t a = subst (Alike cs s) (sym (all-seen s t a)) the-same
+rows-agree (suc f) cs s t a = go (rowShows cs s) (row-agree cs s) (rows-agree f cs) a
+  where
+    go : (r : Result ℕ (List Bool × List ℕ)) → Holds (λ (m : List Bool × List ℕ). (ns : List Bool) (w : List ℕ) → Agree (m .0 ++ ns) s w → RowAgree cs s w (m .1) ns) r
+        → ((s t : List ℕ) → Agree (streamShowsF f cs s) s t → Alike cs s t) → Agree (showsThen s r (λ rest. streamShowsF f cs rest)) s t → Alike cs s t
+    go r refuses ih a = unfold showsThen in subst (Alike cs s) (sym (all-seen s t a)) the-same
+    go r (holds {a = m} h) ih a = unfold showsThen in
+        let x : RowAgree cs s t (m .1) (streamShowsF f cs (m .1)) = h (streamShowsF f cs (m .1)) t a in
+        subst₂ (λ (y z : List ℕ). Alike cs y z) (sym (x .splits)) (sym (x .splits′)) (a-row (x .flags) (x .bits) (x .long) (x .says) (x .alike-cells) (ih (m .1) (x .left) (x .behind)))
+
+-- two BINARY2 streams that agree at every place that shows something say the same
+pub unseen : (cs : List Column) (s t : List ℕ) → AreColumns cs → length t ≡ length s
+    → ((i : ℕ) → i < length s → showsAt cs s i ≡ true → getD t i 0 ≡ getD s i 0) → read Binary2 cs t ≡ read Binary2 cs s
+unfolding showsAt streamShows
+unseen cs s t i l h = sym (alike cs i (rows-agree (length s) cs s t (agree-of (streamShowsF (length s) cs s) s t l h)))

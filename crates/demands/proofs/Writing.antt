@@ -1,0 +1,152 @@
+-- How a table is written, as a relation: each row whole, up to the first that is not. What the demands need of it follows by induction.
+use Prim.Native.Nat.{_+_, _<_, _≤_, suc, zero, zero-le, ℕ}
+use native.Mathlib.Nat.{add-zero}
+use native.Mathlib.Omega.{arith}
+use mathlib.Core.List.{List, [], _++_, _∷_, append-assoc, append-nil}
+use mathlib.Core.Path.{_∙_, _≡_, ap, ap₂, refl, sym}
+use lib.Dec.{lit≤, ltb}
+use lib.ListN.{length, length-append}
+use borrow.Author.Tests.{le-ltb, ltb-false, ltb-true}
+use Rattle.demands.specs.Demands.{output}
+use Rattle.demands.specs.Tables.{Ends, count, lines, upTo}
+use Rattle.rows.proofs.Laws.{AllRows, FitsAll, Placed, Stops, newline, newline-read, read-row, row-back, write-row-fails}
+use Rattle.rows.specs.Stream.{Table, finished, fitted, read, readF, row, stopped, write, writeCell, writeCells, writeRow, wroteThen}
+use Rattle.table.proofs.Laws.{bind-good, cond-cases, fails-at, good-as, good-bind, holds-at}
+use Rattle.table.specs.Cell.{AreColumns, Cell, Each}
+use Rattle.table.specs.Outcome.{Outcome, Refusal, accepted, at, refused, rowsDone, written}
+use Rattle.table.specs.Result.{IsGood, Result, _>>=_, bad, good, refusedAs}
+use Rattle.table.specs.declared.Column.{Column}
+use Rattle.table.specs.declared.Rows.{Rows}
+
+-- row r and those after it, with `out` written
+pub data Writes (to : Rows) (cs : List Column) (room : ℕ) : ℕ → List ℕ → Table → Outcome → Type 0 where
+  all-written : {r : ℕ} {out : List ℕ} → Writes to cs room r out finished (accepted r out)
+  unread : {r : ℕ} {out : List ℕ} {e : Refusal} → Writes to cs room r out (stopped e) (refused e r out)
+  unwritten : {r : ℕ} {out : List ℕ} {xs : List Cell} {t : Table} {e : Refusal} → writeRow to cs xs ≡ bad e → Writes to cs room r out (row xs t) (refused e r out)
+  no-room : {r : ℕ} {out b : List ℕ} {xs : List Cell} {t : Table} → writeRow to cs xs ≡ good b → room < length (out ++ b) → Writes to cs room r out (row xs t) (refused (at 0 17) r out)
+  next-row : {r : ℕ} {out b : List ℕ} {xs : List Cell} {t : Table} {o : Outcome} → writeRow to cs xs ≡ good b → length (out ++ b) ≤ room
+      → Writes to cs room (r + 1) (out ++ b) t o → Writes to cs room r out (row xs t) o
+
+pub writes : (to : Rows) (cs : List Column) (room r : ℕ) (out : List ℕ) (t : Table) → Writes to cs room r out t (write to cs room r out t)
+unfolding write fitted wroteThen
+writes to cs room r out finished = all-written
+writes to cs room r out (stopped e) = unread
+writes to cs room r out (row xs t) = go (writeRow to cs xs) refl (λ b. writes to cs room (r + 1) (out ++ b) t)
+  where
+    go : (w : Result Refusal (List ℕ)) → writeRow to cs xs ≡ w → ((b : List ℕ) → Writes to cs room (r + 1) (out ++ b) t (write to cs room (r + 1) (out ++ b) t))
+        → Writes to cs room r out (row xs t) (wroteThen r out (fitted room out w) (λ b. write to cs room (r + 1) b t))
+    go (bad e) q ih = unwritten q
+    go (good b) q ih =
+        cond-cases (λ (x : Result Refusal (List ℕ)). Writes to cs room r out (row xs t) (wroteThen r out x (λ b. write to cs room (r + 1) b t)))
+        (ltb room (length (out ++ b))) (bad (at 0 17)) (good (out ++ b))
+        (λ h. no-room q (ltb-true room (length (out ++ b)) h)) (λ h. next-row q (ltb-false room (length (out ++ b)) h) (ih b))
+
+-- ---- what stands once it is written
+
+-- how it ends: at the table's end, or with a refusal of reading or of writing
+abbrev pub EndsAt : List Column → Table → ℕ → Outcome → Type 0
+EndsAt cs t done (accepted r out) = Ends t × (done ≡ count t)
+EndsAt cs t done (refused e r out) = Placed 8 17 (length cs) e
+
+pub record Done (to : Rows) (cs : List Column) (room r : ℕ) (out : List ℕ) (t : Table) (o : Outcome) : Type 0 where
+  pub done : ℕ
+  pub body : List ℕ
+  pub rows : rowsDone o ≡ r + done
+  pub output : written o ≡ out ++ body
+  pub read : done ≤ count t
+  pub whole : lines to cs (upTo done t) ≡ good body
+  pub fits : length out ≤ room → length (written o) ≤ room
+  pub ended : EndsAt cs t done o
+
+none-done : (to : Rows) (cs : List Column) (room r : ℕ) (out : List ℕ) (t : Table) (o : Outcome) → rowsDone o ≡ r → written o ≡ out → EndsAt cs t 0 o → Done to cs room r out t o
+unfolding upTo lines
+none-done to cs room r out t o p q e =
+    record { done = 0; body = []; rows = p ∙ sym (add-zero r); output = q ∙ sym (append-nil out); read = zero-le; whole = refl; fits = λ h. rw q h; ended = e }
+
+one-more : (cs : List Column) (xs : List Cell) (t : Table) (done : ℕ) (o : Outcome) → EndsAt cs t done o → EndsAt cs (row xs t) (suc done) o
+unfolding count
+one-more cs xs t done (accepted r out) h = (h .0, ap suc (h .1))
+one-more cs xs t done (refused e r out) h = h
+
+-- the room is never passed, whatever was written before
+pub done-of : (to : Rows) (cs : List Column) (room : ℕ) {r : ℕ} {out : List ℕ} {t : Table} {o : Outcome} → Writes to cs room r out t o
+    → Stops (Placed 8 13 (length cs)) t → Done to cs room r out t o
+unfolding rowsDone written count upTo lines at
+done-of to cs room {r} {out} {t} {o} all-written s = none-done to cs room r out t o refl refl (tt, refl)
+done-of to cs room {r} {out} {t} {o} unread s = none-done to cs room r out t o refl refl ((s .0 .0, omega (arith, s .0 .1)), s .1)
+done-of to cs room {r} {out} {t} {o} (unwritten {xs = xs} q) s =
+    let w : Placed 14 16 (length cs) _ = fails-at (write-row-fails to cs xs) q in
+    none-done to cs room r out t o refl refl ((omega (arith, w .0 .0), omega (arith, w .0 .1)), w .1)
+done-of to cs room {r} {out} {t} {o} (no-room q h) s = none-done to cs room r out t o refl refl ((lit≤ tt, lit≤ tt), zero-le)
+done-of to cs room {r} {out} {t} {o} (next-row {b = b} {xs = xs} {t = u} q h w) s =
+    let d : Done to cs room (r + 1) (out ++ b) u o = done-of to cs room w s in
+    record {
+      done = suc (d .done);
+      body = b ++ d .body;
+      rows = d .rows ∙ omega arith;
+      output = d .output ∙ append-assoc out b (d .body);
+      read = omega (arith, d .read);
+      whole = rw (q, d .whole);
+      fits = λ _. d .fits h;
+      ended = one-more cs xs u (d .done) o (d .ended);
+    }
+
+-- ---- with room enough, what has a form in the target is accepted
+
+pub accepts : (to : Rows) (cs : List Column) (t : Table) (room r : ℕ) (out body : List ℕ) → Ends t → lines to cs t ≡ good body
+    → length (out ++ body) ≤ room → write to cs room r out t ≡ accepted (r + count t) (out ++ body)
+unfolding lines write count wroteThen fitted
+accepts to cs finished room r out body e l h = ap₂ accepted (sym (add-zero r)) (cc (append-nil out))
+accepts to cs (stopped n) room r out body e l h = absurd e
+accepts to cs (row xs t) room r out body e l h =
+    let w : (b : List ℕ) × (writeRow to cs xs ≡ good b) × ((lines to cs t >>= λ r. good (b ++ r)) ≡ good body) = bind-good (writeRow to cs xs) _ body l in
+    let m : (b : List ℕ) × (lines to cs t ≡ good b) × (good (w .0 ++ b) ≡ good body) = bind-good (lines to cs t) _ body (w .2) in
+    let q : w .0 ++ m .0 ≡ body = cc (m .2) in
+    let k : length ((out ++ w .0) ++ m .0) ≤ room = rw (append-assoc, q) h in
+    rw (w .1, le-ltb room (length (out ++ w .0)) (omega (arith, length-append (out ++ w .0) (m .0))))
+    (accepts to cs t room (r + 1) (out ++ w .0) (m .0) e (m .1) k ∙ ap₂ accepted (omega arith) (append-assoc out (w .0) (m .0) ∙ ap (λ (b : List ℕ). out ++ b) q))
+
+-- all rows of a table that ends are all of it
+pub up-to-all : (t : Table) → Ends t → upTo (count t) t ≡ t
+unfolding upTo count
+up-to-all finished e = refl
+up-to-all (stopped n) e = absurd e
+up-to-all (row xs t) e = ap (row xs) (up-to-all t e)
+
+-- ---- lines are read back as the rows they were written from
+
+nothing-read : (to : Rows) (cs : List Column) (body : List ℕ) → _≡_ {A = Result Refusal (List ℕ)} (good []) (good body) → read to cs body ≡ finished
+unfolding read readF
+nothing-read to cs body q = let e : [] ≡ body = cc in rw (← e)
+
+pub lines-read : (to : Rows) (cs : List Column) → AreColumns cs → (m : ℕ) (t : Table) → AllRows (FitsAll cs) t
+    → (body : List ℕ) → lines to cs (upTo m t) ≡ good body → read to cs body ≡ upTo m t
+unfolding lines upTo
+lines-read to cs i zero t f body l = nothing-read to cs body l
+lines-read to cs i (suc m) finished f body l = nothing-read to cs body l
+lines-read to cs i (suc m) (stopped n) f body l = nothing-read to cs body l
+lines-read to cs i (suc m) (row xs t) f body l =
+    let w : (b : List ℕ) × (writeRow to cs xs ≡ good b) × ((lines to cs (upTo m t) >>= λ r. good (b ++ r)) ≡ good body) = bind-good (writeRow to cs xs) _ body l in
+    let r : (b : List ℕ) × (lines to cs (upTo m t) ≡ good b) × (good (w .0 ++ b) ≡ good body) = bind-good (lines to cs (upTo m t)) _ body (w .2) in
+    let q : w .0 ++ r .0 ≡ body = cc (r .2) in
+    ap (read to cs) (sym q)
+    ∙ read-row to cs i (w .0 ++ r .0) xs (newline to ++ r .0) (holds-at (row-back to cs xs (i .each) (f .0)) (w .1) (r .0))
+    ∙ ap (row xs) (newline-read to cs i (r .0) ∙ lines-read to cs i m t (f .1) (r .0) (r .1))
+
+-- ---- where every cell has a form, every row has one
+
+cells-good : (to : Rows) (cs : List Column) (xs : List Cell) (k : ℕ) → Each (λ (c : Column) (x : Cell). IsGood (writeCell to c x)) cs xs → IsGood (writeCells to cs xs k)
+unfolding writeCells
+cells-good to [] xs k h = tt
+cells-good to (c ∷ cs) [] k h = tt
+cells-good to (c ∷ cs) (x ∷ xs) k h =
+    good-bind (refusedAs (at k) (writeCell to c x)) _ (good-as (at k) (writeCell to c x) (h .0)) (λ b.
+    good-bind (writeCells to cs xs (k + 1)) _ (cells-good to cs xs (k + 1) (h .1)) (λ r. tt))
+
+pub lines-good : (to : Rows) (cs : List Column) (t : Table) → AllRows (Each (λ (c : Column) (x : Cell). IsGood (writeCell to c x)) cs) t → IsGood (lines to cs t)
+unfolding lines writeRow
+lines-good to cs finished h = tt
+lines-good to cs (stopped n) h = tt
+lines-good to cs (row xs t) h =
+    good-bind (writeRow to cs xs) _ (good-bind (writeCells to cs xs 0) _ (cells-good to cs xs 0 (h .0)) (λ b. tt)) (λ b.
+    good-bind (lines to cs t) _ (lines-good to cs t (h .1)) (λ r. tt))

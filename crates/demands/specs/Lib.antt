@@ -1,0 +1,4 @@
+pub mod Tables
+pub mod Demands
+pub mod Places
+pub mod Cases

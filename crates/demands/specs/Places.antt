@@ -1,0 +1,59 @@
+-- Which places of a BINARY2 stream show something: all but those "under a null flag, counts excepted, or after the first NUL of a text".
+-- A place is marked true where it shows something.
+use Prim.Native.Nat.{_-_, suc, zero, ℕ}
+use mathlib.Core.Bool.{Bool, cond, false, true}
+use mathlib.Core.List.{List, [], _++_, _∷_, map}
+use lib.Dec.{eqb}
+use lib.ListN.{getD, length, replicate}
+use mir.Val.{bits}
+use Rattle.binary.specs.Binary.{bitBytes, contentBytes, countIn, front, unpack}
+use Rattle.rows.specs.Stream.{flag, flagsLeft, isOne}
+use Rattle.table.specs.Result.{Result, _>>=_, bad, good}
+use Rattle.table.specs.Shape.{Bits, Shape, Text, Truths, Whole, shape}
+use Rattle.table.specs.declared.Column.{Column}
+
+-- a text up to its first NUL, that NUL among it
+unfoldable pub throughNul : List ℕ → List Bool
+throughNul [] = []
+throughNul (b ∷ s) = true ∷ cond (eqb b 0) (replicate (length s) false) (throughNul s)
+
+-- a cell's content, under a null flag or not
+unfoldable pub contentShows : Shape → Bool → List ℕ → List Bool
+contentShows k true p = replicate (length p) false
+contentShows Truths false p = replicate (length p) true
+contentShows Bits false p = replicate (length p) true
+contentShows (Whole g v) false p = replicate (length p) true
+contentShows Text false p = throughNul p
+
+-- the cells of a row: counts show, whatever the flags are
+unfoldable pub cellsShow : List Column → List Bool → List ℕ → Result ℕ (List Bool × List ℕ)
+cellsShow [] fs s = good ([], s)
+cellsShow (c ∷ cs) fs s = do
+  (n, t) ← countIn (c .len) s
+  (p, u) ← front (contentBytes (shape (c .kind)) n) t
+  (marks, rest) ← cellsShow cs (flagsLeft fs) u
+  good (replicate (length s - length t) true ++ (contentShows (shape (c .kind)) (flag fs) p ++ marks), rest)
+
+-- a row: its flags show
+unfoldable pub rowShows : List Column → List ℕ → Result ℕ (List Bool × List ℕ)
+rowShows cs s = do
+  (p, t) ← front (bitBytes (length cs)) s
+  bits ← unpack (length cs) p
+  (marks, rest) ← cellsShow cs (map isOne bits) t
+  good (replicate (length p) true ++ marks, rest)
+
+-- row after row; from the first that cannot be told apart on, all shows
+unfoldable pub showsThen : List ℕ → Result ℕ (List Bool × List ℕ) → (List ℕ → List Bool) → List Bool
+showsThen s (good p) more = p .0 ++ more (p .1)
+showsThen s (bad n) more = replicate (length s) true
+
+unfoldable pub streamShowsF : ℕ → List Column → List ℕ → List Bool
+streamShowsF zero cs s = replicate (length s) true
+streamShowsF (suc f) cs s = showsThen s (rowShows cs s) (λ rest. streamShowsF f cs rest)
+
+unfoldable pub streamShows : List Column → List ℕ → List Bool
+streamShows cs s = streamShowsF (length s) cs s
+
+-- does place i show something?
+unfoldable pub showsAt : List Column → List ℕ → ℕ → Bool
+showsAt cs s i = getD (streamShows cs s) i true

@@ -1,0 +1,1 @@
+// Declarations to a column list.

@@ -1,0 +1,1 @@
+// Integers: two's complement, big-endian bytes, decimal and hexadecimal words, shortest decimal.

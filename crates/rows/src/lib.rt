@@ -1,0 +1,1 @@
+// A row of any kind, and the converter.

@@ -1,0 +1,65 @@
+-- The public face: what each function for C answers, in numbers, and what it leaves in the buffer that it was lent.
+use Prim.Native.Nat.{suc, zero, ℕ}
+use mathlib.Core.List.{List, [], _∷_}
+use mathlib.Core.Option.{Option, none, some}
+use lib.ListN.{length}
+use Rattle.base64.specs.Base64.{decodeCall, encodeCall}
+use Rattle.binary.specs.Binary.{numbers}
+use Rattle.fields.specs.Fields.{declare}
+use Rattle.rows.specs.Convert.{convert}
+use Rattle.table.specs.Outcome.{Call, Refusal}
+use Rattle.table.specs.Result.{Result, bad, good}
+use Rattle.table.specs.declared.Answer.{Answer}
+use Rattle.table.specs.declared.Column.{Column}
+use Rattle.table.specs.declared.Rows.{Rows}
+use Rattle.table.specs.declared.Rows.the-variants.{Binary, Binary2, TableData}
+
+-- row kinds by number: 0 TABLEDATA, 1 BINARY, 2 BINARY2
+unfoldable pub rowsOf : ℕ → Option Rows
+rowsOf zero = some TableData
+rowsOf (suc zero) = some Binary
+rowsOf (suc (suc zero)) = some Binary2
+rowsOf (suc (suc (suc n))) = none
+
+-- "The answer has the number, the row and column from 0, the rows done and the bytes written."
+unfoldable pub five : Answer → List ℕ
+five a = a .number ∷ a .row ∷ a .column ∷ a .rows ∷ a .bytes ∷ []
+
+-- the five numbers, and every byte of the buffer
+pub record Faced : Type 0 where
+  pub numbers : List ℕ
+  pub buffer : List ℕ
+
+unfoldable pub faced : Call → Faced
+faced c = record { numbers = five (c .answer); buffer = c .buffer }
+
+-- ---- conversion
+
+-- a kind's number that is none of the three: 255, everything else 0 and nothing touched, before anything else is judged
+unfoldable pub noSuchKind : List ℕ → Faced
+noSuchKind out = record { numbers = 255 ∷ 0 ∷ 0 ∷ 0 ∷ 0 ∷ []; buffer = out }
+
+unfoldable pub betweenKinds : List ℕ → Option Rows → Option Rows → List ℕ → List ℕ → Faced
+betweenKinds decls (some from) (some to) input out = faced (convert decls from to input out)
+betweenKinds decls (some from) none input out = noSuchKind out
+betweenKinds decls none to input out = noSuchKind out
+
+unfoldable pub convertFace : List ℕ → ℕ → ℕ → List ℕ → List ℕ → Faced
+convertFace decls from to input out = betweenKinds decls (rowsOf from) (rowsOf to) input out
+
+-- ---- base64
+
+unfoldable pub decodeFace : List ℕ → List ℕ → Faced
+decodeFace input out = faced (decodeCall input out)
+
+unfoldable pub encodeFace : List ℕ → List ℕ → Faced
+encodeFace input out = faced (encodeCall input out)
+
+-- ---- declarations: number, 0, place, columns, 0
+
+unfoldable pub declaredNumbers : Result Refusal (List Column) → List ℕ
+declaredNumbers (good cs) = 0 ∷ 0 ∷ 0 ∷ length cs ∷ 0 ∷ []
+declaredNumbers (bad e) = e .number ∷ 0 ∷ e .column ∷ 0 ∷ 0 ∷ []
+
+unfoldable pub declareFace : List ℕ → List ℕ
+declareFace decls = declaredNumbers (declare decls)

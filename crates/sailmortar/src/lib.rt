@@ -1,0 +1,1 @@
+// The public face: the functions for C, Rust and Python.

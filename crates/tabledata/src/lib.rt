@@ -1,0 +1,1 @@
+// A cell of TABLEDATA: read, measured, written.
