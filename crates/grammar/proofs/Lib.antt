@@ -1,0 +1,13 @@
+pub mod Fronts
+pub mod WordsRead
+pub mod ShownRead
+pub mod TextRead
+pub mod BinariesRead
+pub mod Streams
+pub mod DeclarationsRead
+pub mod ColumnsRead
+pub mod FormsWritten
+pub mod Base64Read
+pub mod WrittenBytes
+pub mod Exactly
+pub mod Examples

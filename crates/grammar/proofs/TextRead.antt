@@ -1,0 +1,367 @@
+-- TABLEDATA is read exactly: characters, elements, cells. What the grammar has is read whatever follows; what is read is in the grammar.
+use Prim.Native.Nat.{_≤_, suc, ℕ}
+use native.Mathlib.Nat.{le-refl}
+use native.Mathlib.Omega.{arith}
+use mathlib.Core.Bool.{Bool, _&&_, _||_, cond, false, or-true, true}
+use mathlib.Core.List.{List, [], _++_, _∷_, append-assoc, append-nil}
+use mathlib.Core.Path.{_∙_, _≡_, ap, refl, subst, sym}
+use lib.Dec.{eqb, leb, lit≤}
+use lib.IntN.{ℤ}
+use lib.ListN.{length}
+use borrow.Author.Tests.{eq-eqb, eqb-false, eqb-true, le-leb, leb-true, ne-eqb}
+use Rattle.grammar.proofs.Fronts.{after-is, digit-is, digit-read, ends-is, ends-word, hexadigit-is, hexadigit-read, numeral-all, numeral-some, sized-is, sized-read, skip-is, skip-stays, skip-white, tag-is, tag-read}
+use Rattle.grammar.proofs.ShownRead.{shows-is, shows-read}
+use Rattle.grammar.proofs.WordsRead.{OneWord, bit-letters-dark, bits-are, bits-read, integer-is, integer-read, integer-word, no-word, one-word, one-word-of, same-is, spaced-is, spaced-read, three-bytes, truth-is, truth-read, truth-word, two-words, words-blank, words-trimmed, words-white}
+use Rattle.grammar.specs.Text.{Character, Characters, IsText, Many, TextCell, TextElements, TextShows, cell-empty, cell-text, char-amp, char-apos, char-decimal, char-gt, char-hexadecimal, char-itself, char-lt, char-quot, chars-end, chars-then, many-bounded, many-fixed, many-free, many-shorter, shows-elements, shows-empty, text-bits, text-chars, text-line-feed, text-other, text-return, text-tab, text-truths, text-whole}
+use Rattle.grammar.specs.Words.{BitLetters, Digit, Hexadigit, IntegerWord, Numeral, Tag, Trimmed, TruthWord, White, a-tag, bits-0, bits-1, bits-end, figure, hex-capital, hex-figure, hex-small, trimmed, white-end, words-none}
+use Rattle.number.specs.Number.{digit, hexadigit, numeral, sized}
+use Rattle.table.proofs.Laws.{and-both, between-is, between-yes, cond-cases, holds-as, holds-bind, holds-cond, holds-else, holds-weaken, nil-not-null, no-white, or-either}
+use Rattle.table.specs.All.{All}
+use Rattle.table.specs.Bytes.{after, between, bytes, ends, isWhite, same, skipWhite, tag, words}
+use Rattle.table.specs.Cell.{Cell, bound, emptyIsNull, isChar, isNullList, null, nullElement, roomFits, roomIn, show, shown}
+use Rattle.table.specs.Outcome.{at}
+use Rattle.table.specs.Result.{Holds, Result, _>>=_, bad, good, holds, orElse, refuses}
+use Rattle.table.specs.Shape.{Bits, Shape, Text, Truths, Whole, last, shape}
+use Rattle.table.specs.declared.Column.{Column}
+use Rattle.table.specs.declared.Len.{Len}
+use Rattle.table.specs.declared.Len.the-variants.{Bounded, Fixed, Free}
+use Rattle.tabledata.specs.TableData.{Step, Where, allText, bitWords, cellText, characters, close-TD, consText, countFits, emit, emitted, expanded, follow, goes, integerWord, isText, named, names, numeric, open-TD, plain, readText, reference, step, tagBegins, textCell, textElements, truthWord}
+
+-- ---- references
+
+reference-read : (name s t : List ℕ) → All (λ (b : ℕ). b ≡ 59 → ⊥) s
+    → characters (reference name) (s ++ (59 ∷ t)) ≡ follow (emitted (expanded (name ++ s))) (59 ∷ t) (λ v. characters v t)
+unfolding characters step follow
+reference-read name [] t a = rw append-nil
+reference-read name (b ∷ s) t a = rw (ne-eqb b 59 (a .0)) (reference-read (name ++ (b ∷ [])) s t (a .1) ∙ rw append-assoc)
+
+digit-58 : (b d : ℕ) → Digit b d → b ≤ 57
+digit-58 b n (figure h) = omega arith
+
+expanded-decimal : {s : List ℕ} {n : ℕ} → Numeral Digit 10 s n → length s ≤ 8 → expanded (35 ∷ s) ≡ good n
+unfolding expanded after numeric
+expanded-decimal {s} m h = go s (numeral-some m) (numeral-all (λ (b : ℕ). b ≤ 57) digit-58 m) (sized-read digit Digit 10 digit-read digit-is 8 m h)
+  where
+    go : {n : ℕ} (s : List ℕ) → 1 ≤ length s → All (λ (b : ℕ). b ≤ 57) s → sized 8 digit 10 s ≡ good n → expanded (35 ∷ s) ≡ good n
+    go [] k a e = absurd (omega arith)
+    go (b ∷ s) k a e = rw (ne-eqb 120 b (λ q. omega (arith, a .0, q)), e)
+
+expanded-hexadecimal : {s : List ℕ} {n : ℕ} → Numeral Hexadigit 16 s n → length s ≤ 8 → expanded (35 ∷ 120 ∷ s) ≡ good n
+unfolding expanded after numeric
+expanded-hexadecimal m h = rw (sized-read hexadigit Hexadigit 16 hexadigit-read hexadigit-is 8 m h)
+
+digit-59 : (b d : ℕ) → Digit b d → b ≡ 59 → ⊥
+digit-59 b n (figure h) e = omega arith
+
+hexadigit-59 : (b d : ℕ) → Hexadigit b d → b ≡ 59 → ⊥
+hexadigit-59 b n (hex-figure h) e = omega arith
+hexadigit-59 b n (hex-capital h) e = omega arith
+hexadigit-59 b n (hex-small h) e = omega arith
+
+numeric-read : (s t : List ℕ) (n : ℕ) → All (λ (b : ℕ). b ≡ 59 → ⊥) s → expanded (35 ∷ s) ≡ good n
+    → characters plain (38 ∷ 35 ∷ (s ++ (59 ∷ t))) ≡ consText n (characters plain t)
+unfolding characters step follow emitted
+numeric-read s t n a e = reference-read (35 ∷ []) s t a ∙ rw e
+
+hex-read : (s t : List ℕ) (n : ℕ) → All (λ (b : ℕ). b ≡ 59 → ⊥) s → expanded (35 ∷ 120 ∷ s) ≡ good n
+    → characters plain (38 ∷ 35 ∷ 120 ∷ (s ++ (59 ∷ t))) ≡ consText n (characters plain t)
+unfolding characters step follow emitted
+hex-read s t n a e = reference-read (35 ∷ 120 ∷ []) s t a ∙ rw e
+
+character-read : {b : List ℕ} {c : ℕ} → Character b c → (t : List ℕ) → characters plain (b ++ t) ≡ consText c (characters plain t)
+unfolding characters step follow emitted expanded numeric named names same sized numeral hexadigit between after
+character-read (char-itself {b = b} h k) t = rw (ne-eqb b 60 h, ne-eqb b 38 k)
+character-read char-amp t = refl
+character-read char-lt t = refl
+character-read char-gt t = refl
+character-read char-quot t = refl
+character-read char-apos t = refl
+character-read (char-decimal {s = s} {n = n} m h) t = ap (λ (u : List ℕ). characters plain (38 ∷ 35 ∷ u)) (append-assoc s (59 ∷ []) t) ∙ numeric-read s t n (numeral-all (λ (b : ℕ). b ≡ 59 → ⊥) digit-59 m) (expanded-decimal m h)
+character-read (char-hexadecimal {s = s} {n = n} m h) t = ap (λ (u : List ℕ). characters plain (38 ∷ 35 ∷ 120 ∷ u)) (append-assoc s (59 ∷ []) t) ∙ hex-read s t n (numeral-all (λ (b : ℕ). b ≡ 59 → ⊥) hexadigit-59 m) (expanded-hexadecimal m h)
+
+tag-begins : (s : List ℕ) → characters plain (60 ∷ s) ≡ (tag 10 (bytes "</TD") (60 ∷ s) >>= λ rest. good ([], rest))
+unfolding characters step follow close-TD
+tag-begins s = refl
+
+close-read : {z : List ℕ} → Tag (bytes "</TD") (bytes ">") z → (rest : List ℕ) → characters plain (z ++ rest) ≡ good ([], rest)
+close-read (a-tag {w = w} h) rest = tag-begins _ ∙ rw (tag-read 10 {word = bytes "</TD"} (a-tag h) rest)
+
+pub characters-read : {b cs z : List ℕ} → Characters b cs → Tag (bytes "</TD") (bytes ">") z → (rest : List ℕ) → characters plain (b ++ (z ++ rest)) ≡ good (cs, rest)
+unfolding consText
+characters-read chars-end h rest = close-read h rest
+characters-read {z = z} (chars-then {b = b} {s = s} c r) h rest = rw (append-assoc, character-read c (s ++ (z ++ rest)), characters-read r h rest)
+
+-- what stands between `&` and `;`
+expanded-is : (name : List ℕ) → Holds (Character (38 ∷ (name ++ (59 ∷ [])))) (expanded name)
+unfolding expanded numeric
+expanded-is name =
+    holds-else (holds-bind (after-is 10 (bytes "#x") name) (λ t e. holds-as (λ f. 10) (holds-weaken (sized-is hexadigit Hexadigit 16 hexadigit-read hexadigit-is 8 t) (λ n h. rw e (char-hexadecimal (h .0) (h .1))))))
+    (holds-else (holds-bind (after-is 10 (bytes "#") name) (λ t e. holds-as (λ f. 10) (holds-weaken (sized-is digit Digit 10 digit-read digit-is 8 t) (λ n h. rw e (char-decimal (h .0) (h .1))))))
+    named-is)
+  where
+    named-is : Holds (Character (38 ∷ (name ++ (59 ∷ [])))) (named names name)
+    named-is = unfold named names in
+        holds-cond (same (bytes "amp") name) (λ h. holds (rw (← same-is _ _ h) char-amp)) (λ _.
+        holds-cond (same (bytes "lt") name) (λ h. holds (rw (← same-is _ _ h) char-lt)) (λ _.
+        holds-cond (same (bytes "gt") name) (λ h. holds (rw (← same-is _ _ h) char-gt)) (λ _.
+        holds-cond (same (bytes "quot") name) (λ h. holds (rw (← same-is _ _ h) char-quot)) (λ _.
+        holds-cond (same (bytes "apos") name) (λ h. holds (rw (← same-is _ _ h) char-apos)) (λ _. refuses)))))
+
+-- what came before, in a state
+abbrev before : Where → List ℕ
+before plain = []
+before (reference name) = 38 ∷ name
+
+-- characters up to the end tag, and that tag
+record InCell (w : Where) (s : List ℕ) (p : List ℕ × List ℕ) : Type 0 where
+  body : List ℕ
+  close : List ℕ
+  whole : s ≡ body ++ (close ++ p .1)
+  spelled : Characters (before w ++ body) (p .0)
+  closed : Tag (bytes "</TD") (bytes ">") close
+
+-- the state after a byte that is no end
+on : (w v : Where) (b : ℕ) (s : List ℕ) (p : List ℕ × List ℕ) → ((t : List ℕ) → before v ++ t ≡ before w ++ (b ∷ t)) → InCell v s p → InCell w (b ∷ s) p
+on w v b s p e h = record {
+  body = b ∷ h .body;
+  close = h .close;
+  whole = ap (λ (t : List ℕ). b ∷ t) (h .whole);
+  spelled = subst (λ (t : List ℕ). Characters t (p .0)) (e (h .body)) (h .spelled);
+  closed = h .closed;
+}
+
+-- a byte that ends a character
+ended : (w : Where) (b c : ℕ) (s : List ℕ) (p : List ℕ × List ℕ) → Character (before w ++ (b ∷ [])) c → InCell plain s p → InCell w (b ∷ s) (c ∷ p .0, p .1)
+ended w b c s p k h = record {
+  body = b ∷ h .body;
+  close = h .close;
+  whole = ap (λ (t : List ℕ). b ∷ t) (h .whole);
+  spelled = rw append-assoc at (chars-then k (h .spelled));
+  closed = h .closed;
+}
+
+plain-is : (b : ℕ) (s : List ℕ) → ((v : Where) → Holds (InCell v s) (characters v s)) → Holds (InCell plain (b ∷ s)) (follow (step plain b) (b ∷ s) (λ v. characters v s))
+unfolding step follow consText close-TD
+plain-is b s ih =
+    cond-cases (λ (x : Step). Holds (InCell plain (b ∷ s)) (follow x (b ∷ s) (λ v. characters v s))) (eqb b 60) tagBegins (cond (eqb b 38) (goes (reference [])) (emit b))
+    (λ _. holds-bind (tag-is 10 (bytes "</TD") (b ∷ s)) (λ rest r. holds (record { body = []; close = r .taken; whole = r .whole; spelled = chars-end; closed = r .spelled })))
+    (λ lt. cond-cases (λ (x : Step). Holds (InCell plain (b ∷ s)) (follow x (b ∷ s) (λ v. characters v s))) (eqb b 38) (goes (reference [])) (emit b)
+    (λ amp. holds-weaken (ih (reference [])) (λ p h. on plain (reference []) b s p (λ t. ap (λ (x : ℕ). x ∷ t) (sym (eqb-true b 38 amp))) h))
+    (λ amp. holds-bind (ih plain) (λ p h. holds (ended plain b b s p (char-itself (eqb-false b 60 lt) (eqb-false b 38 amp)) h))))
+
+reference-is : (name : List ℕ) (b : ℕ) (s : List ℕ) → ((v : Where) → Holds (InCell v s) (characters v s))
+    → Holds (InCell (reference name) (b ∷ s)) (follow (step (reference name) b) (b ∷ s) (λ v. characters v s))
+unfolding step follow consText
+reference-is name b s ih =
+    cond-cases (λ (x : Step). Holds (InCell (reference name) (b ∷ s)) (follow x (b ∷ s) (λ v. characters v s))) (eqb b 59) (emitted (expanded name)) (goes (reference (name ++ (b ∷ []))))
+    (λ e. go (expanded name) (subst (λ (x : ℕ). Holds (Character (38 ∷ (name ++ (x ∷ [])))) (expanded name)) (sym (eqb-true b 59 e)) (expanded-is name)))
+    (λ _. holds-weaken (ih (reference (name ++ (b ∷ [])))) (λ p h. on (reference name) (reference (name ++ (b ∷ []))) b s p (λ t. ap (λ (x : List ℕ). 38 ∷ x) (append-assoc name (b ∷ []) t)) h))
+  where
+    go : (r : Result ℕ ℕ) → Holds (Character (38 ∷ (name ++ (b ∷ [])))) r → Holds (InCell (reference name) (b ∷ s)) (follow (emitted r) (b ∷ s) (λ v. characters v s))
+    go (good c) (holds k) = unfold emitted in holds-bind (ih plain) (λ p h. holds (ended (reference name) b c s p k h))
+    go (bad n) k = unfold emitted in refuses
+
+characters-is : (w : Where) (s : List ℕ) → Holds (InCell w s) (characters w s)
+unfolding characters
+characters-is w [] = refuses
+characters-is plain (b ∷ s) = plain-is b s (λ v. characters-is v s)
+characters-is (reference name) (b ∷ s) = reference-is name b s (λ v. characters-is v s)
+
+-- ---- a cell's text
+
+-- a TD element and its characters
+data CellText : List ℕ → List ℕ → Type 0 where
+  text-empty : {t : List ℕ} → Tag (bytes "<TD") (bytes "/>") t → CellText t []
+  text-full : {a b z cs : List ℕ} → Tag (bytes "<TD") (bytes ">") a → Characters b cs → Tag (bytes "</TD") (bytes ">") z → CellText (a ++ (b ++ z)) cs
+
+-- white space before
+pub record Indented {A : Type 0} (P : List ℕ → A → Type 0) (s : List ℕ) (p : A × List ℕ) : Type 0 where
+  pub white : List ℕ
+  pub is-white : White white
+  pub taken : List ℕ
+  pub whole : s ≡ white ++ (taken ++ p .1)
+  pub spelled : P taken (p .0)
+
+pub ends-other : (n b c : ℕ) (word : List ℕ) {w : List ℕ} (rest : List ℕ) → isWhite c ≡ false → eqb b c ≡ false → White w → ends n (b ∷ word) (w ++ (c ∷ rest)) ≡ bad n
+unfolding ends after
+ends-other n b c word rest h e w = rw (skip-white w (c ∷ rest), skip-stays c rest h, e)
+
+abbrev inside : List ℕ → Result ℕ (List ℕ × List ℕ)
+inside t = orElse (ends 10 (bytes "/>") t >>= λ rest. good ([], rest)) (ends 10 (bytes ">") t >>= λ u. characters plain u)
+
+opens : {w : List ℕ} → White w → (t : List ℕ) → cellText (w ++ (bytes "<TD" ++ t)) ≡ inside t
+unfolding cellText open-TD after
+opens w t = rw (skip-white w (bytes "<TD" ++ t), skip-stays 60 (84 ∷ 68 ∷ t) (no-white 60 (lit≤ tt)))
+
+cell-text-read : {w t cs : List ℕ} → White w → CellText t cs → (rest : List ℕ) → cellText (w ++ (t ++ rest)) ≡ good (cs, rest)
+cell-text-read {w} h (text-empty (a-tag {w = u} k)) rest =
+    opens h ((u ++ bytes "/>") ++ rest) ∙ rw (append-assoc u (bytes "/>") rest, ends-word 10 47 (62 ∷ []) rest (no-white 47 (lit≤ tt)) k)
+cell-text-read {w} h (text-full {b = b} {z = z} (a-tag {w = u} k) r c) rest =
+    opens h _
+    ∙ ap inside (append-assoc (u ++ bytes ">") (b ++ z) rest ∙ append-assoc u (bytes ">") ((b ++ z) ++ rest) ∙ ap (λ (x : List ℕ). u ++ (62 ∷ x)) (append-assoc b z rest))
+    ∙ rw (ends-other 10 47 62 (62 ∷ []) (b ++ (z ++ rest)) (no-white 62 (lit≤ tt)) refl k, ends-word 10 62 [] (b ++ (z ++ rest)) (no-white 62 (lit≤ tt)) k)
+    (characters-read r c rest)
+
+cell-text-is : (s : List ℕ) → Holds (Indented CellText s) (cellText s)
+unfolding cellText open-TD
+cell-text-is s =
+    holds-bind (after-is 10 (bytes "<TD") (skipWhite s)) (λ t e.
+    holds-else
+    (holds-bind (ends-is 10 (bytes "/>") t) (λ rest r. holds (record {
+      white = skip-is s .taken;
+      is-white = skip-is s .spelled;
+      taken = bytes "<TD" ++ (r .spelled .0 ++ bytes "/>");
+      whole = skip-is s .whole ∙ ap (λ (x : List ℕ). skip-is s .taken ++ x) (e ∙ ap (λ (x : List ℕ). bytes "<TD" ++ x) (r .whole ∙ ap (λ (x : List ℕ). x ++ rest) (r .spelled .2)));
+      spelled = text-empty (a-tag (r .spelled .1));
+    })))
+    (holds-bind (ends-is 10 (bytes ">") t) (λ u r. holds-weaken (characters-is plain u) (λ p h. record {
+      white = skip-is s .taken;
+      is-white = skip-is s .spelled;
+      taken = (bytes "<TD" ++ (r .spelled .0 ++ bytes ">")) ++ (h .body ++ h .close);
+      whole = skip-is s .whole ∙ ap (λ (x : List ℕ). skip-is s .taken ++ x) (e ∙ ap (λ (x : List ℕ). bytes "<TD" ++ x)
+          (r .whole ∙ ap (λ (x : List ℕ). x ++ u) (r .spelled .2) ∙ ap (λ (x : List ℕ). (r .spelled .0 ++ bytes ">") ++ x) (h .whole ∙ sym (append-assoc (h .body) (h .close) (p .1)))
+          ∙ sym (append-assoc (r .spelled .0 ++ bytes ">") (h .body ++ h .close) (p .1))));
+      spelled = text-full (a-tag (r .spelled .1)) (h .spelled) (h .closed);
+    }))))
+
+-- ---- characters that may stand in a cell
+
+pub text-read : {c : ℕ} → IsText c → isText c ≡ true
+unfolding isText
+text-read text-tab = refl
+text-read text-line-feed = refl
+text-read text-return = refl
+text-read (text-other {c = c} h k) = rw (between-yes 32 127 c h k, or-true)
+
+pub text-is : (c : ℕ) → isText c ≡ true → IsText c
+unfolding isText
+text-is c h =
+    or-either (eqb c 9 || eqb c 10 || eqb c 13) (between 32 127 c) h
+    (λ k. three-bytes IsText c 9 10 13 k text-tab text-line-feed text-return)
+    (λ k. text-other (between-is 32 127 c k .0) (between-is 32 127 c k .1))
+
+texts-read : (cs : List ℕ) → All IsText cs → allText cs ≡ true
+unfolding allText
+texts-read [] a = refl
+texts-read (c ∷ cs) a = rw (text-read (a .0)) (texts-read cs (a .1))
+
+texts-are : (cs : List ℕ) → allText cs ≡ true → All IsText cs
+unfolding allText
+texts-are [] h = tt
+texts-are (c ∷ cs) h = let k = and-both (isText c) (allText cs) h in (text-is c (k .0), texts-are cs (k .1))
+
+-- ---- elements
+
+bits-of : {cs : List ℕ} {es : List ℤ} → Trimmed BitLetters cs es → bitWords (words cs) ≡ good es
+unfolding bitWords
+bits-of (trimmed {w = w} {u = u} h bits-end k) = rw (words-white h u, words-blank k)
+bits-of (trimmed h (bits-0 {s = s} r) k) = rw (words-trimmed {v = 48 ∷ s} h (omega arith, bit-letters-dark (bits-0 r)) k) (bits-read (bits-0 r))
+bits-of (trimmed h (bits-1 {s = s} r) k) = rw (words-trimmed {v = 49 ∷ s} h (omega arith, bit-letters-dark (bits-1 r)) k) (bits-read (bits-1 r))
+
+bits-in-word : {cs : List ℕ} {ws : List (List ℕ)} → OneWord cs ws → Holds (Trimmed BitLetters cs) (bitWords ws)
+unfolding bitWords
+bits-in-word (no-word h) = holds (subst (λ (x : List ℕ). Trimmed BitLetters x []) (append-nil _) (trimmed h bits-end white-end))
+bits-in-word (one-word {v = v} h i k e) = holds-weaken (bits-are v) (λ es r. rw e (trimmed h r k))
+bits-in-word (two-words v x vs) = refuses
+
+word-read : (g : Bool) (w : ℕ) (s : List ℕ) (z : ℤ) → IntegerWord g w s z → integerWord g w s ≡ good z
+unfolding integerWord
+word-read g w s z h = rw (integer-read h)
+
+word-is : (g : Bool) (w : ℕ) (s : List ℕ) → Holds (IntegerWord g w s) (integerWord g w s)
+unfolding integerWord
+word-is g w s = holds-as (λ f. 11) (integer-is g w s)
+
+elements-read : {k : Shape} {cs : List ℕ} {es : List ℤ} → TextElements k cs es → textElements k cs ≡ good es
+unfolding textElements
+elements-read (text-truths h) = spaced-read TruthWord truthWord truth-read truth-is truth-word h
+elements-read (text-bits h) = bits-of h
+elements-read (text-whole {g = g} {v = v} h) =
+    spaced-read (IntegerWord g (suc (last v))) (integerWord g (suc (last v))) (word-read g (suc (last v))) (word-is g (suc (last v))) integer-word h
+elements-read text-chars = refl
+
+elements-are : (k : Shape) (cs : List ℕ) → Holds (TextElements k cs) (textElements k cs)
+unfolding textElements
+elements-are Truths cs = holds-weaken (spaced-is TruthWord truthWord truth-read truth-is truth-word cs) (λ es h. text-truths h)
+elements-are Bits cs = holds-weaken (bits-in-word (one-word-of cs)) (λ es h. text-bits h)
+elements-are (Whole g v) cs =
+    holds-weaken (spaced-is (IntegerWord g (suc (last v))) (integerWord g (suc (last v))) (word-read g (suc (last v))) (word-is g (suc (last v))) integer-word cs) (λ es h. text-whole h)
+elements-are Text cs = holds text-chars
+
+-- ---- how many
+
+room-self : (k : Shape) (m : ℕ) → roomFits k m m ≡ true
+unfolding roomFits
+room-self k m = cond-cases (λ (b : Bool). b ≡ true) (isChar k) (leb m m) (eqb m m) (λ _. le-leb m m (le-refl m)) (λ _. eq-eqb m m refl)
+
+many-read : {k : Shape} {l : Len} {m : ℕ} → Many k l m → (roomFits k (roomIn l m) m && leb m (bound l)) ≡ true
+unfolding roomIn bound roomFits isChar
+many-read {k} (many-fixed {n = n}) = rw (room-self k n, le-leb n n (le-refl n))
+many-read (many-shorter {n = n} {m = m} e h) = rw (e, le-leb m n h)
+many-read {k} (many-bounded {n = n} {m = m} h) = rw (room-self k m, le-leb m n h)
+many-read {k} (many-free {m = m} h) = rw (room-self k m, le-leb m 4096 h)
+
+many-is : (k : Shape) (l : Len) (m : ℕ) → (roomFits k (roomIn l m) m && leb m (bound l)) ≡ true → Many k l m
+unfolding roomIn bound
+many-is k (Fixed n) m h = go k (and-both (roomFits k n m) (leb m n) h .0)
+  where
+    go : (k : Shape) → roomFits k n m ≡ true → Many k (Fixed n) m
+    go Truths h = unfold roomFits isChar in rw (eqb-true m n h) many-fixed
+    go Bits h = unfold roomFits isChar in rw (eqb-true m n h) many-fixed
+    go (Whole g v) h = unfold roomFits isChar in rw (eqb-true m n h) many-fixed
+    go Text h = unfold roomFits isChar in many-shorter refl (leb-true m n h)
+many-is k (Bounded n) m h = many-bounded (leb-true m n (and-both (roomFits k m m) (leb m n) h .1))
+many-is k Free m h = many-free (leb-true m 4096 (and-both (roomFits k m m) (leb m 4096) h .1))
+
+-- ---- what a cell's characters show
+
+nothing-left : (c : Column) → emptyIsNull (show c []) ≡ null
+unfolding show emptyIsNull
+nothing-left c = rw nil-not-null
+
+something-left : (c : Column) (e : ℤ) (es : List ℤ) → emptyIsNull (show c (e ∷ es)) ≡ show c (e ∷ es)
+unfolding show emptyIsNull
+something-left c e es =
+    cond-cases (λ (x : Cell). emptyIsNull x ≡ x) (isNullList (nullElement c) (e ∷ es)) null (shown (e ∷ es)) (λ _. refl) (λ _. refl)
+
+text-shows-read : {c : Column} {cs : List ℕ} {x : Cell} → All IsText cs → TextShows c cs x → textCell c cs ≡ good x
+unfolding textCell countFits
+text-shows-read {c} {cs} a (shows-empty h) = rw (texts-read cs a, elements-read h) (ap good (nothing-left c))
+text-shows-read {c} {cs} a (shows-elements {e = e} {es = es} h m s) =
+    rw (texts-read cs a, elements-read h, many-read m, or-true) (ap good (something-left c e es ∙ shows-read s))
+
+text-shows-is : (c : Column) (cs : List ℕ) → Holds (λ (x : Cell). All IsText cs × TextShows c cs x) (textCell c cs)
+unfolding textCell countFits
+text-shows-is c cs =
+    holds-cond (allText cs) (λ a.
+    holds-bind (elements-are (shape (c .kind)) cs) (λ es h.
+    holds-cond (eqb (length es) 0 || (roomFits (shape (c .kind)) (roomIn (c .len) (length es)) (length es) && leb (length es) (bound (c .len)))) (λ m. holds (texts-are cs a, go es h m)) (λ _. refuses))) (λ _. refuses)
+  where
+    go : (es : List ℤ) → TextElements (shape (c .kind)) cs es
+        → (eqb (length es) 0 || (roomFits (shape (c .kind)) (roomIn (c .len) (length es)) (length es) && leb (length es) (bound (c .len)))) ≡ true → TextShows c cs (emptyIsNull (show c es))
+    go [] h m = rw (nothing-left c) (shows-empty h)
+    go (e ∷ es) h m = rw (something-left c e es) (shows-elements h (or-either (eqb (suc (length es)) 0) _ m (λ z. absurd (omega (arith, eqb-true (suc (length es)) 0 z))) (λ z. many-is _ _ _ z)) (shows-is c (e ∷ es)))
+
+nil-elements : (k : Shape) → TextElements k [] []
+nil-elements Truths = text-truths (words-none white-end)
+nil-elements Bits = text-bits (trimmed white-end bits-end white-end)
+nil-elements (Whole g v) = text-whole (words-none white-end)
+nil-elements Text = text-chars
+
+nil-cell : (c : Column) → textCell c [] ≡ good null
+nil-cell c = text-shows-read tt (shows-empty (nil-elements (shape (c .kind))))
+
+-- ---- a cell
+
+pub cell-read : {c : Column} {w t : List ℕ} {x : Cell} → White w → TextCell c t x → (rest : List ℕ) → readText c (w ++ (t ++ rest)) ≡ good (x, rest)
+unfolding readText
+cell-read {c} w (cell-empty h) rest = rw (cell-text-read w (text-empty h) rest, nil-cell c)
+cell-read {c} w (cell-text h r a x z) rest = rw (cell-text-read w (text-full h r z) rest, text-shows-read a x)
+
+pub cell-is : (c : Column) (s : List ℕ) → Holds (Indented (TextCell c) s) (readText c s)
+unfolding readText
+cell-is c s = holds-bind (cell-text-is s) (λ p r. go (p .0) (p .1) (r .white) (r .is-white) (r .taken) (r .whole) (r .spelled))
+  where
+    go : (cs rest w : List ℕ) → White w → (t : List ℕ) → s ≡ w ++ (t ++ rest) → CellText t cs → Holds (Indented (TextCell c) s) (textCell c cs >>= λ x. good (x, rest))
+    go cs rest w h t e (text-empty k) = rw (nil-cell c) (holds (record { white = w; is-white = h; taken = t; whole = e; spelled = cell-empty k }))
+    go cs rest w h t e (text-full k r z) = holds-bind (text-shows-is c cs) (λ x a. holds (record { white = w; is-white = h; taken = t; whole = e; spelled = cell-text k r (a .0) (a .1) z }))

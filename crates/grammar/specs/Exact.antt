@@ -1,0 +1,55 @@
+-- What the theorems compare the grammar with: the table that a reader gives, and the acceptance of a call.
+use Prim.Native.Nat.{_≤_, ℕ}
+use mathlib.Core.List.{List, [], _∷_}
+use mathlib.Core.Path.{_≡_}
+use lib.ListN.{length}
+use Rattle.demands.specs.Demands.{Converter}
+use Rattle.demands.specs.Tables.{lines}
+use Rattle.grammar.specs.Base64Text.{Base64Text}
+use Rattle.grammar.specs.Declarations.{Declares}
+use Rattle.grammar.specs.Valid.{HaveForms, Spells}
+use Rattle.rows.specs.Stream.{Table, finished, row}
+use Rattle.table.specs.Cell.{Cell}
+use Rattle.table.specs.Outcome.{accepted, ending}
+use Rattle.table.specs.Result.{good}
+use Rattle.table.specs.declared.Column.{Column}
+use Rattle.table.specs.declared.Rows.{Rows}
+use Rattle.table.specs.declared.Rows.the-variants.{Binary2, TableData}
+
+-- the table of these rows, read to its end
+unfoldable pub tableOf : List (List Cell) → Table
+tableOf [] = finished
+tableOf (xs ∷ rows) = row xs (tableOf rows)
+
+-- a call whose declarations and input are in the grammar, each within its size, whose rows have a form in the target, and whose lines
+-- have room
+pub record InGrammar (decls : List ℕ) (from to : Rows) (input : List ℕ) (room : ℕ) : Type 0 where
+  pub columns : List Column
+  pub declared : Declares decls columns
+  -- "any row input .. up to 1,073,741,824 bytes"
+  pub sized : length input ≤ 1073741824
+  pub rows : List (List Cell)
+  pub spelled : Spells from columns input rows
+  pub forms : HaveForms columns to rows
+  -- 17: "the row is longer than the room left"
+  pub fits : (body : List ℕ) → lines to columns (tableOf rows) ≡ good body → length body ≤ room
+
+-- "With room enough and 01's sizes kept, any valid TABLEDATA goes to BINARY2 and back with every value and null the same.": bytes of
+-- BINARY2 and a text of TABLEDATA that spell the same rows, and the two calls that write them
+pub record BothWays (convert : Converter) (decls : List ℕ) (cs : List Column) (input : List ℕ) (rows : List (List Cell)) : Type 0 where
+  pub binary : List ℕ
+  pub text : List ℕ
+  pub binary-spelled : Spells Binary2 cs binary rows
+  pub text-spelled : Spells TableData cs text rows
+  pub there : (out : List ℕ) → length binary ≤ length out → convert decls TableData Binary2 input out ≡ ending (accepted (length rows) binary) out
+  pub back : length binary ≤ 1073741824 → (out : List ℕ) → length text ≤ length out
+      → convert decls Binary2 TableData binary out ≡ ending (accepted (length rows) text) out
+
+-- a decoding step whose input is in the grammar of base64, within its size, and whose bytes have room
+pub record InBase64 (input : List ℕ) (room : ℕ) : Type 0 where
+  -- "input of a base64 step up to 1,073,741,824 bytes"
+  pub sized : length input ≤ 1073741824
+  pub bytes : List ℕ
+  pub spelled : Base64Text input bytes
+  -- 17: "the base64 result is longer than the room left"
+  pub fits : length bytes ≤ room

@@ -1,0 +1,1 @@
+// What is valid, as a grammar that reads nothing, and theorems that the readers take exactly that: no code.
