@@ -2,12 +2,14 @@
 use Prim.Native.Nat.{ℕ}
 use mathlib.Core.Bool.{cond}
 use mathlib.Core.List.{List, []}
+use mathlib.Core.Path.{_≡_}
 use lib.Dec.{ltb}
 use lib.ListN.{length}
 use Rattle.fields.specs.Fields.{declare}
 use Rattle.rows.specs.Stream.{run}
 use Rattle.table.specs.Outcome.{Call, Outcome, Refusal, at, ending, mostInput, refused}
 use Rattle.table.specs.Result.{Result, bad, good}
+use Rattle.table.specs.declared.Answer.{Answer}
 use Rattle.table.specs.declared.Column.{Column}
 use Rattle.table.specs.declared.Rows.{Rows}
 
@@ -28,3 +30,8 @@ converting decls from to input room = underColumns (declare decls) (λ cs. runSi
 -- the answer and the buffer at exit, from the text of the declarations, the two kinds, the input and the buffer at entry
 unfoldable pub convert : List ℕ → Rows → Rows → List ℕ → List ℕ → Call
 convert decls from to input out = ending (converting decls from to input (length out)) out
+
+-- what every call of `convert` promises: the whole answer, and every byte of the buffer that it was lent
+pub record Converts (decls : List ℕ) (from to : Rows) (input entry : List ℕ) (a : Answer) (exit : List ℕ) : Type 0 where
+  pub answers : a ≡ convert decls from to input entry .answer
+  pub leaves : exit ≡ convert decls from to input entry .buffer
