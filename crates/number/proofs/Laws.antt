@@ -1,15 +1,17 @@
 -- Laws of integers: digits there and back, two's complement once over the width, words that are written are read back, and what a word
 -- gives lies in its kind's range.
 use Prim.Native.Nat.{_%_, _*_, _+_, _-_, _/_, _<_, _^_, _≤_, suc, zero, zero-le, ℕ}
-use native.Mathlib.Nat.{add-zero, mod-eq-of-lt, mod-lt, mod-one, mul-le-mul-right, mul-one, one-le-pow, pow-le-pow-right, pow-succ', pow-zero, zero-add, zero-mul}
+use native.Mathlib.Nat.{add-assoc, add-mul, add-zero, div-div-eq-div-mul, div-one, mod-eq-of-lt, mod-lt, mod-mod, mod-one, mul-assoc, mul-comm, mul-le-mul-right, mul-one, one-le-pow, pow-le-pow-right, pow-succ', pow-zero, suc-add, suc-mul, zero-add, zero-mul}
+use native.Mathlib.Numerals.{add-one}
 use native.Mathlib.Omega.{arith}
 use mathlib.Core.Bool.{Bool, _&&_, and-false, false, false≢true, true}
 use mathlib.Core.List.{List, [], _++_, _∷_}
-use mathlib.Core.Path.{_∙_, _≡_, ap, ap₂, refl}
+use mathlib.Core.Path.{_∙_, _≡_, ap, ap₂, refl, sym}
 use lib.Arith.{digits-div, digits-lt, digits-mod, mod-mul}
 use lib.Dec.{eqb, lit<, lit≤, ltb}
 use lib.IntN.{negsuc, pos, ℤ}
 use lib.ListN.{length, length-append}
+use lib.Pow.{pow-add}
 use borrow.Author.Tests.{le-ltb, lt-ltb, ltb-false, ltb-true, ne-eqb}
 use Rattle.number.specs.Number.{Fault, decimal, digit, digits, hexadecimal, hexadigit, numeral, ofDigits, ofPattern, pattern, ranged, readInteger, shortest, sized, toDigits, withSign}
 use Rattle.table.proofs.Laws.{all-append, between-is, between-yes, cond-cases, holds-any, holds-bind, holds-cond, holds-weaken}
@@ -29,7 +31,7 @@ module _ (base : ℕ) (pos : 0 < base) where
   pub pow-pos : (w : ℕ) → 0 < base ^ w
   pow-pos w = one-le-pow w base pos
 
-  of-to-from : (w a n : ℕ) → ofDigits base a (toDigits base w n) ≡ a * base ^ w + n % base ^ w
+  pub of-to-from : (w a n : ℕ) → ofDigits base a (toDigits base w n) ≡ a * base ^ w + n % base ^ w
   unfolding ofDigits toDigits
   of-to-from zero a n = simp (pow-zero, mod-one, mul-one, add-zero)
   of-to-from (suc w) a n =
@@ -66,6 +68,51 @@ module _ (base : ℕ) (pos : 0 < base) where
       let s : (r : ℕ) × (ofDigits base 0 ds ≡ 0 * base ^ length ds + r) × (r < base ^ length ds) = of-split ds 0 h in
       omega (arith, s .1, s .2)
 
+-- ---- digits after digits
+
+module _ (b : ℕ) where
+  pub of-append : (a : ℕ) (xs ys : List ℕ) → ofDigits b a (xs ++ ys) ≡ ofDigits b (ofDigits b a xs) ys
+  unfolding ofDigits
+  of-append a [] ys = refl
+  of-append a (x ∷ xs) ys = of-append (a * b + x) xs ys
+
+  -- the number before the digits counts b ^ n times
+  pub of-from : (a : ℕ) (ds : List ℕ) → ofDigits b a ds ≡ a * b ^ length ds + ofDigits b 0 ds
+  unfolding ofDigits
+  of-from a [] = simp (pow-zero, mul-one, add-zero)
+  of-from a (d ∷ ds) =
+      of-from (a * b + d) ds
+      ∙ simp (add-mul, mul-assoc, ← (pow-succ' b (length ds)), add-assoc)
+      (ap (λ (k : ℕ). a * b ^ suc (length ds) + k) (sym (of-from (0 * b + d) ds ∙ simp (zero-mul, zero-add))))
+
+-- ---- the digits of a number by its parts
+
+module _ (b : ℕ) (some : 0 < b) where
+  -- only the low digits count
+  pub digits-low : (w n : ℕ) → toDigits b w (n % b ^ w) ≡ toDigits b w n
+  digits-low w n =
+      ap (λ (k : ℕ). toDigits b k (n % b ^ w)) (sym (length-to b w n))
+      ∙ ap (toDigits b (length (toDigits b w n))) (sym (of-to-mod w n))
+      ∙ to-of b some 0 (toDigits b w n) (all-to b some w n)
+    where
+      of-to-mod : (w n : ℕ) → ofDigits b 0 (toDigits b w n) ≡ n % b ^ w
+      of-to-mod w n = of-to-from b some w 0 n ∙ simp (zero-mul, zero-add)
+
+  -- the high digits, then the low
+  pub digits-join : (n m x : ℕ) → toDigits b (n + m) x ≡ toDigits b n (x / b ^ m) ++ toDigits b m (x % b ^ m)
+  unfolding toDigits
+  digits-join zero m x = rw (zero-add m) (sym (digits-low m x))
+  digits-join (suc n) m x =
+      rw (suc-add n m)
+      (ap₂ (λ (d : ℕ) (ds : List ℕ). d % b ∷ ds) (ap (λ (k : ℕ). x / k) (pow-add b n m ∙ mul-comm (b ^ n) (b ^ m)) ∙ sym (div-div-eq-div-mul x (b ^ m) (b ^ n))) (digits-join n m x))
+
+  -- all but the last, then the last
+  pub digits-last : (n x : ℕ) → toDigits b (suc n) x ≡ toDigits b n (x / b) ++ (x % b ∷ [])
+  unfolding toDigits
+  digits-last n x =
+      let one : b ^ 1 ≡ b = pow-succ' b 0 ∙ ap (λ (k : ℕ). b * k) (pow-zero b) ∙ mul-one b in
+      ap (λ (k : ℕ). toDigits b k x) (sym (add-one n)) ∙ digits-join n 1 x ∙ rw (one, pow-zero, div-one, mod-mod)
+
 -- ---- two's complement, once over the width
 
 pub pattern-lt : (signed : Bool) (v : ℕ) (z : ℤ) → inRange signed (suc v) z ≡ true → pattern (suc v) z < 256 ^ suc v
@@ -90,6 +137,35 @@ in-range false v n h = lt-ltb _ _ h
 in-range true v n h =
     cond-cases (λ (z : ℤ). inRange true (suc v) z ≡ true) (ltb n (256 ^ suc v / 2)) (pos n) (negsuc (256 ^ suc v - 1 - n))
     (λ e. e) (λ e. lt-ltb (256 ^ suc v - 1 - n) (256 ^ suc v / 2) (omega (arith, ltb-false n (256 ^ suc v / 2) e)))
+
+-- ---- bytes that are written are read back
+
+pub read-bytes : (signed : Bool) (v : ℕ) (z : ℤ) → inRange signed (suc v) z ≡ true
+    → ofPattern signed (suc v) (ofDigits 256 0 (toDigits 256 (suc v) (pattern (suc v) z))) ≡ z
+read-bytes signed v z r =
+    ap (ofPattern signed (suc v)) (of-to 256 (lit< tt) (suc v) (pattern (suc v) z) (pattern-lt signed v z r)) ∙ of-pattern signed v z r
+
+-- a pattern of eight bytes is above one of fewer
+above : (d v n : ℕ) → n < 256 ^ suc v → (256 ^ (d + suc v) - 1 - n) % 256 ^ suc v ≡ 256 ^ suc v - 1 - n
+above d v n h =
+    let p : 1 ≤ 256 ^ d = one-le-pow d 256 (lit< tt) in
+    let e : 256 ^ d ≡ suc (256 ^ d - 1) = omega arith in
+    let whole : 256 ^ (d + suc v) ≡ (256 ^ d - 1) * 256 ^ suc v + 256 ^ suc v =
+    pow-add 256 d (suc v) ∙ ap (λ (k : ℕ). k * 256 ^ suc v) e ∙ suc-mul (256 ^ d - 1) (256 ^ suc v) in
+    let less : 256 ^ (d + suc v) - 1 - n ≡ (256 ^ d - 1) * 256 ^ suc v + (256 ^ suc v - 1 - n) = omega (arith, whole) in
+    ap (λ (k : ℕ). k % 256 ^ suc v) less ∙ digits-mod (256 ^ d - 1) (omega arith)
+
+-- the low bytes of an integer's pattern of eight are its own
+pub low-pattern : (signed : Bool) (v : ℕ) (z : ℤ) → suc v ≤ 8 → inRange signed (suc v) z ≡ true
+    → toDigits 256 (suc v) (pattern 8 z) ≡ toDigits 256 (suc v) (pattern (suc v) z)
+unfolding pattern inRange half
+low-pattern signed v (pos n) h r = refl
+low-pattern false v (negsuc n) h r = absurd (false≢true r)
+low-pattern true v (negsuc n) h r =
+    let e : 8 ≡ (7 - v) + suc v = omega arith in
+    sym (digits-low 256 (lit< tt) (suc v) (256 ^ 8 - 1 - n))
+    ∙ ap (toDigits 256 (suc v))
+    (ap (λ (k : ℕ). (256 ^ k - 1 - n) % 256 ^ suc v) e ∙ above (7 - v) v n (omega (arith, ltb-true n (256 ^ suc v / 2) r)))
 
 -- ---- words that are written are read back
 
@@ -136,7 +212,7 @@ digits-some f n =
     (λ t. lit≤ tt) (λ e. simp length-append (omega arith))
 
 module _ (signed : Bool) (w : ℕ) where
-  plain-read : (s : List ℕ) → All IsDigit s → 1 ≤ length s → readInteger signed w s ≡ decimal signed w false s
+  pub plain-read : (s : List ℕ) → All IsDigit s → 1 ≤ length s → readInteger signed w s ≡ decimal signed w false s
   unfolding readInteger
   plain-read [] a h = absurd (omega arith)
   plain-read (b ∷ []) a h = refl
@@ -168,13 +244,17 @@ read-shortest true v (negsuc n) h r =
 
 -- ---- integers read are in range
 
-value-lt : (v : ℕ → Result Fault ℕ) (base : ℕ) → ((b : ℕ) → Holds (λ (d : ℕ). d < base) (v b))
+pub value-lt : (v : ℕ → Result Fault ℕ) (base : ℕ) → ((b : ℕ) → Holds (λ (d : ℕ). d < base) (v b))
     → (a : ℕ) (s : List ℕ) → Holds (λ (m : ℕ). m < suc a * base ^ length s) (numeral v base a s)
 unfolding numeral
 value-lt v base h a [] = holds {a = a} (simp (pow-zero, mul-one) (omega arith))
 value-lt v base h a (b ∷ s) = holds-bind (h b) (λ d k. holds-weaken (value-lt v base h (a * base + d) s) (λ m g.
     let q : suc (a * base + d) ≤ suc a * base = omega arith in
     rw pow-succ' (omega (arith, mul-le-mul-right (base ^ length s) q))))
+
+pub digit-lt : (b : ℕ) → Holds (λ (d : ℕ). d < 10) (digit b)
+unfolding digit
+digit-lt b = holds-cond (between 48 57 b) (λ e. holds (omega (arith, between-is 48 57 b e))) (λ _. refuses)
 
 hexadigit-lt : (b : ℕ) → Holds (λ (d : ℕ). d < 16) (hexadigit b)
 unfolding hexadigit
@@ -183,7 +263,7 @@ hexadigit-lt b =
     holds-cond (between 65 70 b) (λ e. holds (omega (arith, between-is 65 70 b e))) (λ _.
     holds-cond (between 97 102 b) (λ e. holds (omega (arith, between-is 97 102 b e))) (λ _. refuses)))
 
-pow-16 : (w : ℕ) → 16 ^ (2 * w) ≡ 256 ^ w
+pub pow-16 : (w : ℕ) → 16 ^ (2 * w) ≡ 256 ^ w
 pow-16 zero = refl
 pow-16 (suc w) =
     let e : 2 * suc w ≡ suc (suc (2 * w)) = omega arith in

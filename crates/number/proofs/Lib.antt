@@ -1,1 +1,6 @@
 pub mod Laws
+pub mod Places
+pub mod Signed
+pub mod Decimal
+pub mod WordLaws
+pub mod QuickLaws
