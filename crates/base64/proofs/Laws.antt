@@ -233,36 +233,39 @@ exact s b = (λ e. holds-at (fours-is (dense s)) e, λ w. ap fours (w .0) ∙ fo
 -- ---- what is not accepted is refused with 7
 
 -- no other refusal than this one
-data Only (n : ℕ) {A : Type 0} : Result ℕ A → Type 0 where
+pub data Only (n : ℕ) {A : Type 0} : Result ℕ A → Type 0 where
   fine : {a : A} → Only n (good a)
   only : Only n (bad n)
 
-only-bind : {n : ℕ} {A B : Type 0} {r : Result ℕ A} {f : A → Result ℕ B} → Only n r → ((a : A) → Only n (f a)) → Only n (r >>= f)
+pub only-bind : {n : ℕ} {A B : Type 0} {r : Result ℕ A} {f : A → Result ℕ B} → Only n r → ((a : A) → Only n (f a)) → Only n (r >>= f)
 only-bind (fine {a = a}) g = g a
 only-bind only g = only
 
-only-cond : {n : ℕ} {A : Type 0} {x y : Result ℕ A} (b : Bool) → Only n x → Only n y → Only n (cond b x y)
+pub only-cond : {n : ℕ} {A : Type 0} {x y : Result ℕ A} (b : Bool) → Only n x → Only n y → Only n (cond b x y)
 only-cond true p q = p
 only-cond false p q = q
 
-sextet-7 : (c : ℕ) → Only 7 (sextet c)
+pub sextet-7 : (c : ℕ) → Only 7 (sextet c)
 unfolding sextet
 sextet-7 c =
     only-cond (between 65 90 c) fine
     (only-cond (between 97 122 c) fine (only-cond (between 48 57 c) fine (only-cond (eqb c 43) fine (only-cond (eqb c 47) fine only))))
 
-three-7 : (a b c d : ℕ) → Only 7 (threeBytes a b c d)
+pub three-7 : (a b c d : ℕ) → Only 7 (threeBytes a b c d)
 unfolding threeBytes
 three-7 a b c d = only-bind (sextet-7 a) (λ _. only-bind (sextet-7 b) (λ _. only-bind (sextet-7 c) (λ _. only-bind (sextet-7 d) (λ _. fine))))
 
+pub two-7 : (a b c : ℕ) → Only 7 (twoBytes a b c)
+unfolding twoBytes
+two-7 a b c = only-bind (sextet-7 a) (λ _. only-bind (sextet-7 b) (λ _. only-bind (sextet-7 c) (λ y. only-cond (eqb (y % 4) 0) fine only)))
+
+pub one-7 : (a b : ℕ) → Only 7 (oneByte a b)
+unfolding oneByte
+one-7 a b = only-bind (sextet-7 a) (λ _. only-bind (sextet-7 b) (λ x. only-cond (eqb (x % 16) 0) fine only))
+
 last-7 : (a b c d : ℕ) → Only 7 (lastFour a b c d)
-unfolding lastFour oneByte twoBytes
-last-7 a b c d =
-    only-cond (isPad d)
-    (only-cond (isPad c)
-    (only-bind (sextet-7 a) (λ _. only-bind (sextet-7 b) (λ x. only-cond (eqb (x % 16) 0) fine only)))
-    (only-bind (sextet-7 a) (λ _. only-bind (sextet-7 b) (λ _. only-bind (sextet-7 c) (λ y. only-cond (eqb (y % 4) 0) fine only)))))
-    (three-7 a b c d)
+unfolding lastFour
+last-7 a b c d = only-cond (isPad d) (only-cond (isPad c) (one-7 a b) (two-7 a b c)) (three-7 a b c d)
 
 fours-7 : (s : List ℕ) → Only 7 (fours s)
 unfolding fours
@@ -272,6 +275,10 @@ fours-7 (a ∷ b ∷ []) = only
 fours-7 (a ∷ b ∷ c ∷ []) = only
 fours-7 (a ∷ b ∷ c ∷ d ∷ []) = last-7 a b c d
 fours-7 (a ∷ b ∷ c ∷ d ∷ e ∷ s) = only-bind (three-7 a b c d) (λ _. only-bind (fours-7 (e ∷ s)) (λ _. fine))
+
+pub decode-only : (s : List ℕ) → Only 7 (decode s)
+unfolding decode
+decode-only s = fours-7 (dense s)
 
 -- ---- what the two calls do
 
@@ -326,9 +333,8 @@ pub data Encodes (input out : List ℕ) : Call → Type 0 where
 
 -- THE CALLS: how each ends, for every input and every buffer
 pub decode-call : (input out : List ℕ) → Decodes input out (decodeCall input out)
-unfolding decode
 decode-call input out =
-    split mostInput (length input) (λ h. rw (decode-refused-6 input out h) (decode-6 h)) (λ h. go h (decode input) refl (fours-7 (dense input)))
+    split mostInput (length input) (λ h. rw (decode-refused-6 input out h) (decode-6 h)) (λ h. go h (decode input) refl (decode-only input))
   where
     go : length input ≤ mostInput → (r : Result ℕ (List ℕ)) → decode input ≡ r → Only 7 r → Decodes input out (decodeCall input out)
     go h (bad n) e only = rw (decode-refused-7 input out h e) (decode-7 h (λ b w. bad-good (sym e ∙ exact input b .1 w)))

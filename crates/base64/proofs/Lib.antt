@@ -1,1 +1,7 @@
 pub mod Laws
+pub mod Alphabet
+pub mod Fours
+pub mod Blocks
+pub mod Turns
+pub mod Coding
+pub mod Calls
