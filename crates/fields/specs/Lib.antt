@@ -1,1 +1,3 @@
 pub mod Fields
+pub mod Contracts
+pub mod Readers
