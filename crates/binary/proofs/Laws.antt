@@ -15,7 +15,7 @@ use mir.Val.{bits}
 use Rattle.binary.specs.Binary.{allZero, atMost, beforeNul, bitBytes, bitsOf, bytesOf, canBeEmpty, content, contentBytes, countBytes, countIn, counted, element, elementsBytes, front, groups, nullForm, number, numbers, numbersIn, pack, packed, readBinary, readBinary2, shows, truth, truthByte, unpack, writeBinary, writeBinary2, zeros}
 use Rattle.number.proofs.Laws.{all-to, in-range, length-to, of-lt, of-pattern, of-to, pattern-lt, to-of}
 use Rattle.number.specs.Number.{ofDigits, pattern, toDigits}
-use Rattle.table.proofs.Laws.{Numbered, all-append, all-drop, all-replicate, all-take, cond-cases, fails-bind, fails-cond, fails-every, holds-any, holds-bind, holds-cond, holds-weaken, same-self, show-fits}
+use Rattle.table.proofs.Laws.{Numbered, all-append, all-drop, all-replicate, all-take, cond-cases, empty-fits, fails-bind, fails-cond, fails-every, holds-any, holds-at, holds-bind, holds-cond, holds-weaken, same-self, show-fits}
 use Rattle.table.specs.All.{All, AreBytes}
 use Rattle.table.specs.Bytes.{byte}
 use Rattle.table.specs.Cell.{Cell, Elements, Fits, IsColumn, below, bound, emptyIsNull, fits-null, fits-shown, isChar, isElement, isNull, isNullList, isScalar, null, nullElement, nullOfKind, roomFits, roomIn, show, shown}
@@ -245,7 +245,7 @@ none-some : {z : ℤ} → none ≡ some z → ⊥
 none-some h = let q : _≡_ {A = ℕ} 0 1 = cc in omega arith
 
 -- a null element's column is a scalar
-scalar-room : (k : Shape) (l : Len) (o : Option ℤ) (z : ℤ) → cond (isScalar l) o none ≡ some z
+pub scalar-room : (k : Shape) (l : Len) (o : Option ℤ) (z : ℤ) → cond (isScalar l) o none ≡ some z
     → (roomFits k (roomIn l 1) 1 ≡ true) × (1 ≤ bound l)
 unfolding isScalar roomIn bound roomFits
 scalar-room k (Fixed n) o z h = go (eqb n 1) refl h
@@ -256,7 +256,7 @@ scalar-room k (Fixed n) o z h = go (eqb n 1) refl h
 scalar-room k (Bounded n) o z h = absurd (none-some h)
 scalar-room k Free o z h = absurd (none-some h)
 
-empty-room : (k : Shape) (l : Len) → canBeEmpty k l ≡ true → roomFits k (roomIn l 0) 0 ≡ true
+pub empty-room : (k : Shape) (l : Len) → canBeEmpty k l ≡ true → roomFits k (roomIn l 0) 0 ≡ true
 unfolding canBeEmpty roomFits roomIn
 empty-room k (Fixed n) h = rw h (le-leb 0 n zero-le)
 empty-room k (Bounded n) h = room-self k 0
@@ -454,3 +454,13 @@ unfolding writeBinary
 write-binary-fails c null = null-fails c (nullElement c)
 write-binary-fails c (shown []) = fails (lit≤ tt, lit≤ tt)
 write-binary-fails c (shown (e ∷ es)) = gives
+
+-- ---- what is read can be written: the `requires` of the writers
+
+pub read2-fits : (c : Column) (flagged : Bool) (s : List ℕ) (place : ℕ) (x : Cell) (rest : List ℕ) → AreBytes s → readBinary2 c flagged (drop place s) ≡ good (x, rest) → Fits c x
+read2-fits c flagged s place x rest a e = holds-at (binary2-fits c flagged (drop place s) (all-drop _ place s a)) e .0
+
+pub read-fits : (c : Column) (s : List ℕ) (place : ℕ) (x : Cell) (rest : List ℕ) → AreBytes s → readBinary c (drop place s) ≡ good (x, rest) → Fits c x
+unfolding readBinary
+read-fits c s place x rest a e =
+    holds-at (holds-bind {Q = λ (p : Cell × List ℕ). Fits c (p .0)} (binary2-fits c false (drop place s) (all-drop _ place s a)) (λ p f. holds (empty-fits c (p .0) (f .0)))) e

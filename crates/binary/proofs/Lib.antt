@@ -1,1 +1,6 @@
 pub mod Laws
+pub mod Loops
+pub mod Digits
+pub mod Cells
+pub mod Writing
+pub mod FlagLaws

@@ -1,1 +1,3 @@
 pub mod Binary
+pub mod Contracts
+pub mod Reading

@@ -1,0 +1,39 @@
+-- `binary::size_binary` meets its contract: null by its form, an empty cell by none, and elements fill their room.
+use Rattle.binary.proofs.Writing.{count-few, held-elements, shown-length, write-empty, write-null, write-shown}
+use Rattle.table.specs.Contracts.{sizeOf}
+use Rattle.table.specs.Result.{good}
+use borrow.Author.Needs.{needs}
+use denote.Ref.{now}
+use mathlib.Core.Path.{_∙_, ap, sym}
+use Rattle.binary.proofs.size_binary.Statement.{statement}
+use Rattle.binary.proofs.size_binary.Tie as tie
+
+null-size-requires : tie.Need-null-size-requires
+null-size-requires c κs = search needs
+
+returns : tie.Need-returns
+returns c =
+    let a = c .before .before .args in
+    c .null-size .ensures ∙ sym (ap sizeOf (write-null (a .column) (a .null) (a .count) (now (a .scratch)) (c .before .if1 .taken)))
+
+returns-2 : tie.Need-returns-2
+returns-2 c =
+    let a = c .before .before .args in
+    sym (ap sizeOf (write-empty (a .column) (a .null) (a .count) (now (a .scratch)) (c .before .if1 .left) (c .if2 .taken)))
+
+cell-bytes-requires : tie.Need-cell-bytes-requires
+cell-bytes-requires c κs =
+    let a = c .before .before .args in
+    let f = held-elements (a .column) (a .null) (a .count) (now (a .scratch)) (c .before .if1 .left) (c .before .before .pre .2) in
+    (count-few (a .column) (a .null) (a .count) (now (a .scratch)) f (c .before .before .pre .1), c .before .before .pre .0)
+
+returns-3 : tie.Need-returns-3
+returns-3 c =
+    let a = c .before .before .before .args in
+    let f = held-elements (a .column) (a .null) (a .count) (now (a .scratch)) (c .before .before .if1 .left) (c .before .before .before .pre .2) in
+    ap good (c .cell-bytes .ensures .0 ∙ sym (shown-length (a .column) (a .null) (a .count) (now (a .scratch)) f (c .before .before .before .pre .1)))
+    ∙ sym (ap sizeOf (write-shown (a .column) (a .null) (a .count) (now (a .scratch)) (c .before .before .if1 .left) (c .before .if2 .left) (c .before .before .before .pre .1)))
+
+pub size-binary-spec : {M : Type 1} → statement M
+size-binary-spec =
+    tie.close (tie.spec null-size-requires returns returns-2 cell-bytes-requires returns-3)

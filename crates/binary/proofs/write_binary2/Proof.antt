@@ -1,0 +1,42 @@
+-- `binary::write_binary2` meets its contract: null as zeros, or the elements.
+use Rattle.binary.proofs.Writing.{held-elements, shown-length, write2-null, write2-shown, zeros-length}
+use Rattle.number.proofs.Places.{wrote-as}
+use denote.Ref.{now}
+use lib.ListN.{length}
+use mathlib.Core.Path.{ap, sym}
+use native.Mathlib.Omega.{arith}
+use Rattle.binary.proofs.write_binary2.Statement.{statement}
+use Rattle.binary.proofs.write_binary2.Tie as tie
+
+put-null-requires : tie.Need-put-null-requires
+put-null-requires c κs =
+    let a = c .before .before .before .args in
+    ((c .before .before .before .pre .0 .0), omega (arith, c .before .before .before .pre .1, ap length (write2-null (a .column) (a .null) (a .count) (now (a .scratch)) (c .before .if1 .taken)), zeros-length (a .column)))
+
+same-length : tie.Need-same-length
+same-length c = c .before .before .put-null .kept .1 .0
+
+returns : tie.Need-returns
+returns c =
+    let a = c .before .before .before .before .before .before .args in
+    wrote-as (sym (write2-null (a .column) (a .null) (a .count) (now (a .scratch)) (c .before .before .before .before .if1 .taken))) (c .before .before .put-null .ensures)
+
+put-elements-requires : tie.Need-put-elements-requires
+put-elements-requires c κs =
+    let a = c .before .before .before .args in
+    let p = c .before .before .before .pre in
+    let x = held-elements (a .column) (a .null) (a .count) (now (a .scratch)) (c .before .if1 .left) (p .0 .2) in
+    ((p .0 .0, p .0 .1, x), omega (arith, p .1, ap length (write2-shown (a .column) (a .null) (a .count) (now (a .scratch)) (c .before .if1 .left)), shown-length (a .column) (a .null) (a .count) (now (a .scratch)) x (p .0 .1)))
+
+same-length-2 : tie.Need-same-length-2
+same-length-2 c = c .before .before .put-elements .kept .1 .1 .1 .0
+
+returns-2 : tie.Need-returns-2
+returns-2 c =
+    let a = c .before .before .before .before .before .before .args in
+    wrote-as (sym (write2-shown (a .column) (a .null) (a .count) (now (a .scratch)) (c .before .before .before .before .if1 .left))) (c .before .before .put-elements .ensures)
+
+pub write-binary2-spec : {M : Type 1} → statement M
+write-binary2-spec =
+    tie.close
+    (tie.spec put-null-requires same-length returns put-elements-requires same-length-2 returns-2)
