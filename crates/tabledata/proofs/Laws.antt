@@ -191,7 +191,7 @@ text-back Text e es a = chars-say (e ∷ es) a
 
 -- ---- a cell
 
-nil-elements : (k : Shape) → textElements k [] ≡ good []
+pub nil-elements : (k : Shape) → textElements k [] ≡ good []
 unfolding textElements words pieces notEmpty every bitWords
 nil-elements Truths = refl
 nil-elements Bits = refl
@@ -267,7 +267,7 @@ hasText Text (negsuc c) = false
 abbrev TextElement : Shape → ℤ → Type 0
 TextElement k e = (isElement k e ≡ true) × (hasText k e ≡ true)
 
-text-lt : (c : ℕ) → isText c ≡ true → (1 ≤ c) × (c < 128)
+pub text-lt : (c : ℕ) → isText c ≡ true → (1 ≤ c) × (c < 128)
 unfolding isText
 text-lt c h =
     or-either (eqb c 9 || eqb c 10 || eqb c 13) (between 32 127 c) h

@@ -1,1 +1,2 @@
 pub mod TableData
+pub mod Contracts

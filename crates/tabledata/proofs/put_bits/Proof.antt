@@ -1,0 +1,79 @@
+-- `tabledata::put_bits` meets its contract. The invariant: what is left of the bits is still to be written here.
+use Prim.Native.Nat.{_+_, _-_, _≤_, ℕ}
+use native.Mathlib.Omega.{arith}
+use mathlib.Core.List.{[], _++_, _∷_, map}
+use mathlib.Core.Path.{_∙_, _≡_, ap, sym}
+use lib.ListN.{drop, take}
+use borrow.Author.Needs.{needs, sfits-of}
+use denote.Ref.{now}
+use mir.Facts.{toZ-ofZ}
+use mir.Syntax.{w64}
+use Rattle.table.specs.Cell.{isElement}
+use Rattle.table.specs.Outcome.{at}
+use Rattle.table.specs.Shape.{Bits}
+use Rattle.tabledata.proofs.Writing.{Left, bits-joined, each-at, joined-end, joined-more, left-all, left-none, left-step, taken-at, taken-long, wrote-one}
+use Rattle.tabledata.specs.Contracts.{joined}
+use Rattle.tabledata.specs.TableData.{bitText}
+use Rattle.tabledata.proofs.put_bits.Statement.{statement}
+use Rattle.tabledata.proofs.put_bits.Tie as tie
+
+abbrev Inv-loop : tie.InvT-loop
+Inv-loop count scratch out₀ at k₀ out k = (k ≤ count) × Left out₀ at (map bitText (take count scratch)) out (at + k) (joined (λ z. bitText z ∷ []) (drop k (take count scratch)))
+
+abbrev μ-loop : tie.MeasureT-loop
+μ-loop count scratch out₀ at k₀ out k = count - k
+
+loop-holds : tie.Need-loop-holds Inv-loop μ-loop
+loop-holds c = let e : ((c .before) .args .at) + 0 ≡ ((c .before) .args .at) = omega arith in (search needs, rw (e, ← bits-joined) (left-all (now ((c .before) .args .out)) ((c .before) .args .at) (map bitText (take ((c .before) .args .count) (now ((c .before) .args .scratch))))))
+
+mul-bit-byte : tie.Need-mul-bit-byte Inv-loop μ-loop
+mul-bit-byte c = search needs
+
+shared-slice-copy-out-bit-byte : tie.Need-shared-slice-copy-out-bit-byte Inv-loop μ-loop
+shared-slice-copy-out-bit-byte c = search needs
+
+bit-byte-requires : tie.Need-bit-byte-requires Inv-loop μ-loop
+bit-byte-requires c κs = ap (isElement Bits) (toZ-ofZ {w = w64} (sfits-of ((c .bit-byte-arg) .given)) ∙ sym (taken-at (now ((c .before .before .before .before) .args .scratch)) ((c .before .before .before .before) .args .count) ((c .before .before .loop) .k) ((c .before .loop-test) .taken))) ∙ each-at Bits (take ((c .before .before .before .before) .args .count) (now ((c .before .before .before .before) .args .scratch))) ((c .before .before .loop) .k) ((c .before .before .before .before) .pre .1) (omega (arith, (taken-long (now ((c .before .before .before .before) .args .scratch)) ((c .before .before .before .before) .args .count) ((c .before .before .before .before) .pre .0))))
+
+add-out : tie.Need-add-out Inv-loop μ-loop
+add-out c = omega (arith, (c .before .before .before .before .before) .pre .2)
+
+slice-write-out : tie.Need-slice-write-out Inv-loop μ-loop
+slice-write-out c = omega (arith, (c .before .before .before .before .before) .pre .2, (c .before .before .before .loop) .inv .1 .same-long)
+
+add-k : tie.Need-add-k Inv-loop μ-loop
+add-k c = search needs
+
+loop-less : tie.Need-loop-less Inv-loop μ-loop
+loop-less c = search needs
+
+loop-again : tie.Need-loop-again Inv-loop μ-loop
+loop-again c = let e : ((c .before .before .before .before .before) .args .at) + (((c .before .before .before .loop) .k) + 1) ≡ ((c .before .before .before .before .before) .args .at) + ((c .before .before .before .loop) .k) + 1 = omega arith in (search needs, rw e (left-step ((c .before .before .before .loop) .inv .1) (joined-more (λ z. bitText z ∷ []) (take ((c .before .before .before .before .before) .args .count) (now ((c .before .before .before .before .before) .args .scratch))) ((c .before .before .before .loop) .k) (omega (arith, (taken-long (now ((c .before .before .before .before .before) .args .scratch)) ((c .before .before .before .before .before) .args .count) ((c .before .before .before .before .before) .pre .0)))) ∙ ap (λ (b : ℕ). (b ∷ []) ++ joined (λ z. bitText z ∷ []) (drop (((c .before .before .before .loop) .k) + 1) (take ((c .before .before .before .before .before) .args .count) (now ((c .before .before .before .before .before) .args .scratch))))) (sym ((c .bit-byte) .ensures ∙ ap bitText (toZ-ofZ {w = w64} (sfits-of ((c .before .bit-byte-arg) .given)) ∙ sym (taken-at (now ((c .before .before .before .before .before) .args .scratch)) ((c .before .before .before .before .before) .args .count) ((c .before .before .before .loop) .k) ((c .before .before .loop-test) .taken)))))) (wrote-one ((c .before .before .before .loop) .out) (((c .before .before .before .before .before) .args .at) + ((c .before .before .before .loop) .k)) ((c .bit-byte) .result))))
+
+add-result : tie.Need-add-result Inv-loop μ-loop
+add-result c = omega (arith, (c .before .before .before) .pre .2, (c .before .loop) .inv .0)
+
+same-length : tie.Need-same-length Inv-loop μ-loop
+same-length c = (c .before .loop) .inv .1 .same-long
+
+returns : tie.Need-returns Inv-loop μ-loop
+returns c = left-none ((c .before .loop) .inv .1) (joined-end _ (take ((c .before .before .before) .args .count) (now ((c .before .before .before) .args .scratch))) ((c .before .loop) .k) (omega (arith, (taken-long (now ((c .before .before .before) .args .scratch)) ((c .before .before .before) .args .count) ((c .before .before .before) .pre .0)))))
+
+pub put-bits-spec : {M : Type 1} → statement M
+put-bits-spec =
+    tie.close
+    (tie.spec
+    Inv-loop
+    μ-loop
+    loop-holds
+    mul-bit-byte
+    shared-slice-copy-out-bit-byte
+    bit-byte-requires
+    add-out
+    slice-write-out
+    add-k
+    loop-less
+    loop-again
+    add-result
+    same-length
+    returns)

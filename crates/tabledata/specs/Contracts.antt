@@ -1,0 +1,367 @@
+-- What the contracts of the functions on TABLEDATA say: each case of an answer as the definitions have it.
+use Prim.Native.Nat.{_*_, _+_, _-_, _<_, _≤_, ℕ}
+use mathlib.Core.Bool.{Bool, _&&_, cond, false, not, true}
+use mathlib.Core.List.{List, [], _++_, _∷_, map}
+use mathlib.Core.Option.{Option, none, some}
+use mathlib.Core.Path.{_≡_}
+use lib.Dec.{eqb, leb, ltb}
+use lib.IntN.{pos, ℤ}
+use lib.ListN.{drop, length, take}
+use Rattle.number.specs.Contracts.{isSigned, size}
+use Rattle.number.specs.Number.{Fault, Unwritten, digit, hexadigit}
+use Rattle.number.specs.Words.{feed, fresh, word}
+use Rattle.number.specs.declared.Form.{Form}
+use Rattle.number.specs.declared.Form.the-variants.{Decimal, Hexadecimal, Minus, Plus, Start, Zero}
+use Rattle.number.specs.declared.Integer.{Integer}
+use Rattle.number.specs.declared.Quick.{Quick}
+use Rattle.number.specs.declared.Quick.the-variants.{Careful}
+use Rattle.table.specs.All.{All}
+use Rattle.table.specs.Bytes.{between, ends, isWhite, notEmpty, skipWhite, tag}
+use Rattle.table.specs.Cell.{Cell, Fits, bound, emptyIsNull, isElement, isNull, roomFits, roomIn, show}
+use Rattle.table.specs.Contracts.{foundAs, held}
+use Rattle.table.specs.Result.{IsGood, Result, _>>=_, bad, every, good}
+use Rattle.table.specs.Shape.{Shape, shape}
+use Rattle.table.specs.declared.Column.{Column}
+use Rattle.table.specs.declared.Found.{Found}
+use Rattle.table.specs.declared.Found.the-variants.{Refused, Shown}
+use Rattle.table.specs.declared.Kind.{Kind}
+use Rattle.table.specs.declared.Len.{Len}
+use Rattle.table.specs.declared.Null.{Null}
+use Rattle.table.specs.declared.Null.the-variants.{Declared, Undeclared}
+use Rattle.tabledata.specs.TableData.{allText, bitLetter, characters, close-TD, consText, countFits, elementText, expanded, integerWord, lower, plain, reference, textElements, writeText}
+use Rattle.tabledata.specs.declared.Added.{Added}
+use Rattle.tabledata.specs.declared.Added.the-variants.{NoWord, To}
+use Rattle.tabledata.specs.declared.Item.{Item}
+use Rattle.tabledata.specs.declared.Item.the-variants.{Code, End, Torn}
+use Rattle.tabledata.specs.declared.Numeral.{Numeral}
+use Rattle.tabledata.specs.declared.Opening.{Opening}
+use Rattle.tabledata.specs.declared.Opening.the-variants.{Content, Empty, Shut}
+use Rattle.tabledata.specs.declared.Piece.{Piece}
+use Rattle.tabledata.specs.declared.Piece.the-variants.{Cut, Foul, Last, Rent}
+use Rattle.tabledata.specs.declared.Reference.{Reference}
+use Rattle.tabledata.specs.declared.Reference.the-variants.{Means, Unknown}
+use Rattle.tabledata.specs.declared.Tag.{Tag}
+use Rattle.tabledata.specs.declared.Tag.the-variants.{At, Broken}
+use Rattle.tabledata.specs.declared.Taken.{Taken}
+use Rattle.tabledata.specs.declared.Taken.the-variants.{Faulty, Held}
+
+-- ---- tags
+
+-- what follows, or 10
+abbrev pub tagAs : List ℕ → Tag → Result ℕ (List ℕ)
+tagAs s (At next) = good (drop next s)
+tagAs s Broken = bad 10
+
+abbrev pub TagWithin : List ℕ → ℕ → Tag → Type 0
+TagWithin s place (At next) = (place ≤ next) × (next ≤ length s)
+TagWithin s place Broken = Unit {0}
+
+pub record TagIs (definition : Result ℕ (List ℕ)) (s : List ℕ) (place : ℕ) (r : Tag) : Type 0 where
+  pub found : definition ≡ tagAs s r
+  pub within : TagWithin s place r
+
+-- `next` is the place after white space
+pub record Skipped (s : List ℕ) (place next : ℕ) : Type 0 where
+  pub rest : skipWhite (drop place s) ≡ drop next s
+  pub low : place ≤ next
+  pub high : next ≤ length s
+
+-- how a cell begins, and its characters from there on
+abbrev pub openingText : List ℕ → Opening → Result ℕ (List ℕ × List ℕ)
+openingText s (Empty next) = good ([], drop next s)
+openingText s (Content from) = characters plain (drop from s)
+openingText s Shut = bad 10
+
+abbrev pub OpeningWithin : List ℕ → ℕ → Opening → Type 0
+OpeningWithin s place (Empty next) = (place ≤ next) × (next ≤ length s)
+OpeningWithin s place (Content from) = (place ≤ from) × (from ≤ length s)
+OpeningWithin s place Shut = Unit {0}
+
+-- ---- references
+
+abbrev pub referenceAs : Reference → Result ℕ ℕ
+referenceAs (Means c) = good c
+referenceAs Unknown = bad 10
+
+abbrev pub valueIn : Bool → ℕ → Result Fault ℕ
+valueIn true = hexadigit
+valueIn false = digit
+
+abbrev pub baseIn : Bool → ℕ
+baseIn true = 16
+baseIn false = 10
+
+-- a digit's value below the base
+unfoldable pub digitIn : ℕ → ℕ → Result Fault ℕ
+digitIn base d = cond (ltb d base) (good d) (bad Unwritten)
+
+-- what a character is worth as a digit: 16 for what is no hexadigit
+pub record DigitIs (c d : ℕ) : Type 0 where
+  pub hexa : hexadigit c ≡ digitIn 16 d
+  pub deci : digit c ≡ digitIn 10 d
+  pub low : d ≤ 16
+
+-- ---- characters
+
+-- a reference that is known stands for its character
+unfoldable pub referred : Result ℕ ℕ → Result ℕ (List ℕ × List ℕ) → Result ℕ (List ℕ × List ℕ)
+referred (good c) more = consText c more
+referred (bad n) more = bad 10
+
+-- a reference's name from a place on: it ends at its `;`
+abbrev pub nameAs : List ℕ → ℕ → Tag → Result ℕ (List ℕ × List ℕ)
+nameAs s from (At end) = referred (expanded (take (end - from) (drop from s))) (characters plain (drop (end + 1) s))
+nameAs s from Broken = bad 10
+
+abbrev pub NameWithin : List ℕ → ℕ → Tag → Type 0
+NameWithin s from (At end) = (from ≤ end) × (end < length s)
+NameWithin s from Broken = Unit {0}
+
+pub record NameIs (s : List ℕ) (from : ℕ) (r : Tag) : Type 0 where
+  pub found : characters (reference []) (drop from s) ≡ nameAs s from r
+  pub within : NameWithin s from r
+
+-- the end tag where a cell's text ends
+unfoldable pub ended : List ℕ → Result ℕ (List ℕ × List ℕ)
+ended s = tag 10 close-TD s >>= λ rest. good ([], rest)
+
+abbrev pub itemAs : List ℕ → Item → Result ℕ (List ℕ × List ℕ)
+itemAs s (Code c next) = consText c (characters plain (drop next s))
+itemAs s (End next) = good ([], drop next s)
+itemAs s Torn = bad 10
+
+abbrev pub ItemWithin : List ℕ → ℕ → Item → Type 0
+ItemWithin s place (Code c next) = (place < next) × (next ≤ length s)
+ItemWithin s place (End next) = (place ≤ next) × (next ≤ length s)
+ItemWithin s place Torn = Unit {0}
+
+pub record ItemIs (definition : Result ℕ (List ℕ × List ℕ)) (s : List ℕ) (place : ℕ) (r : Item) : Type 0 where
+  pub found : definition ≡ itemAs s r
+  pub within : ItemWithin s place r
+
+-- "a text cell 10, 11, 12": 10 where its text is broken, or else 11
+unfoldable pub spoiledNumber : Result ℕ (List ℕ × List ℕ) → ℕ
+spoiledNumber (good p) = 11
+spoiledNumber (bad n) = n
+
+-- ---- a cell's elements
+
+-- 11 for a character that a cell may not have, then what the kind makes of them
+unfoldable pub elementsOf : Shape → List ℕ → Result ℕ (List ℤ)
+elementsOf k cs = cond (allText cs) (textElements k cs) (bad 11)
+
+-- what g makes of a cell's characters, and what follows the cell
+unfoldable pub onward : (List ℕ → Result ℕ (List ℤ)) → Result ℕ (List ℕ × List ℕ) → Result ℕ (List ℤ × List ℕ)
+onward g r = r >>= λ p. g (p .0) >>= λ es. good (es, p .1)
+
+-- a cell's elements from its first character on
+unfoldable pub content : Shape → List ℕ → Result ℕ (List ℤ × List ℕ)
+content k s = onward (elementsOf k) (characters plain s)
+
+-- the elements are counted; the scratch has those that it has room for
+pub record Counted (es : List ℤ) (count : ℕ) (scratch : List ℤ) : Type 0 where
+  pub all : count ≡ length es
+  pub first : take count scratch ≡ take (length scratch) es
+
+abbrev pub TakenAs : Result ℕ (List ℤ × List ℕ) → List ℕ → ℕ → List ℤ → Taken → Type 0
+TakenAs definition s place scratch (Held count next) =
+    (es : List ℤ) × (definition ≡ good (es, drop next s)) × Counted es count scratch × (place ≤ next) × (next ≤ length s)
+TakenAs definition s place scratch (Faulty n) = definition ≡ bad n
+
+pub record Takes (definition : Result ℕ (List ℤ × List ℕ)) (s : List ℕ) (place : ℕ) (entry exit : List ℤ) (r : Taken) : Type 0 where
+  pub found : TakenAs definition s place exit r
+  pub long : length exit ≡ length entry
+
+-- the text from one place to another has the characters w, which a cell may have: whatever is made of the text from the one is made of w
+-- and the text from the other
+pub record Passed (s : List ℕ) (from next : ℕ) (w : List ℕ) : Type 0 where
+  pub passes : (g : List ℕ → Result ℕ (List ℤ)) → onward g (characters plain (drop from s)) ≡ onward (λ cs. g (w ++ cs)) (characters plain (drop next s))
+  pub text : allText w ≡ true
+
+-- ---- char
+
+-- a character that stands for itself
+unfoldable pub isPlain : ℕ → Bool
+isPlain c = not (eqb c 38) && not (eqb c 60) && between 32 127 c
+
+pub record Copied (s : List ℕ) (from count : ℕ) (entry exit : List ℤ) (next : ℕ) : Type 0 where
+  pub passed : Passed s from next (take (next - from) (drop from s))
+  pub counted : (es : List ℤ) → Counted es count entry → Counted (es ++ map pos (take (next - from) (drop from s))) (count + (next - from)) exit
+  pub low : from ≤ next
+  pub high : next ≤ length s
+  pub long : length exit ≡ length entry
+
+-- ---- bit
+
+unfoldable pub bitAs : ℕ → Result ℕ ℤ
+bitAs r = cond (eqb r 2) (bad 11) (good (pos r))
+
+abbrev pub BitIs : Bool → ℕ → ℕ → Type 0
+BitIs true c r = r ≡ 2
+BitIs false c r = bitAs r ≡ bitLetter c
+
+-- ---- words
+
+-- one letter more of a word that is spelled as a number
+unfoldable pub spell : ℕ → ℕ → ℕ
+spell q c = cond (leb 281474976710656 q) 281474976710656 (q * 256 + lower c)
+
+unfoldable pub spelled : ℕ → List ℕ → ℕ
+spelled q [] = q
+spelled q (c ∷ w) = spelled (spell q c) w
+
+abbrev pub packed : List ℕ → ℕ
+packed w = spelled 1 w
+
+-- 1 for true, 0 for false, 2 for unknown, 3 for no word
+unfoldable pub valueOf : ℕ → ℕ
+valueOf q =
+    cond (eqb q 0x174) 1 (cond (eqb q 0x131) 1 (cond (eqb q 0x174727565) 1
+    (cond (eqb q 0x166) 0 (cond (eqb q 0x130) 0 (cond (eqb q 0x166616c7365) 0
+    (cond (eqb q 0x13f) 2 3))))))
+
+-- a word ends before white space, or with the cell
+pub record CutAt (s : List ℕ) (from next : ℕ) (w : List ℕ) : Type 0 where
+  pub white : ℕ
+  pub is-white : isWhite white ≡ true
+  pub word : All (λ (c : ℕ). isWhite c ≡ false) w
+  pub text : allText w ≡ true
+  pub passed : Passed s from next (w ++ (white ∷ []))
+
+pub record LastAt (s : List ℕ) (from next : ℕ) (w : List ℕ) : Type 0 where
+  pub word : All (λ (c : ℕ). isWhite c ≡ false) w
+  pub text : allText w ≡ true
+  pub ends : (g : List ℕ → Result ℕ (List ℤ)) → onward g (characters plain (drop from s)) ≡ (g w >>= λ es. good (es, drop next s))
+
+-- a character that no cell may have
+abbrev pub FoulAt : List ℕ → ℕ → ℕ → Type 0
+FoulAt s from next =
+    (g : List ℕ → Result ℕ (List ℤ)) → ((cs : List ℕ) → allText cs ≡ false → g cs ≡ bad 11)
+    → onward g (characters plain (drop from s)) ≡ bad (spoiledNumber (characters plain (drop next s)))
+
+abbrev pub PieceAs : List ℕ → ℕ → Piece → Type 0
+PieceAs s from (Cut q next) = (w : List ℕ) × (q ≡ packed w) × CutAt s from next w
+PieceAs s from (Last q next) = (w : List ℕ) × (q ≡ packed w) × LastAt s from next w
+PieceAs s from (Foul next) = FoulAt s from next
+PieceAs s from Rent = characters plain (drop from s) ≡ bad 10
+
+abbrev pub PieceWithin : List ℕ → ℕ → Piece → Type 0
+PieceWithin s from (Cut q next) = (from < next) × (next ≤ length s)
+PieceWithin s from (Last q next) = (from ≤ next) × (next ≤ length s)
+PieceWithin s from (Foul next) = next ≤ length s
+PieceWithin s from Rent = Unit {0}
+
+pub record PieceIs (s : List ℕ) (from : ℕ) (r : Piece) : Type 0 where
+  pub found : PieceAs s from r
+  pub within : PieceWithin s from r
+
+abbrev pub AddedAs : (List ℕ → Result ℕ ℤ) → List ℕ → ℕ → List ℤ → List ℤ → Added → Type 0
+AddedAs f w count entry exit (To n) =
+    (fs : List ℤ) × (every f (notEmpty (w ∷ [])) ≡ good fs) × ((es : List ℤ) → Counted es count entry → Counted (es ++ fs) n exit)
+AddedAs f w count entry exit NoWord = every f (notEmpty (w ∷ [])) ≡ bad 11
+
+abbrev pub AddedMost : ℕ → Added → Type 0
+AddedMost count (To n) = n ≤ count + 1
+AddedMost count NoWord = Unit {0}
+
+-- the element of each word that `Stands` for what was read
+pub record Adds (f : List ℕ → Result ℕ ℤ) (Stands : List ℕ → Type 0) (count : ℕ) (entry exit : List ℤ) (r : Added) : Type 0 where
+  pub found : (w : List ℕ) → allText w ≡ true → Stands w → AddedAs f w count entry exit r
+  pub most : AddedMost count r
+  pub long : length exit ≡ length entry
+
+abbrev pub NumeralAs : List ℕ → ℕ → Numeral → Type 0
+NumeralAs s from (Numeral.Cut x next) = (w : List ℕ) × (x ≡ feed fresh w) × CutAt s from next w
+NumeralAs s from (Numeral.Last x next) = (w : List ℕ) × (x ≡ feed fresh w) × LastAt s from next w
+NumeralAs s from (Numeral.Foul next) = FoulAt s from next
+NumeralAs s from Numeral.Rent = characters plain (drop from s) ≡ bad 10
+
+abbrev pub NumeralWithin : List ℕ → ℕ → Numeral → Type 0
+NumeralWithin s from (Numeral.Cut x next) = (from < next) × (next ≤ length s)
+NumeralWithin s from (Numeral.Last x next) = (from ≤ next) × (next ≤ length s)
+NumeralWithin s from (Numeral.Foul next) = next ≤ length s
+NumeralWithin s from Numeral.Rent = Unit {0}
+
+pub record NumeralIs (s : List ℕ) (from : ℕ) (r : Numeral) : Type 0 where
+  pub found : NumeralAs s from r
+  pub within : NumeralWithin s from r
+
+-- the quick way reads the cell's one word, or leaves it to the careful way
+abbrev pub QuickLast : Integer → List ℕ → ℕ → Quick → Type 0
+QuickLast kind s from (Quick.Value z next) =
+    (w : List ℕ) × (1 ≤ length w) × (integerWord (isSigned kind) (size kind) w ≡ good z) × LastAt s from next w × (from ≤ next) × (next ≤ length s)
+QuickLast kind s from Careful = Unit {0}
+
+-- has a word begun?
+abbrev pub begunForm : Form → Bool
+begunForm Start = false
+begunForm Zero = true
+begunForm Decimal = true
+begunForm Plus = true
+begunForm Minus = true
+begunForm Hexadecimal = true
+begunForm Form.Broken = true
+
+-- ---- what a cell shows
+
+abbrev pub nullAs : Null → Option ℤ
+nullAs Undeclared = none
+nullAs (Declared z) = some z
+
+-- does a count above 0 fit?
+unfoldable pub roomAnd : Kind → Len → ℕ → Bool
+roomAnd kind len m = roomFits (shape kind) (roomIn len m) m && leb m (bound len)
+
+-- what elements come to in a column, with the rest of the text
+unfoldable pub finished : Column → List ℤ → List ℕ → Result ℕ (Cell × List ℕ)
+finished c es rest = cond (countFits c (length es)) (good (emptyIsNull (show c es), rest)) (bad 12)
+
+abbrev pub FoundCount : List ℤ → Found → Type 0
+FoundCount scratch (Found.Null next) = Unit {0}
+FoundCount scratch (Shown count next) = count ≤ length scratch
+FoundCount scratch (Refused n) = Unit {0}
+
+abbrev pub FoundNext : ℕ → Found → Type 0
+FoundNext place (Found.Null next) = next ≡ place
+FoundNext place (Shown count next) = next ≡ place
+FoundNext place (Refused n) = Unit {0}
+
+pub record Finds (c : Column) (count next : ℕ) (scratch : List ℤ) (r : Found) : Type 0 where
+  pub found : (s : List ℕ) (es : List ℤ) → Counted es count scratch → finished c es (drop next s) ≡ foundAs s scratch r
+  pub few : FoundCount scratch r
+  pub place : FoundNext next r
+
+-- ---- a cell is written
+
+-- a form's bytes, where there is one
+abbrev pub written : Result ℕ (List ℕ) → List ℕ
+written (good b) = b
+written (bad n) = []
+
+-- the length of a text and so many bytes more, or why there is none
+unfoldable pub sizeWith : ℕ → Result ℕ (List ℕ) → Result ℕ ℕ
+sizeWith n r = r >>= λ t. good (n + length t)
+
+-- 0 where a char has no form
+unfoldable pub formSize : ℕ → Result ℕ ℕ
+formSize n = cond (eqb n 0) (bad 16) (good n)
+
+-- each element's bytes in turn
+unfoldable pub joined : (ℤ → List ℕ) → List ℤ → List ℕ
+joined f [] = []
+joined f (e ∷ es) = f e ++ joined f es
+
+-- elements that have a text, with room for it at a place
+pub record Puttable (k : Shape) (count : ℕ) (scratch : List ℤ) (place room : ℕ) : Type 0 where
+  pub some : 1 ≤ count
+  pub few : count ≤ length scratch
+  pub each : All (λ (e : ℤ). isElement k e ≡ true) (take count scratch)
+  pub form : IsGood (elementText k (take count scratch))
+  pub fits : place + length (written (elementText k (take count scratch))) ≤ room
+
+-- a cell that its column can show, that has a form, with room for it at a place
+pub record Writable (c : Column) (isNull : Bool) (count : ℕ) (scratch : List ℤ) (place room : ℕ) : Type 0 where
+  pub few : count ≤ length scratch
+  pub shows : Fits c (held isNull count scratch)
+  pub form : IsGood (writeText c (held isNull count scratch))
+  pub fits : place + length (written (writeText c (held isNull count scratch))) ≤ room
