@@ -1,6 +1,7 @@
 -- A cell by its parts: what is read after the count, and what is written for elements that fill their room.
 use Prim.Native.Nat.{_*_, _+_, _-_, _<_, _≤_, suc, zero, ℕ}
 use Rattle.binary.proofs.Digits.{take-of-sets}
+use Rattle.binary.proofs.Laws.{flagged-unread}
 use Rattle.binary.proofs.Loops.{length-integers}
 use Rattle.binary.specs.Binary.{beforeNul, content, contentBytes, countIn, element, front, numbers, numbersIn, readBinary, readBinary2, shows}
 use Rattle.binary.specs.Contracts.{Fills}
@@ -75,8 +76,7 @@ module _ (c : Column) (flagged : Bool) (n at size : ℕ) (s : List ℕ) (e : siz
     counted-at = rw (← e, length-drop at s, le-ltb (length s - at) size h, drop-drop size at s)
 
     pub counted-flagged : flagged ≡ true → readCounted c flagged n (drop at s) ≡ good (null, drop (at + size) s)
-    unfolding shows
-    counted-flagged f = counted-at ∙ rw f
+    counted-flagged f = counted-at ∙ rw (f, flagged-unread c n (take size (drop at s)))
 
     module _ (f : flagged ≡ false) (p : List ℕ) (q : p ≡ take size (drop at s)) where
       pub counted-bad : (k : ℕ) → content (shape (c .kind)) n p ≡ bad k → readCounted c flagged n (drop at s) ≡ bad k

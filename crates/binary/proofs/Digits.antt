@@ -9,7 +9,7 @@ use Rattle.table.specs.Shape.{Bits}
 use borrow.Author.Tests.{ne-eqb}
 use lib.Dec.{eqb, lit<}
 use lib.IntN.{pos, ℤ}
-use lib.ListN.{drop, getD, length, length-append, length-map, set, take}
+use lib.ListN.{drop, getD, length, length-append, length-map, replicate, set, take}
 use lib.Pow.{shl-exact}
 use lib.Seq.{drop-append-add, drop-at, length-take-le, sets, sets-eq, take-all, take-append-le, take-suc}
 use mathlib.Core.Bool.{Bool, _&&_, cond, false, true}
@@ -47,6 +47,11 @@ module _ {A B : Type 0} (f : A → B) where
   map-join (x ∷ xs) ys = ap (λ (l : List B). f x ∷ l) (map-join xs ys)
 
 -- ---- bits
+
+-- "first bit highest"
+first-highest : bitsOf (128 ∷ []) ≡ 1 ∷ replicate 7 0
+unfolding bitsOf toDigits
+first-highest = refl
 
 pub length-bits : (s : List ℕ) → length (bitsOf s) ≡ 8 * length s
 unfolding bitsOf

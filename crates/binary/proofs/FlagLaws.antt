@@ -15,7 +15,7 @@ use lib.Arith.{digits-div, digits-mod}
 use lib.Dec.{eqb, lit<}
 use lib.Ieee.{lt}
 use lib.ListN.{drop, getD, length, length-drop, replicate, set, take}
-use lib.Pow.{high, low, pow-add, pow-mono, shl-exact}
+use lib.Pow.{high, low, mod-mod-pow, pow-add, pow-mono}
 use lib.Seq.{drop-at, drop-cons, drop-drop, length-take-le, sets, take-at}
 use mathlib.Core.Bool.{cond}
 use mathlib.Core.List.{List, [], _++_, _∷_}
@@ -139,14 +139,29 @@ digit-at zero k x h = absurd (omega arith)
 digit-at (suc n) zero x h = let e : (suc n - 1) - 0 ≡ n = omega arith in rw e
 digit-at (suc n) (suc k) x h = let e : (suc n - 1) - suc k ≡ (n - 1) - k = omega arith in rw e (digit-at n k x (omega arith))
 
-pub flag-next : (k flags b : ℕ) → b < 2 → toDigits 2 (k + 1) (flags * 2 + b) ≡ toDigits 2 k flags ++ (b ∷ [])
+flag-next : (k flags b : ℕ) → b < 2 → toDigits 2 (k + 1) (flags * 2 + b) ≡ toDigits 2 k flags ++ (b ∷ [])
 flag-next k flags b h =
     let e : (flags * 2 + b) / 2 ≡ flags = omega arith in
     let r : (flags * 2 + b) % 2 ≡ b = omega arith in
     ap (λ (n : ℕ). toDigits 2 n (flags * 2 + b)) (add-one k) ∙ digits-last 2 (lit< tt) k (flags * 2 + b) ∙ rw (e, r)
 
-pub long-enough : (k : ℕ) → k < 64 → 2 ^ (k + 1) ≤ 2 ^ 64
-long-enough k h = pow-mono (let d : k + 1 ≤ 64 = omega arith in d)
+-- of a number cut to 64 bits the low digits are its own
+bits-of-word : (n x : ℕ) → n ≤ 64 → toDigits 2 n (x % 2 ^ 64) ≡ toDigits 2 n x
+bits-of-word n x h =
+    let e : 64 ≡ (64 - n) + n = omega arith in
+    sym (digits-low 2 (lit< tt) n (x % 2 ^ 64)) ∙ ap (toDigits 2 n) (ap (λ (k : ℕ). x % 2 ^ k % 2 ^ n) e ∙ mod-mod-pow x (64 - n) n) ∙ digits-low 2 (lit< tt) n x
+
+bytes-of-word : (m x : ℕ) → m ≤ 8 → toDigits 256 m (x % 2 ^ 64) ≡ toDigits 256 m x
+bytes-of-word m x h =
+    let e : 64 ≡ (64 - 8 * m) + 8 * m = omega arith in
+    let q : x % 2 ^ 64 % 256 ^ m ≡ x % 256 ^ m = rw (pow-bytes m) (ap (λ (k : ℕ). x % 2 ^ k % 2 ^ (8 * m)) e ∙ mod-mod-pow x (64 - 8 * m) (8 * m)) in
+    sym (digits-low 256 (lit< tt) m (x % 2 ^ 64)) ∙ ap (toDigits 256 m) q ∙ digits-low 256 (lit< tt) m x
+
+-- a flag behind those of a word shifted by one
+pub flag-added : (k flags b : ℕ) → k < 64 → b < 2 → toDigits 2 (k + 1) ((flags * 2 ^ 1) % 2 ^ 64 + b) ≡ toDigits 2 k flags ++ (b ∷ [])
+flag-added k flags b h few =
+    let e : (flags * 2 ^ 1) % 2 ^ 64 + b ≡ (flags * 2 + b) % 2 ^ 64 = omega arith in
+    ap (toDigits 2 (k + 1)) e ∙ bits-of-word (k + 1) (flags * 2 + b) (omega arith) ∙ flag-next k flags b few
 
 -- ---- a number to bytes
 
@@ -209,7 +224,7 @@ module _ (n at m : ℕ) (s : List ℕ) (e : m ≡ bitBytes n) (h : m ≤ length 
   pub start-few : x / ((1 * 2 ^ (8 * m - n)) % 2 ^ 64) < 2 ^ n
   start-few = rw unit (flags-few n at s (rw e at h) x (rw e at q) a)
 
-pub write-is : (n f m : ℕ) → m ≡ bitBytes n → f < 2 ^ n → n ≤ 64 → toDigits 256 m ((f * 2 ^ (8 * m - n)) % 2 ^ 64) ≡ pack (toDigits 2 n f)
+pub write-is : (n f m : ℕ) → m ≡ bitBytes n → n ≤ 64 → toDigits 256 m ((f * 2 ^ (8 * m - n)) % 2 ^ 64) ≡ pack (toDigits 2 n f)
 unfolding bitBytes
-write-is n f m e h few =
-    ap (toDigits 256 m) (shl-exact n (8 * m - n) 64 h (omega arith)) ∙ ap (λ (k : ℕ). toDigits 256 k (f * 2 ^ (8 * k - n))) e ∙ sym (pack-digits n f)
+write-is n f m e few =
+    bytes-of-word m (f * 2 ^ (8 * m - n)) (omega arith) ∙ ap (λ (k : ℕ). toDigits 256 k (f * 2 ^ (8 * k - n))) e ∙ sym (pack-digits n f)

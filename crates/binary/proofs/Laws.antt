@@ -1,6 +1,6 @@
 -- Laws of binary cells: bits, numbers, content and cells that are written are read back; what is read fits its column.
 use Prim.Native.Nat.{_*_, _+_, _-_, _/_, _<_, _^_, _≤_, suc, zero, zero-le, ℕ}
-use native.Mathlib.Nat.{le-of-eq, le-refl, le-trans, zero-mul}
+use native.Mathlib.Nat.{le-of-eq, le-refl, le-trans, mod-eq-of-lt, zero-mul}
 use native.Mathlib.Omega.{arith}
 use mathlib.Core.Bool.{Bool, _&&_, _||_, cond, false, false≢true, not, true}
 use mathlib.Core.List.{List, [], _++_, _∷_, append-assoc, map}
@@ -12,7 +12,8 @@ use lib.ListN.{drop, length, length-append, length-drop, length-map, length-repl
 use lib.Seq.{drop-at, take-at}
 use borrow.Author.Tests.{eq-eqb, eqb-false, eqb-true, le-leb, le-ltb, leb-true, lt-ltb, ltb-false, ltb-true, ne-eqb}
 use mir.Val.{bits}
-use Rattle.binary.specs.Binary.{allZero, atMost, beforeNul, bitBytes, bitsOf, bytesOf, canBeEmpty, content, contentBytes, countBytes, countIn, counted, element, elementsBytes, front, groups, nullForm, number, numbers, numbersIn, pack, packed, readBinary, readBinary2, shows, truth, truthByte, unpack, writeBinary, writeBinary2, zeros}
+use Rattle.binary.specs.Binary.{allZero, atMost, beforeNul, bitBytes, bitOf, bitsOf, bytesOf, canBeEmpty, content, contentBytes, countBytes, countIn, counted, element, elementsBytes, front, groups, nullForm, number, numbers, numbersIn, pack, packed, readBinary, readBinary2, shows, truth, truthByte, unpack, writeBinary, writeBinary2, zeros}
+use Rattle.binary.specs.Contracts.{filledBytes}
 use Rattle.number.proofs.Laws.{all-to, in-range, length-to, of-lt, of-pattern, of-to, pattern-lt, to-of}
 use Rattle.number.specs.Number.{ofDigits, pattern, toDigits}
 use Rattle.table.proofs.Laws.{Numbered, all-append, all-drop, all-replicate, all-take, cond-cases, empty-fits, fails-bind, fails-cond, fails-every, holds-any, holds-at, holds-bind, holds-cond, holds-weaken, same-self, show-fits}
@@ -23,8 +24,10 @@ use Rattle.table.specs.Outcome.{at}
 use Rattle.table.specs.Result.{Fails, Holds, every, fails, gives, good, holds, refuses}
 use Rattle.table.specs.Shape.{Bits, Shape, Text, Truths, Whole, last, shape}
 use Rattle.table.specs.declared.Column.{Column}
+use Rattle.table.specs.declared.Kind.the-variants.{Short}
 use Rattle.table.specs.declared.Len.{Len}
 use Rattle.table.specs.declared.Len.the-variants.{Bounded, Fixed, Free}
+use Rattle.table.specs.declared.Null.the-variants.{Declared, Undeclared}
 
 -- ---- "Its count is read and checked; its content is skipped unread."
 
@@ -107,30 +110,42 @@ IsNumber Bits n = n < 2
 IsNumber (Whole g v) n = n < 256 ^ suc (last v)
 IsNumber Text n = 0 < n
 
+bit-lt : (e : ℤ) → bitOf e < 2
+unfolding bitOf
+bit-lt (pos zero) = lit< tt
+bit-lt (pos (suc zero)) = lit< tt
+bit-lt (pos (suc (suc n))) = lit< tt
+bit-lt (negsuc n) = lit< tt
+
+letter-is : (n : ℕ) → (ltb n 128 && not (ltb n 1)) ≡ true → pattern 1 (pos n) ≡ n
+unfolding pattern
+letter-is n h = let few : n < 128 = ltb-true n 128 (and-left (ltb n 128) (not (ltb n 1)) h) in mod-eq-of-lt (omega arith)
+
 pub number-is : (k : Shape) (e : ℤ) → isElement k e ≡ true → IsNumber k (number k e)
-unfolding isElement number below pattern truthByte
+unfolding isElement number below truthByte
 number-is Truths (pos zero) h = lit< tt
 number-is Truths (pos (suc zero)) h = lit< tt
 number-is Truths (pos (suc (suc n))) h = lit< tt
 number-is Truths (negsuc n) h = lit< tt
-number-is Bits (pos n) h = ltb-true n 2 h
-number-is Bits (negsuc n) h = absurd (false≢true h)
-number-is (Whole g v) e h = pattern-lt g (last v) e h
+number-is Bits e h = bit-lt e
+number-is (Whole g v) e h = pattern-lt (suc (last v)) e
 number-is Text (pos zero) h = absurd (false≢true h)
-number-is Text (pos (suc n)) h = omega arith
+number-is Text (pos (suc n)) h = rw (letter-is (suc n) h) (omega arith)
 number-is Text (negsuc n) h = absurd (false≢true h)
 
 pub element-number : (k : Shape) (e : ℤ) → isElement k e ≡ true → element k (number k e) ≡ good e
-unfolding isElement number element below pattern truth truthByte
+unfolding isElement number element below truth truthByte bitOf
 element-number Truths (pos zero) h = refl
 element-number Truths (pos (suc zero)) h = refl
 element-number Truths (pos (suc (suc zero))) h = refl
 element-number Truths (pos (suc (suc (suc n)))) h = absurd (omega (arith, ltb-true (suc (suc (suc n))) 3 h))
 element-number Truths (negsuc n) h = absurd (false≢true h)
-element-number Bits (pos n) h = refl
+element-number Bits (pos zero) h = refl
+element-number Bits (pos (suc zero)) h = refl
+element-number Bits (pos (suc (suc n))) h = absurd (omega (arith, ltb-true (suc (suc n)) 2 h))
 element-number Bits (negsuc n) h = absurd (false≢true h)
 element-number (Whole g v) e h = ap good (of-pattern g (last v) e h)
-element-number Text (pos n) h = rw (and-left (ltb n 128) (not (ltb n 1)) h)
+element-number Text (pos n) h = rw (letter-is n h, and-left (ltb n 128) (not (ltb n 1)) h)
 element-number Text (negsuc n) h = absurd (false≢true h)
 
 -- a number gives an element of the kind, if any
@@ -158,6 +173,23 @@ every-is k (n ∷ ns) a =
 
 -- ---- content
 
+room-le : (k : Shape) (n m : ℕ) → roomFits k n m ≡ true → m ≤ n
+unfolding roomFits
+room-le k n m h = go (isChar k) h
+  where
+    go : (b : Bool) → cond b (leb m n) (eqb m n) ≡ true → m ≤ n
+    go true h = leb-true m n h
+    go false h = le-of-eq (eqb-true m n h)
+
+-- elements that fit their room take the bytes of it
+room-filled : (k : Shape) (n m : ℕ) → roomFits k n m ≡ true → cond (isChar k) n m ≡ n
+unfolding roomFits
+room-filled k n m h = go (isChar k) h
+  where
+    go : (b : Bool) → cond b (leb m n) (eqb m n) ≡ true → cond b n m ≡ n
+    go true h = refl
+    go false h = eqb-true m n h
+
 module _ (n : ℕ) (ns : List ℕ) where
   pub numbers-back : (k : Shape) → roomFits k n (length ns) ≡ true → All (IsNumber k) ns → numbersIn k n (bytesOf k n ns) ≡ good ns
   unfolding numbersIn bytesOf roomFits isChar
@@ -166,12 +198,17 @@ module _ (n : ℕ) (ns : List ℕ) where
   numbers-back (Whole g v) h a = rw (← eqb-true (length ns) n h) (ap good (numbers-groups (suc (last v)) ns a))
   numbers-back Text h a = ap good (beforeNul-filled ns (n - length ns) a)
 
-  pub length-bytes : (k : Shape) → roomFits k n (length ns) ≡ true → length (bytesOf k n ns) ≡ contentBytes k n
-  unfolding bytesOf contentBytes roomFits isChar
-  length-bytes Truths h = length-groups 1 ns ∙ omega (arith, eqb-true (length ns) n h)
-  length-bytes Bits h = length-pack ns ∙ ap bitBytes (eqb-true (length ns) n h)
-  length-bytes (Whole g v) h = length-groups (suc (last v)) ns ∙ ap (λ (m : ℕ). m * suc (last v)) (eqb-true (length ns) n h)
-  length-bytes Text h = simp (length-append, length-replicate) (omega (arith, leb-true (length ns) n h))
+  -- fewer elements than have room: characters are filled up
+  pub filled-length : (k : Shape) → length ns ≤ n → length (bytesOf k n ns) ≡ filledBytes k n (length ns)
+  unfolding bytesOf filledBytes contentBytes isChar
+  filled-length Truths h = length-groups 1 ns ∙ omega arith
+  filled-length Bits h = length-pack ns
+  filled-length (Whole g v) h = length-groups (suc (last v)) ns
+  filled-length Text h = simp (length-append, length-replicate) (omega arith)
+
+  length-bytes : (k : Shape) → roomFits k n (length ns) ≡ true → length (bytesOf k n ns) ≡ contentBytes k n
+  unfolding filledBytes
+  length-bytes k h = filled-length k (room-le k n (length ns) h) ∙ ap (contentBytes k) (room-filled k n (length ns) h)
 
 pub content-back : (k : Shape) (n : ℕ) (es : List ℤ) → roomFits k n (length es) ≡ true → All (λ (e : ℤ). isElement k e ≡ true) es
     → content k n (bytesOf k n (map (number k) es)) ≡ good es
@@ -194,6 +231,11 @@ count-back (Bounded n) m t b h =
 count-back Free m t b h =
     rw (front-back 4 (toDigits 256 4 m) t (length-to 256 4 m), of-to 256 (lit< tt) 4 m (omega arith), le-ltb 4096 m h)
 
+-- "a 4-byte unsigned count of elements, not bytes": two shorts are counted as 2
+counts-elements : take 4 (elementsBytes (record { kind = Short; len = Free; null = Undeclared }) (pos 7 ∷ pos 8 ∷ [])) ≡ 0 ∷ 0 ∷ 0 ∷ 2 ∷ []
+unfolding elementsBytes countBytes toDigits contentBytes shape last
+counts-elements = refl
+
 pub elements-back : (c : Column) (es : List ℤ) (rest : List ℕ) → IsColumn c → Elements c es
     → readBinary2 c false (elementsBytes c es ++ rest) ≡ good (show c es, rest)
 unfolding readBinary2 elementsBytes shows
@@ -214,14 +256,6 @@ zeros-back c rest i =
     rw (append-assoc, count-back (c .len) 0 _ (i .most-room) zero-le, front-back _ _ rest (length-replicate _ _))
 
 -- ---- room
-
-room-le : (k : Shape) (n m : ℕ) → roomFits k n m ≡ true → m ≤ n
-unfolding roomFits
-room-le k n m h = go (isChar k) h
-  where
-    go : (b : Bool) → cond b (leb m n) (eqb m n) ≡ true → m ≤ n
-    go true h = leb-true m n h
-    go false h = le-of-eq (eqb-true m n h)
 
 room-self : (k : Shape) (m : ℕ) → roomFits k m m ≡ true
 unfolding roomFits
@@ -264,6 +298,11 @@ empty-room k Free h = room-self k 0
 
 Back1 : Column → Cell → List ℕ → Type 0
 Back1 c x b = (rest : List ℕ) → readBinary c (b ++ rest) ≡ good (x, rest)
+
+-- "Null in BINARY: the declared null": a short's -99
+declared-null-written : writeBinary (record { kind = Short; len = Fixed 1; null = Declared (negsuc 98) }) null ≡ good (0xFF ∷ 0x9D ∷ [])
+unfolding writeBinary nullForm nullElement isScalar nullOfKind elementsBytes countBytes bytesOf groups number pattern toDigits shape last roomIn zeros contentBytes
+declared-null-written = refl
 
 null-back : (c : Column) (o : Option ℤ) → nullElement c ≡ o → IsColumn c → Holds (Back1 c null) (nullForm c o)
 unfolding nullElement nullForm Back1 readBinary show emptyIsNull isNullList
@@ -455,7 +494,7 @@ write-binary-fails c null = null-fails c (nullElement c)
 write-binary-fails c (shown []) = fails (lit≤ tt, lit≤ tt)
 write-binary-fails c (shown (e ∷ es)) = gives
 
--- ---- what is read can be written: the `requires` of the writers
+-- ---- what is read from a place fits its column
 
 pub read2-fits : (c : Column) (flagged : Bool) (s : List ℕ) (place : ℕ) (x : Cell) (rest : List ℕ) → AreBytes s → readBinary2 c flagged (drop place s) ≡ good (x, rest) → Fits c x
 read2-fits c flagged s place x rest a e = holds-at (binary2-fits c flagged (drop place s) (all-drop _ place s a)) e .0

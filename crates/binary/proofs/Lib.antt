@@ -1,4 +1,5 @@
 pub mod Laws
+pub mod Sizes
 pub mod Loops
 pub mod Digits
 pub mod Cells

@@ -1,28 +1,19 @@
 -- A turn of each loop that reads: what is still to come from here, behind what stands in the scratch, is the whole.
 use Prim.Native.Nat.{_%_, _*_, _+_, _-_, _/_, _<_, _^_, _≤_, suc, zero, ℕ}
 use Rattle.binary.specs.Binary.{atMost, beforeNul, counted, element, front, truth}
-use Rattle.binary.specs.Contracts.{nullAs}
 use Rattle.binary.specs.Reading.{integers}
 use Rattle.number.specs.Number.{ofDigits, ofPattern, toDigits}
-use Rattle.table.proofs.Laws.{same-self}
-use Rattle.table.specs.Cell.{isNullList, nullOfKind, sameInteger}
 use Rattle.table.specs.Outcome.{at}
 use Rattle.table.specs.Result.{Result, _>>=_, bad, every, good}
-use Rattle.table.specs.Shape.{Text, Truths, Whole, Width}
-use Rattle.table.specs.declared.Null.{Null}
-use Rattle.table.specs.declared.Null.the-variants.{Declared, Undeclared}
-use borrow.Author.Tests.{eq-eqb, eqb-true, le-ltb, lt-ltb, ne-eqb}
-use lib.Dec.{eqb}
-use lib.IntN.{negsuc, pos, ℤ}
+use Rattle.table.specs.Shape.{Text, Truths}
+use borrow.Author.Tests.{eq-eqb, le-ltb, lt-ltb, ne-eqb}
+use lib.IntN.{pos, ℤ}
 use lib.ListN.{drop, getD, length, length-drop, set, take}
 use lib.Seq.{drop-cons, drop-drop, sets, take-suc-set}
-use mathlib.Core.Bool.{Bool, false, false≢true, true}
+use mathlib.Core.Bool.{Bool}
 use mathlib.Core.List.{List, [], _++_, _∷_, append-assoc, append-nil, map}
 use mathlib.Core.Logic.{_⊎_, inl, inr}
-use mathlib.Core.Option.{some}
 use mathlib.Core.Path.{_∙_, _≡_, ap, refl, sym}
-use mir.Syntax.{w64}
-use mir.Val.{ofZ, toZ}
 use native.Mathlib.Nat.{mul-le-mul-right, sub-zero, suc-mul, zero-mul}
 use native.Mathlib.Numerals.{add-one}
 use native.Mathlib.Omega.{arith}
@@ -168,48 +159,9 @@ module _ (most at : ℕ) (s : List ℕ) (h : 4 ≤ length s - at) where
   unfolding atMost
   count-good n q m = count-at ∙ rw (← q, le-ltb most n m)
 
--- ---- null
-
 -- an element read k-th of n, each of w bytes, lies within
 pub place-fits : (k n w m : ℕ) → k < n → n * w ≤ m → k * w + w ≤ m
 place-fits k n w m h q = omega (arith, suc-mul k w, mul-le-mul-right {m = suc k} {n = n} w (let d : suc k ≤ n = omega arith in d))
 
 pub integers-start : (g : Bool) (w n : ℕ) (part : List ℕ) → integers g w (n - 0) (drop (0 * w) part) ≡ integers g w n part
 integers-start g w n part = rw (sub-zero n, zero-mul w)
-
-same-true : (a b : ℤ) → sameInteger a b ≡ true → a ≡ b
-unfolding sameInteger
-same-true (pos m) (pos n) h = ap pos (eqb-true m n h)
-same-true (pos m) (negsuc n) h = absurd (false≢true h)
-same-true (negsuc m) (pos n) h = absurd (false≢true h)
-same-true (negsuc m) (negsuc n) h = ap negsuc (eqb-true m n h)
-
--- two integers are the same where their bits are
-pub eq-bits : (a b : ℤ) → toZ w64 (ofZ w64 a) ≡ a → toZ w64 (ofZ w64 b) ≡ b → eqb (ofZ w64 a) (ofZ w64 b) ≡ sameInteger a b
-eq-bits a b f g = go (eqb (ofZ w64 a) (ofZ w64 b)) refl (sameInteger a b) refl
-  where
-    go : (x : Bool) → eqb (ofZ w64 a) (ofZ w64 b) ≡ x → (y : Bool) → sameInteger a b ≡ y → x ≡ y
-    go true e true h = refl
-    go false e false h = refl
-    go true e false h =
-        let q : a ≡ b = sym f ∙ ap (toZ w64) (eqb-true (ofZ w64 a) (ofZ w64 b) e) ∙ g in
-        absurd (false≢true (sym h ∙ ap (sameInteger a) (sym q) ∙ same-self a))
-    go false e true h = absurd (false≢true (sym e ∙ eq-eqb (ofZ w64 a) (ofZ w64 b) (ap (ofZ w64) (same-true a b h))))
-
-pub null-one : (count : ℕ) (scratch : List ℤ) (z d : ℤ) → count ≡ 1 → 1 ≤ length scratch → isNullList (some z) (take count scratch) ≡ sameInteger (getD scratch 0 d) z
-unfolding isNullList
-null-one count [] z d e h = absurd (omega arith)
-null-one count (x ∷ scratch) z d e h = rw e
-
-pub null-many : (count : ℕ) (scratch : List ℤ) (z : ℤ) → (count ≡ 1 → ⊥) → count ≤ length scratch → isNullList (some z) (take count scratch) ≡ false
-unfolding isNullList
-null-many zero scratch z e h = refl
-null-many (suc zero) scratch z e h = absurd (e refl)
-null-many (suc (suc n)) [] z e h = refl
-null-many (suc (suc n)) (x ∷ []) z e h = absurd (omega arith)
-null-many (suc (suc n)) (x ∷ y ∷ scratch) z e h = refl
-
-pub null-whole : (g : Bool) (v : Width) (n : Null) → nullAs n ≡ nullOfKind (Whole g v) n
-unfolding nullOfKind
-null-whole g v Undeclared = refl
-null-whole g v (Declared z) = refl

@@ -1,16 +1,14 @@
--- What is written: the size of a cell whose elements fill their room, its forms in BINARY, and the bytes of its elements.
+-- What is written: the forms of a cell, a turn of each loop that writes, and the bytes of elements by their shape.
 use Prim.Native.Nat.{_%_, _*_, _+_, _-_, _/_, _<_, _^_, _≤_, suc, zero, ℕ}
 use Rattle.binary.proofs.Digits.{drop-map, sets-then, take-map}
-use Rattle.binary.proofs.Laws.{length-bytes, length-groups, length-pack, scalar-room}
+use Rattle.binary.proofs.Laws.{length-groups, length-pack, scalar-room}
 use Rattle.binary.proofs.Loops.{no-byte}
-use Rattle.binary.specs.Binary.{bitBytes, bytesOf, canBeEmpty, contentBytes, countBytes, elementsBytes, groups, nullForm, number, pack, packed, truthByte, writeBinary, writeBinary2, zeros}
-use Rattle.binary.specs.Contracts.{bitOf, cellBytes}
-use Rattle.number.proofs.Laws.{length-to, low-pattern, of-append, pow-pos}
+use Rattle.binary.specs.Binary.{bitBytes, bitOf, bytesOf, canBeEmpty, contentBytes, countBytes, elementsBytes, groups, nullForm, number, pack, packed, truthByte, writeBinary, writeBinary2, zeros}
+use Rattle.number.proofs.Laws.{length-to, low-pattern, of-append, pattern-lt, pow-pos}
 use Rattle.number.specs.Contracts.{size}
 use Rattle.number.specs.Number.{ofDigits, pattern, toDigits}
-use Rattle.table.proofs.Laws.{and-both, last-le}
-use Rattle.table.specs.All.{All}
-use Rattle.table.specs.Cell.{Elements, Fits, IsColumn, below, bound, fits-shown, isChar, isElement, nullElement, nullOfKind, roomFits, roomIn, shown}
+use Rattle.table.proofs.Laws.{last-le}
+use Rattle.table.specs.Cell.{bound, isChar, nullElement, nullOfKind, roomIn, shown}
 use Rattle.table.specs.Contracts.{held}
 use Rattle.table.specs.Outcome.{at}
 use Rattle.table.specs.Result.{bad, good}
@@ -19,55 +17,22 @@ use Rattle.table.specs.Wrote.{Wrote}
 use Rattle.table.specs.declared.Column.{Column}
 use Rattle.table.specs.declared.Len.{Len}
 use Rattle.table.specs.declared.Len.the-variants.{Bounded, Fixed, Free}
-use borrow.Author.Tests.{ltb-true}
-use lib.Dec.{lit<, ltb}
+use lib.Dec.{lit<, lit≤}
 use lib.IntN.{negsuc, pos, ℤ}
 use lib.ListN.{drop, getD, length, length-append, length-drop, length-map, length-replicate, replicate, set, take}
 use lib.Pow.{pow-add, pow-mono, shl-exact}
 use lib.Seq.{drop-append-le, drop-cons, drop-drop, length-take-le, sets, take-all, take-append-le, take-take}
-use mathlib.Core.Bool.{Bool, false, false≢true, not, true}
+use mathlib.Core.Bool.{Bool, false, false≢true, true}
 use mathlib.Core.List.{List, [], _++_, _∷_, map}
 use mathlib.Core.Option.{none, some}
 use mathlib.Core.Path.{_∙_, _≡_, ap, ap₂, refl, sym}
-use native.Mathlib.Nat.{le-refl, mul-le-mul-right, mul-one, pow-succ', sub-zero, suc-mul, zero-add, zero-mul}
+use native.Mathlib.Nat.{mul-le-mul-right, mul-one, pow-succ', sub-zero, suc-mul, zero-mul}
 use native.Mathlib.Numerals.{add-one}
 use native.Mathlib.Omega.{arith}
 
--- ---- sizes
-
-module _ (c : Column) (n m : ℕ) where
-  pub cell-fixed : c .len ≡ Fixed n → cellBytes c m ≡ contentBytes (shape (c .kind)) n
-  unfolding cellBytes countBytes roomIn
-  cell-fixed e = rw e (zero-add _)
-
-  pub cell-bounded : c .len ≡ Bounded n → cellBytes c m ≡ 4 + contentBytes (shape (c .kind)) m
-  unfolding cellBytes countBytes roomIn
-  cell-bounded e = rw (e, length-to 256 4 m)
-
-pub cell-free : (c : Column) (m : ℕ) → c .len ≡ Free → cellBytes c m ≡ 4 + contentBytes (shape (c .kind)) m
-unfolding cellBytes countBytes roomIn
-cell-free c m e = rw (e, length-to 256 4 m)
-
-pub room-length : (c : Column) (es : List ℤ) → roomFits (shape (c .kind)) (roomIn (c .len) (length es)) (length es) ≡ true
-    → length (elementsBytes c es) ≡ cellBytes c (length es)
-unfolding elementsBytes cellBytes
-room-length c es h =
-    let k : Shape = shape (c .kind) in
-    let n : ℕ = roomIn (c .len) (length es) in
-    length-append (countBytes (c .len) (length es)) (bytesOf k n (map (number k) es))
-    ∙ ap (λ (j : ℕ). length (countBytes (c .len) (length es)) + j) (length-bytes n (map (number k) es) k (rw length-map h))
-
-pub zeros-length : (c : Column) → length (zeros c) ≡ cellBytes c 0
-unfolding zeros cellBytes
-zeros-length c = simp (length-append, length-replicate)
-
-pub fits-elements : {c : Column} {es : List ℤ} → Fits c (shown es) → Elements c es
-fits-elements (fits-shown e n) = e
+-- ---- a cell that the code holds
 
 module _ (c : Column) (flag : Bool) (count : ℕ) (scratch : List ℤ) where
-  pub held-elements : flag ≡ false → Fits c (held flag count scratch) → Elements c (take count scratch)
-  held-elements e f = fits-elements (rw e at f)
-
   pub write2-null : flag ≡ true → writeBinary2 c (held flag count scratch) ≡ zeros c
   unfolding writeBinary2
   write2-null e = rw e
@@ -87,13 +52,6 @@ module _ (c : Column) (flag : Bool) (count : ℕ) (scratch : List ℤ) where
   unfolding writeBinary
   write-empty e h = write-held e ∙ rw h
 
-  module _ (x : Elements c (take count scratch)) (h : count ≤ length scratch) where
-    pub count-few : count ≤ bound (c .len)
-    count-few = rw (length-take-le count scratch h) at (x .few)
-
-    pub shown-length : length (elementsBytes c (take count scratch)) ≡ cellBytes c count
-    shown-length = room-length c (take count scratch) (x .room) ∙ ap (cellBytes c) (length-take-le count scratch h)
-
 write-some : (c : Column) (es : List ℤ) → (length es ≡ 0 → ⊥) → writeBinary c (shown es) ≡ good (elementsBytes c es)
 unfolding writeBinary
 write-some c [] h = absurd (h refl)
@@ -107,9 +65,9 @@ write-shown c flag count scratch e n h =
 -- ---- null in BINARY
 
 module _ (c : Column) where
-  pub null-scalar : (z : ℤ) → nullElement c ≡ some z → (roomFits (shape (c .kind)) (roomIn (c .len) 1) 1 ≡ true) × (1 ≤ bound (c .len))
+  pub null-bound : (z : ℤ) → nullElement c ≡ some z → 1 ≤ bound (c .len)
   unfolding nullElement
-  null-scalar z q = scalar-room (shape (c .kind)) (c .len) (nullOfKind (shape (c .kind)) (c .null)) z q
+  null-bound z q = scalar-room (shape (c .kind)) (c .len) (nullOfKind (shape (c .kind)) (c .null)) z q .1
 
   pub null-some : (z : ℤ) → nullElement c ≡ some z → nullForm c (nullElement c) ≡ good (elementsBytes c (z ∷ []))
   unfolding nullForm
@@ -122,9 +80,6 @@ module _ (c : Column) where
   pub null-none : nullElement c ≡ none → canBeEmpty (shape (c .kind)) (c .len) ≡ false → nullForm c (nullElement c) ≡ bad 15
   unfolding nullForm
   null-none q h = rw (q, h)
-
-  pub null-elements : (z : ℤ) → IsColumn c → nullElement c ≡ some z → Elements c (z ∷ [])
-  null-elements z i q = record { each = (i .null-is z q, tt); room = null-scalar z q .0; few = null-scalar z q .1 }
 
 empty-bytes : (k : Shape) (n : ℕ) → n ≡ 0 → bytesOf k n [] ≡ replicate (contentBytes k n) 0
 unfolding bytesOf contentBytes bitBytes groups pack packed
@@ -191,31 +146,23 @@ truth-bytes (pos (suc zero) ∷ es) = ap (λ (l : List ℕ). 84 ∷ l) (truth-by
 truth-bytes (pos (suc (suc n)) ∷ es) = ap (λ (l : List ℕ). 63 ∷ l) (truth-bytes es)
 truth-bytes (negsuc n ∷ es) = ap (λ (l : List ℕ). 63 ∷ l) (truth-bytes es)
 
-pub text-bytes : (es : List ℤ) → All (λ (e : ℤ). isElement Text e ≡ true) es → groups 1 (map (pattern 8) es) ≡ map (number Text) es
-unfolding groups number toDigits pattern isElement below
-text-bytes [] a = refl
-text-bytes (pos n ∷ es) a =
-    let h : n < 128 = ltb-true n 128 (and-both (ltb n 128) (not (ltb n 1)) (a .0) .0) in
-    ap₂ (λ (x : ℕ) (l : List ℕ). x ∷ l) (let e : n / 1 % 256 ≡ n = omega arith in e) (text-bytes es (a .1))
-text-bytes (negsuc n ∷ es) a = absurd (false≢true (a .0))
+text-bytes : (es : List ℤ) → groups 1 (map (pattern 8) es) ≡ map (number Text) es
+unfolding groups number
+text-bytes [] = refl
+text-bytes (e ∷ es) = ap₂ _++_ (low-pattern 1 e (lit≤ tt) ∙ one-byte (pattern 1 e) (pattern-lt 1 e)) (text-bytes es)
+  where
+    one-byte : (n : ℕ) → n < 256 ^ 1 → toDigits 256 1 n ≡ n ∷ []
+    one-byte n h = unfold toDigits in ap (λ (x : ℕ). x ∷ []) (let e : n / 1 % 256 ≡ n = omega arith in e)
 
-pub whole-bytes : (g : Bool) (v : Width) (es : List ℤ) → All (λ (e : ℤ). isElement (Whole g v) e ≡ true) es
-    → groups (suc (last v)) (map (pattern 8) es) ≡ groups (suc (last v)) (map (number (Whole g v)) es)
-unfolding groups number isElement
-whole-bytes g v [] a = refl
-whole-bytes g v (e ∷ es) a = ap₂ _++_ (low-pattern g (last v) e (last-le v) (a .0)) (whole-bytes g v es (a .1))
-
-pub bit-bytes : (es : List ℤ) → All (λ (e : ℤ). isElement Bits e ≡ true) es → map bitOf es ≡ map (number Bits) es
-unfolding number pattern isElement below
-bit-bytes [] a = refl
-bit-bytes (pos zero ∷ es) a = ap (λ (l : List ℕ). 0 ∷ l) (bit-bytes es (a .1))
-bit-bytes (pos (suc zero) ∷ es) a = ap (λ (l : List ℕ). 1 ∷ l) (bit-bytes es (a .1))
-bit-bytes (pos (suc (suc n)) ∷ es) a = absurd (omega (arith, ltb-true (suc (suc n)) 2 (a .0)))
-bit-bytes (negsuc n ∷ es) a = absurd (false≢true (a .0))
+pub whole-bytes : (g : Bool) (v : Width) (es : List ℤ) → groups (suc (last v)) (map (pattern 8) es) ≡ groups (suc (last v)) (map (number (Whole g v)) es)
+unfolding groups number
+whole-bytes g v [] = refl
+whole-bytes g v (e ∷ es) = ap₂ _++_ (low-pattern (suc (last v)) e (last-le v)) (whole-bytes g v es)
 
 -- ---- an element compared
 
 pub bit-zero : (z : ℤ) → (z ≡ pos 1 → ⊥) → 0 ≡ bitOf z
+unfolding bitOf
 bit-zero (pos zero) h = refl
 bit-zero (pos (suc zero)) h = absurd (h refl)
 bit-zero (pos (suc (suc n))) h = refl
@@ -344,31 +291,18 @@ length-packed-bits count scratch h = length-pack (map bitOf (take count scratch)
 
 -- ---- a cell of parts
 
-pub cell-parts : (c : Column) (n : ℕ) → cellBytes c n ≡ length (countBytes (c .len) n) + contentBytes (shape (c .kind)) (roomIn (c .len) n)
-unfolding cellBytes
-cell-parts c n = refl
-
-pub room-bound : (l : Len) (m : ℕ) → m ≤ bound l → roomIn l m ≤ bound l
-unfolding roomIn bound
-room-bound (Fixed n) m h = le-refl n
-room-bound (Bounded n) m h = h
-room-bound Free m h = h
-
 pub zeros-as : (c : Column) (size : ℕ) → size ≡ contentBytes (shape (c .kind)) (roomIn (c .len) 0) → countBytes (c .len) 0 ++ replicate size 0 ≡ zeros c
 unfolding zeros
 zeros-as c size e = rw e
 
-module _ (c : Column) (count room : ℕ) (scratch : List ℤ) (h : count ≤ length scratch) (q : room ≡ roomIn (c .len) count) where
-  pub elements-as : countBytes (c .len) count ++ bytesOf (shape (c .kind)) room (map (number (shape (c .kind))) (take count scratch)) ≡ elementsBytes c (take count scratch)
-  unfolding elementsBytes
-  elements-as = rw (q, length-take-le count scratch h)
+pub elements-as : (c : Column) (count room : ℕ) (scratch : List ℤ) → count ≤ length scratch → room ≡ roomIn (c .len) count
+    → countBytes (c .len) count ++ bytesOf (shape (c .kind)) room (map (number (shape (c .kind))) (take count scratch)) ≡ elementsBytes c (take count scratch)
+unfolding elementsBytes
+elements-as c count room scratch h q = rw (q, length-take-le count scratch h)
 
-  pub elements-room : Elements c (take count scratch) → roomFits (shape (c .kind)) room count ≡ true
-  elements-room x = rw q (rw (length-take-le count scratch h) at (x .room))
-
-pub text-filled : (room count : ℕ) (scratch : List ℤ) → count ≤ length scratch → All (λ (e : ℤ). isElement Text e ≡ true) (take count scratch)
+pub text-filled : (room count : ℕ) (scratch : List ℤ) → count ≤ length scratch
     → groups 1 (map (pattern 8) (take count scratch)) ++ replicate (room - count) 0 ≡ bytesOf Text room (map (number Text) (take count scratch))
 unfolding bytesOf
-text-filled room count scratch h a =
+text-filled room count scratch h =
     let l : length (map (number Text) (take count scratch)) ≡ count = length-map (take count scratch) (number Text) ∙ length-take-le count scratch h in
-    ap₂ (λ (x : List ℕ) (k : ℕ). x ++ replicate (room - k) 0) (text-bytes (take count scratch) a) (sym l)
+    ap₂ (λ (x : List ℕ) (k : ℕ). x ++ replicate (room - k) 0) (text-bytes (take count scratch)) (sym l)

@@ -32,6 +32,13 @@ truthByte (pos (suc zero)) = byte "T"
 truthByte (pos (suc (suc n))) = byte "?"
 truthByte (negsuc n) = byte "?"
 
+-- a bit is 1 where its element is
+unfoldable pub bitOf : ℤ → ℕ
+bitOf (pos zero) = 0
+bitOf (pos (suc zero)) = 1
+bitOf (pos (suc (suc n))) = 0
+bitOf (negsuc n) = 0
+
 -- the element whose bytes (or bit) are this number; "Char is one byte below 128"
 unfoldable pub element : Shape → ℕ → Result ℕ ℤ
 element Truths n = truth n
@@ -41,7 +48,7 @@ element Text n = cond (ltb n 128) (good (pos n)) (bad 11)
 
 unfoldable pub number : Shape → ℤ → ℕ
 number Truths e = truthByte e
-number Bits e = pattern 1 e
+number Bits e = bitOf e
 number (Whole g v) e = pattern (suc (last v)) e
 number Text e = pattern 1 e
 

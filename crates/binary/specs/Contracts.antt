@@ -1,11 +1,10 @@
 -- What the contracts of the code speak of beside the definitions: each case of an answer as the definitions have it.
-use Prim.Native.Nat.{_+_, _<_, _^_, _≤_, suc, zero, ℕ}
+use Prim.Native.Nat.{_+_, _<_, _^_, _≤_, ℕ}
 use mathlib.Core.Bool.{Bool, cond, false, true}
-use mathlib.Core.List.{List, []}
-use mathlib.Core.Option.{Option, none, some}
+use mathlib.Core.List.{List}
 use mathlib.Core.Path.{_≡_}
 use lib.Dec.{ltb}
-use lib.IntN.{negsuc, pos, ℤ}
+use lib.IntN.{pos, ℤ}
 use lib.ListN.{drop, length, take}
 use Rattle.binary.specs.Binary.{bitBytes, contentBytes, countBytes, front, unpack}
 use Rattle.binary.specs.declared.Content.{Content}
@@ -15,12 +14,10 @@ use Rattle.binary.specs.declared.Count.the-variants.{Elements, Uncounted
 use Rattle.binary.specs.declared.Flags.{Flags}
 use Rattle.binary.specs.declared.Flags.the-variants.{Are, Spoiled}
 use Rattle.number.specs.Number.{toDigits}
-use Rattle.table.specs.Cell.{roomIn}
+use Rattle.table.specs.Cell.{isChar, roomIn}
 use Rattle.table.specs.Result.{Result, _>>=_, bad, good}
-use Rattle.table.specs.Shape.{shape}
+use Rattle.table.specs.Shape.{Shape, shape}
 use Rattle.table.specs.declared.Column.{Column}
-use Rattle.table.specs.declared.Null.{Null}
-use Rattle.table.specs.declared.Null.the-variants.{Declared, Undeclared}
 
 -- ---- the count of a cell
 
@@ -59,29 +56,19 @@ pub record Fills (definition : Result ℕ (List ℤ)) (most : ℕ) (entry exit :
 abbrev pub truthAs : ℕ → Result ℕ ℤ
 truthAs r = cond (ltb r 3) (good (pos r)) (bad 11)
 
--- ---- null
+-- ---- a cell is measured
 
-abbrev pub nullAs : Null → Option ℤ
-nullAs Undeclared = none
-nullAs (Declared z) = some z
+-- the bytes of m elements where n have room: "fixed char filled up with NUL"
+unfoldable pub filledBytes : Shape → ℕ → ℕ → ℕ
+filledBytes k n m = contentBytes k (cond (isChar k) n m)
 
--- ---- a cell is written
+-- the bytes of a cell of m elements
+unfoldable pub elementsSize : Column → ℕ → ℕ
+elementsSize c m = length (countBytes (c .len) m) + filledBytes (shape (c .kind)) (roomIn (c .len) m) m
 
--- the bytes of a cell whose elements fill their room
-unfoldable pub cellBytes : Column → ℕ → ℕ
-cellBytes c n = length (countBytes (c .len) n) + contentBytes (shape (c .kind)) (roomIn (c .len) n)
-
--- the bytes of a form that exists, and none where there is none
-abbrev pub formOf : Result ℕ (List ℕ) → List ℕ
-formOf (good b) = b
-formOf (bad n) = []
-
--- a bit as the code takes it from the scratch
-abbrev pub bitOf : ℤ → ℕ
-bitOf (pos zero) = 0
-bitOf (pos (suc zero)) = 1
-bitOf (pos (suc (suc n))) = 0
-bitOf (negsuc n) = 0
+-- the bytes of a cell with room for m elements; a null's are all 0
+unfoldable pub roomSize : Column → ℕ → ℕ
+roomSize c m = length (countBytes (c .len) m) + contentBytes (shape (c .kind)) (roomIn (c .len) m)
 
 -- ---- the flags of a BINARY2 row
 

@@ -7,24 +7,23 @@ use table::Len;
 use table::Null;
 use table::Size;
 ghost use mathlib.Core.Bool.{false, true};
-ghost use mathlib.Core.List.{List, [], _++_, _∷_, map};
+ghost use mathlib.Core.List.{[], _++_, _∷_, map};
 ghost use mathlib.Core.Path.{_≡_};
 ghost use Prim.Native.Nat.{_*_, _+_, _-_, _^_, _<_, _≤_};
 ghost use lib.Dec.{eqb};
-ghost use lib.IntN.{pos, ℤ};
+ghost use lib.IntN.{pos};
 ghost use lib.ListN.{drop, getD, length, replicate, take};
 ghost use lib.Seq.{sets};
 ghost use Rattle.number.specs.Contracts.{isSigned, size, widthOf};
 ghost use Rattle.number.specs.Number.{ofDigits, pattern, toDigits};
-ghost use Rattle.table.specs.All.{All};
-ghost use Rattle.table.specs.Cell.{Elements, Fits, IsColumn, bound, isElement, isNullList, nullElement, nullOfKind, roomFits, roomIn};
-ghost use Rattle.table.specs.Contracts.{Reads, held, sizeAs, sizeOf};
-ghost use Rattle.table.specs.Result.{every, good};
+ghost use Rattle.table.specs.Cell.{bound, isChar, nullElement, roomIn};
+ghost use Rattle.table.specs.Contracts.{Reads, formBytes, held, sizeAs, sizeOf};
+ghost use Rattle.table.specs.Result.{every};
 ghost use Rattle.table.specs.Shape.{Bits, Text, Truths, Whole, shape};
 ghost use Rattle.table.specs.Wrote.{Wrote};
-ghost use Rattle.binary.specs.Binary.{beforeNul, bitBytes, bytesOf, canBeEmpty, content, contentBytes, countBytes, countIn, counted, element, elementsBytes, groups, nullForm, number, pack, readBinary, readBinary2, truthByte, writeBinary, writeBinary2, zeros};
-ghost use Rattle.binary.specs.Contracts.{Counts, Fills, ReadsFlags, bitOf, cellBytes, flagBit, formOf, nullAs, readFlags, truthAs};
-ghost use Rattle.binary.specs.Reading.{integers, readCounted};
+ghost use Rattle.binary.specs.Binary.{beforeNul, bitBytes, bitOf, bytesOf, canBeEmpty, content, contentBytes, countBytes, countIn, counted, element, elementsBytes, groups, nullForm, number, pack, readBinary, readBinary2, truthByte, writeBinary, writeBinary2, zeros};
+ghost use Rattle.binary.specs.Contracts.{Counts, Fills, ReadsFlags, elementsSize, filledBytes, flagBit, readFlags, roomSize, truthAs};
+ghost use Rattle.binary.specs.Reading.{readCounted};
 
 // A count of elements and the place after it, or the number of its refusal.
 pub enum Count {
@@ -208,52 +207,6 @@ fn read_content(part: &[u8], n: usize, kind: Kind, scratch: &mut [i64]) -> Conte
     }
 }
 
-// ---- "A cell shows null or a list of elements."
-
-fn null_of_kind(kind: Kind, null: Null) -> Null
-    ensures { λ r. ⌜ nullAs r ≡ nullOfKind (shape kind) null ⌝ }
-{
-    match kind {
-        Kind::Boolean => Null::Declared(2),
-        Kind::Bit => Null::Undeclared,
-        Kind::UnsignedByte => null,
-        Kind::Short => null,
-        Kind::Int => null,
-        Kind::Long => null,
-        Kind::Char => Null::Undeclared,
-    }
-}
-
-// The element that stands for null in a column.
-fn null_element(column: Column) -> Null
-    ensures { λ r. ⌜ nullAs r ≡ nullElement column ⌝ }
-{
-    let kind = column.kind;
-    let len = column.len;
-    let null = column.null;
-    match len {
-        Len::Fixed(n) => {
-            if n == 1 {
-                null_of_kind(kind, null)
-            } else {
-                Null::Undeclared
-            }
-        }
-        Len::Bounded(_) => Null::Undeclared,
-        Len::Free => Null::Undeclared,
-    }
-}
-
-fn is_null(null: Null, count: usize, scratch: &[i64]) -> bool
-    requires { ⌜ count ≤ length (now scratch) ⌝ }
-    ensures { λ r. ⌜ r ≡ isNullList (nullAs null) (take count (now (scratch .entry))) ⌝ }
-{
-    match null {
-        Null::Undeclared => false,
-        Null::Declared(z) => { if count == 1 { scratch[0] == z } else { false } }
-    }
-}
-
 // ---- a cell
 
 // The cell after its count. "its content is skipped unread" where it is flagged.
@@ -281,7 +234,7 @@ fn read_counted(
     match content {
         Content::Broken(k) => Found::Refused(k),
         Content::Filled(m) => {
-            if is_null(null_element(column), m, scratch) {
+            if table::is_null(table::null_element(column), m, scratch) {
                 Found::Null(next)
             } else {
                 Found::Shown(m, next)
@@ -329,10 +282,44 @@ pub fn read_binary(s: &[u8], at: usize, column: Column, scratch: &mut [i64]) -> 
 
 // ---- a cell is measured
 
-// The bytes of a cell of so many elements, which fill their room.
-fn cell_bytes(column: Column, count: usize) -> usize
-    requires { ⌜ (count ≤ bound (column .len)) × (bound (column .len) ≤ 4096) ⌝ }
-    ensures { λ r. ⌜ (r ≡ cellBytes column count) × (r ≤ 32772) ⌝ }
+fn is_char(kind: Kind) -> bool
+    ensures { λ r. ⌜ r ≡ isChar (shape kind) ⌝ }
+{
+    match kind {
+        Kind::Boolean => false,
+        Kind::Bit => false,
+        Kind::UnsignedByte => false,
+        Kind::Short => false,
+        Kind::Int => false,
+        Kind::Long => false,
+        Kind::Char => true,
+    }
+}
+
+// "fixed char filled up with NUL; variable char with the shown length"
+fn elements_size(column: Column, count: usize) -> usize
+    requires { ⌜ (bound (column .len) ≤ 4096) × (count ≤ bound (column .len)) ⌝ }
+    ensures { λ r. ⌜ r ≡ elementsSize column count ⌝ }
+{
+    let kind = column.kind;
+    let len = column.len;
+    match len {
+        Len::Fixed(n) => {
+            if is_char(kind) {
+                n
+            } else {
+                content_bytes(kind, count)
+            }
+        }
+        Len::Bounded(_) => 4 + content_bytes(kind, count),
+        Len::Free => 4 + content_bytes(kind, count),
+    }
+}
+
+// The bytes of a cell with room for so many elements, as a null has them for none.
+fn room_size(column: Column, count: usize) -> usize
+    requires { ⌜ (bound (column .len) ≤ 4096) × (count ≤ bound (column .len)) ⌝ }
+    ensures { λ r. ⌜ r ≡ roomSize column count ⌝ }
 {
     let kind = column.kind;
     let len = column.len;
@@ -344,13 +331,13 @@ fn cell_bytes(column: Column, count: usize) -> usize
 }
 
 pub fn size_binary2(column: Column, null: bool, count: usize, scratch: &[i64]) -> usize
-    requires { ⌜ (bound (column .len) ≤ 4096) × (count ≤ length (now scratch)) × Fits column (held null count (now scratch)) ⌝ }
+    requires { ⌜ (bound (column .len) ≤ 4096) × (count ≤ bound (column .len)) × (count ≤ length (now scratch)) ⌝ }
     ensures { λ r. ⌜ r ≡ length (writeBinary2 column (held null count (now (scratch .entry)))) ⌝ }
 {
     if null {
-        return cell_bytes(column, 0);
+        return room_size(column, 0);
     }
-    cell_bytes(column, count)
+    elements_size(column, count)
 }
 
 // "count 0 for bounded and free, NULs for fixed char; else 15"
@@ -358,15 +345,7 @@ fn can_be_empty(kind: Kind, len: Len) -> bool
     ensures { λ r. ⌜ r ≡ canBeEmpty (shape kind) len ⌝ }
 {
     match len {
-        Len::Fixed(_) => match kind {
-            Kind::Boolean => false,
-            Kind::Bit => false,
-            Kind::UnsignedByte => false,
-            Kind::Short => false,
-            Kind::Int => false,
-            Kind::Long => false,
-            Kind::Char => true,
-        },
+        Len::Fixed(_) => is_char(kind),
         Len::Bounded(_) => true,
         Len::Free => true,
     }
@@ -379,12 +358,12 @@ fn null_size(column: Column) -> Size
 {
     let kind = column.kind;
     let len = column.len;
-    let null = null_element(column);
+    let null = table::null_element(column);
     match null {
-        Null::Declared(_) => Size::Bytes(cell_bytes(column, 1)),
+        Null::Declared(_) => Size::Bytes(elements_size(column, 1)),
         Null::Undeclared => {
             if can_be_empty(kind, len) {
-                Size::Bytes(cell_bytes(column, 0))
+                Size::Bytes(room_size(column, 0))
             } else {
                 Size::NoForm(15)
             }
@@ -393,7 +372,7 @@ fn null_size(column: Column) -> Size
 }
 
 pub fn size_binary(column: Column, null: bool, count: usize, scratch: &[i64]) -> Size
-    requires { ⌜ (bound (column .len) ≤ 4096) × (count ≤ length (now scratch)) × Fits column (held null count (now scratch)) ⌝ }
+    requires { ⌜ (bound (column .len) ≤ 4096) × (count ≤ bound (column .len)) × (count ≤ length (now scratch)) ⌝ }
     ensures { λ r. ⌜ sizeAs r ≡ sizeOf (writeBinary column (held null count (now (scratch .entry)))) ⌝ }
 {
     if null {
@@ -402,7 +381,7 @@ pub fn size_binary(column: Column, null: bool, count: usize, scratch: &[i64]) ->
     if count == 0 {
         return Size::NoForm(14);
     }
-    Size::Bytes(cell_bytes(column, count))
+    Size::Bytes(elements_size(column, count))
 }
 
 // ---- a cell is written
@@ -520,8 +499,7 @@ fn put_content(
     out: &mut [u8],
     at: usize,
 ) -> usize
-    requires { ⌜ (at + contentBytes (shape kind) room ≤ length (now out)) × (count ≤ length (now scratch)) × (count ≤ 4096) ⌝ }
-    requires { ⌜ (roomFits (shape kind) room count ≡ true) × All (λ (e : ℤ). isElement (shape kind) e ≡ true) (take count (now scratch)) ⌝ }
+    requires { ⌜ (count ≤ room) × (count ≤ length (now scratch)) × (at + filledBytes (shape kind) room count ≤ length (now out)) ⌝ }
     ensures { λ r. ⌜ Wrote (now (out .entry)) at (bytesOf (shape kind) room (map (number (shape kind)) (take count (now (scratch .entry))))) (now (out .exit)) r ⌝ }
 {
     match kind {
@@ -549,8 +527,8 @@ fn room_in(len: Len, count: usize) -> usize
 }
 
 fn put_elements(column: Column, count: usize, scratch: &[i64], out: &mut [u8], at: usize) -> usize
-    requires { ⌜ (bound (column .len) ≤ 4096) × (count ≤ length (now scratch)) × Elements column (take count (now scratch)) ⌝ }
-    requires { ⌜ at + cellBytes column count ≤ length (now out) ⌝ }
+    requires { ⌜ (bound (column .len) ≤ 4096) × (count ≤ bound (column .len)) × (count ≤ length (now scratch)) ⌝ }
+    requires { ⌜ at + length (elementsBytes column (take count (now scratch))) ≤ length (now out) ⌝ }
     ensures { λ r. ⌜ Wrote (now (out .entry)) at (elementsBytes column (take count (now (scratch .entry)))) (now (out .exit)) r ⌝ }
 {
     let kind = column.kind;
@@ -562,7 +540,7 @@ fn put_elements(column: Column, count: usize, scratch: &[i64], out: &mut [u8], a
 
 // "Null in BINARY2: flag, zero bytes, count 0."
 fn put_null(column: Column, out: &mut [u8], at: usize) -> usize
-    requires { ⌜ (bound (column .len) ≤ 4096) × (at + cellBytes column 0 ≤ length (now out)) ⌝ }
+    requires { ⌜ (bound (column .len) ≤ 4096) × (at + length (zeros column) ≤ length (now out)) ⌝ }
     ensures { λ r. ⌜ Wrote (now (out .entry)) at (zeros column) (now (out .exit)) r ⌝ }
 {
     let kind = column.kind;
@@ -580,7 +558,7 @@ pub fn write_binary2(
     out: &mut [u8],
     at: usize,
 ) -> usize
-    requires { ⌜ (bound (column .len) ≤ 4096) × (count ≤ length (now scratch)) × Fits column (held null count (now scratch)) ⌝ }
+    requires { ⌜ (bound (column .len) ≤ 4096) × (count ≤ bound (column .len)) × (count ≤ length (now scratch)) ⌝ }
     requires { ⌜ at + length (writeBinary2 column (held null count (now scratch))) ≤ length (now out) ⌝ }
     ensures { λ r. ⌜ Wrote (now (out .entry)) at (writeBinary2 column (held null count (now (scratch .entry)))) (now (out .exit)) r ⌝ }
 {
@@ -592,12 +570,12 @@ pub fn write_binary2(
 
 // A null that BINARY has a form for; nothing where it has none.
 fn put_binary_null(column: Column, out: &mut [u8], at: usize) -> usize
-    requires { ⌜ IsColumn column × (at + length (formOf (nullForm column (nullElement column))) ≤ length (now out)) ⌝ }
-    ensures { λ r. ⌜ Wrote (now (out .entry)) at (formOf (nullForm column (nullElement column))) (now (out .exit)) r ⌝ }
+    requires { ⌜ (bound (column .len) ≤ 4096) × (at + length (formBytes (nullForm column (nullElement column))) ≤ length (now out)) ⌝ }
+    ensures { λ r. ⌜ Wrote (now (out .entry)) at (formBytes (nullForm column (nullElement column))) (now (out .exit)) r ⌝ }
 {
     let kind = column.kind;
     let len = column.len;
-    let null = null_element(column);
+    let null = table::null_element(column);
     match null {
         Null::Declared(z) => {
             let one = [z; 1];
@@ -621,9 +599,9 @@ pub fn write_binary(
     out: &mut [u8],
     at: usize,
 ) -> usize
-    requires { ⌜ IsColumn column × (count ≤ length (now scratch)) × Fits column (held null count (now scratch)) ⌝ }
-    requires { ⌜ at + length (formOf (writeBinary column (held null count (now scratch)))) ≤ length (now out) ⌝ }
-    ensures { λ r. ⌜ Wrote (now (out .entry)) at (formOf (writeBinary column (held null count (now (scratch .entry))))) (now (out .exit)) r ⌝ }
+    requires { ⌜ (bound (column .len) ≤ 4096) × (count ≤ bound (column .len)) × (count ≤ length (now scratch)) ⌝ }
+    requires { ⌜ at + length (formBytes (writeBinary column (held null count (now scratch)))) ≤ length (now out) ⌝ }
+    ensures { λ r. ⌜ Wrote (now (out .entry)) at (formBytes (writeBinary column (held null count (now (scratch .entry))))) (now (out .exit)) r ⌝ }
 {
     if null {
         return put_binary_null(column, out, at);
@@ -642,7 +620,7 @@ pub enum Flags {
     Spoiled(u64),
 }
 
-pub fn flag_bytes(columns: usize) -> usize
+fn flag_bytes(columns: usize) -> usize
     requires { ⌜ columns ≤ 64 ⌝ }
     ensures { λ r. ⌜ (r ≡ bitBytes columns) × (r ≤ 8) ⌝ }
 {
@@ -684,21 +662,22 @@ pub fn read_flags(s: &[u8], at: usize, columns: usize) -> Flags
 // The flag of column k.
 pub fn is_flagged(flags: u64, columns: usize, k: usize) -> bool
     requires { ⌜ (k < columns) × (columns ≤ 64) ⌝ }
-    ensures { λ r. ⌜ r ≡ eqb (getD (toDigits 2 columns flags) k 0) 1 ⌝ }
+    ensures { λ r. ⌜ r ≡ eqb (getD (toDigits 2 columns flags) k 0) (flagBit true) ⌝ }
 {
     (flags >> (columns - 1 - k)) % 2 == 1
 }
 
 // The flags of k columns, and the next one's.
 pub fn add_flag(flags: u64, k: usize, null: bool) -> u64
-    requires { ⌜ (flags < 2 ^ k) × (k < 64) ⌝ }
-    ensures { λ r. ⌜ (toDigits 2 (k + 1) r ≡ toDigits 2 k flags ++ (flagBit null ∷ [])) × (r < 2 ^ (k + 1)) ⌝ }
+    requires { ⌜ k < 64 ⌝ }
+    ensures { λ r. ⌜ toDigits 2 (k + 1) r ≡ toDigits 2 k flags ++ (flagBit null ∷ []) ⌝ }
 {
-    if null { flags * 2 + 1 } else { flags * 2 }
+    let others = flags << 1;
+    if null { others + 1 } else { others }
 }
 
 pub fn write_flags(flags: u64, columns: usize, out: &mut [u8], at: usize) -> usize
-    requires { ⌜ (flags < 2 ^ columns) × (columns ≤ 64) × (at + bitBytes columns ≤ length (now out)) ⌝ }
+    requires { ⌜ (columns ≤ 64) × (at + bitBytes columns ≤ length (now out)) ⌝ }
     ensures { λ r. ⌜ Wrote (now (out .entry)) at (pack (toDigits 2 columns flags)) (now (out .exit)) r ⌝ }
 {
     let n = flag_bytes(columns);

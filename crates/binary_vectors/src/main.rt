@@ -1,30 +1,28 @@
-// The edge cases of a binary cell, run. A script has them one after the other; for each a line says what is read, the sizes in BINARY2 and
-// BINARY and the bytes of BINARY2; then again with the input one byte short, then flagged. After them cells of 4095, 4096 and 4097 elements.
+// The edge cases of a binary cell and of a row's flags, run. First cells of 4095, 4096 and 4097 elements; then the cases in `stdin`, a line
+// each: a name of twenty letters, then the kind, the shape of the length, its n, the declared null and the input. For a cell a line says what
+// BINARY2 reads and how that is written; then again with the input one byte short, flagged, and as BINARY reads it.
+use binary::Flags;
 use table::Column;
 use table::Found;
 use table::Kind;
 use table::Len;
 use table::Null;
 use table::Size;
-ghost use Prim.Native.Nat.{_<_, _≤_};
+ghost use Prim.Native.Nat.{_+_, _<_, _≤_};
 ghost use mathlib.Core.Path.{_≡_};
 ghost use lib.ListN.{length};
-ghost use Rattle.table.specs.Cell.{Fits, bound};
-ghost use Rattle.table.specs.Contracts.{held};
+ghost use Rattle.table.specs.Cell.{bound};
+ghost use Rattle.binary_vectors.specs.Held.{Writable};
 
 fn put_number(n: u64) {
     io::write_all(1, b" ");
     io::print_decimal(1, n);
 }
 
-// The first n bytes of a buffer, eight of them at most.
+// The first n bytes of a buffer.
 fn put_bytes(out: &[u8], n: usize) {
     let mut k: usize = 0;
     while k < n {
-        if 8 <= k {
-            io::write_all(1, b" ..");
-            return;
-        }
         if k < out.len() {
             io::write_all(1, b" ");
             io::print_hex(1, out[k] as u64, 2);
@@ -33,41 +31,46 @@ fn put_bytes(out: &[u8], n: usize) {
     }
 }
 
+// ---- a cell
+
 // The bytes of a cell in BINARY2, where there is room for them.
 fn put_binary2(column: Column, null: bool, count: usize, scratch: &[i64])
-    requires { ⌜ (bound (column .len) ≤ 4096) × (count ≤ length (now scratch)) × Fits column (held null count (now scratch)) ⌝ }
+    requires { ⌜ (bound (column .len) ≤ 4096) × (count ≤ bound (column .len)) × (count ≤ length (now scratch)) ⌝ }
 {
     let size = binary::size_binary2(column, null, count, scratch);
     io::write_all(1, b" BINARY2");
     put_number(size as u64);
     if size <= 64 {
         let mut out = [0u8; 64];
-        binary::write_binary2(column, null, count, scratch, &mut out, 0);
-        put_bytes(&out, size);
+        let end = binary::write_binary2(column, null, count, scratch, &mut out, 0);
+        put_bytes(&out, end);
     }
 }
 
 fn put_binary(column: Column, null: bool, count: usize, scratch: &[i64])
-    requires { ⌜ (bound (column .len) ≤ 4096) × (count ≤ length (now scratch)) × Fits column (held null count (now scratch)) ⌝ }
+    requires { ⌜ (bound (column .len) ≤ 4096) × (count ≤ bound (column .len)) × (count ≤ length (now scratch)) ⌝ }
 {
+    io::write_all(1, b" BINARY");
     let size = binary::size_binary(column, null, count, scratch);
     match size {
         Size::Bytes(n) => {
-            io::write_all(1, b" BINARY");
             put_number(n as u64);
+            if n <= 64 {
+                let mut out = [0u8; 64];
+                let end = binary::write_binary(column, null, count, scratch, &mut out, 0);
+                put_bytes(&out, end);
+            }
         }
         Size::NoForm(n) => {
-            io::write_all(1, b" BINARY refused");
+            io::write_all(1, b" refused");
             put_number(n);
         }
     }
 }
 
-fn cell(column: Column, flagged: bool, s: &[u8], scratch: &mut [i64])
-    requires { ⌜ (bound (column .len) ≤ 4096) × (4096 ≤ length (now scratch)) ⌝ }
-    ensures { λ _. ⌜ length (now (scratch .exit)) ≡ length (now (scratch .entry)) ⌝ }
+fn put_cell(column: Column, found: Found, scratch: &[i64])
+    requires { ⌜ (bound (column .len) ≤ 4096) × Writable column (now scratch) found ⌝ }
 {
-    let found = binary::read_binary2(s, 0, column, flagged, scratch);
     match found {
         Found::Refused(n) => {
             io::write_all(1, b" refused");
@@ -91,19 +94,101 @@ fn cell(column: Column, flagged: bool, s: &[u8], scratch: &mut [i64])
     io::write_all(1, b"\n");
 }
 
-// A cell whole, then one byte short, then flagged.
-fn three_ways(name: &[u8], column: Column, s: &[u8], scratch: &mut [i64])
+fn in_binary2(column: Column, flagged: bool, s: &[u8], scratch: &mut [i64]) -> Found
+    requires { ⌜ (bound (column .len) ≤ 4096) × (4096 ≤ length (now scratch)) ⌝ }
+    ensures { λ r. ⌜ Writable column (now (scratch .exit)) r × (length (now (scratch .exit)) ≡ length (now (scratch .entry))) ⌝ }
+{
+    binary::read_binary2(s, 0, column, flagged, scratch)
+}
+
+fn in_binary(column: Column, s: &[u8], scratch: &mut [i64]) -> Found
+    requires { ⌜ (bound (column .len) ≤ 4096) × (4096 ≤ length (now scratch)) ⌝ }
+    ensures { λ r. ⌜ Writable column (now (scratch .exit)) r × (length (now (scratch .exit)) ≡ length (now (scratch .entry))) ⌝ }
+{
+    binary::read_binary(s, 0, column, scratch)
+}
+
+fn cell(column: Column, flagged: bool, s: &[u8], scratch: &mut [i64])
+    requires { ⌜ (bound (column .len) ≤ 4096) × (4096 ≤ length (now scratch)) ⌝ }
+    ensures { λ _. ⌜ length (now (scratch .exit)) ≡ length (now (scratch .entry)) ⌝ }
+{
+    let found = in_binary2(column, flagged, s, scratch);
+    put_cell(column, found, scratch);
+}
+
+// A cell whole, then one byte short, then flagged, then as BINARY reads it.
+fn four_ways(column: Column, s: &[u8], scratch: &mut [i64])
     requires { ⌜ (bound (column .len) ≤ 4096) × (4096 ≤ length (now scratch)) × (0 < length (now s)) ⌝ }
     ensures { λ _. ⌜ length (now (scratch .exit)) ≡ length (now (scratch .entry)) ⌝ }
 {
-    io::write_all(1, name);
     cell(column, false, s, scratch);
     io::write_all(1, b"  short");
     let n = s.len() - 1;
     cell(column, false, &s[..n], scratch);
     io::write_all(1, b"  flagged");
     cell(column, true, s, scratch);
+    io::write_all(1, b"  BINARY");
+    let found = in_binary(column, s, scratch);
+    put_cell(column, found, scratch);
 }
+
+// ---- flags
+
+// The flags one after the other, and the number made of them again.
+fn again(flags: u64, columns: usize) -> u64
+    requires { ⌜ columns ≤ 64 ⌝ }
+{
+    let mut made: u64 = 0;
+    let mut k: usize = 0;
+    while k < columns {
+        let null = binary::is_flagged(flags, columns, k);
+        if null {
+            io::write_all(1, b"1");
+        } else {
+            io::write_all(1, b"0");
+        }
+        made = binary::add_flag(made, k, null);
+        k += 1;
+    }
+    made
+}
+
+fn put_flags(s: &[u8], columns: usize)
+    requires { ⌜ columns ≤ 64 ⌝ }
+{
+    let read = binary::read_flags(s, 0, columns);
+    match read {
+        Flags::Spoiled(n) => {
+            io::write_all(1, b" refused");
+            put_number(n);
+        }
+        Flags::Are(flags, next) => {
+            io::write_all(1, b" to");
+            put_number(next as u64);
+            io::write_all(1, b" ");
+            let made = again(flags, columns);
+            let mut out = [0u8; 8];
+            let end = binary::write_flags(made, columns, &mut out, 0);
+            put_bytes(&out, end);
+        }
+    }
+    io::write_all(1, b"\n");
+}
+
+// The flags of so many columns whole, then one byte short.
+fn two_ways(s: &[u8], columns: usize)
+    requires { ⌜ 0 < length (now s) ⌝ }
+{
+    if 64 < columns {
+        return;
+    }
+    put_flags(s, columns);
+    io::write_all(1, b"  short");
+    let n = s.len() - 1;
+    put_flags(&s[..n], columns);
+}
+
+// ---- a line of `stdin`
 
 fn kind_of(k: u8) -> Kind {
     match k {
@@ -131,7 +216,8 @@ fn len_of(shape: u8, n: usize) -> Len
 fn null_of(declared: u8) -> Null {
     match declared {
         0 => Null::Undeclared,
-        _ => Null::Declared(-99),
+        1 => Null::Declared(-99),
+        _ => Null::Declared(99),
     }
 }
 
@@ -151,39 +237,93 @@ fn wide(b: u8) -> usize
     b as usize
 }
 
-// One case of the script: a name of twenty letters, kind, length, its n, whether -99 is null, the size of the input, and the input.
-fn case(script: &[u8], at: usize, scratch: &mut [i64]) -> usize
+fn hexadigit(b: u8) -> u8
+    ensures { λ r. ⌜ r ≤ 15 ⌝ }
+{
+    match b {
+        b'0'..=b'9' => b - 48,
+        b'a'..=b'f' => b - 87,
+        _ => 0,
+    }
+}
+
+// How many bytes stand in a line, and the place after it.
+struct Line {
+    count: usize,
+    next: usize,
+}
+
+// Two hexadigits for each byte, and a space or the line's end behind them.
+fn line_bytes(script: &[u8], at: usize, bytes: &mut [u8]) -> Line
+    requires { ⌜ at ≤ length (now script) ⌝ }
+    ensures { λ r. ⌜ (at ≤ r .next) × (r .next ≤ length (now (script .entry))) × (r .count ≤ length (now (bytes .entry))) ⌝ }
+{
+    let mut count: usize = 0;
+    let mut i = at;
+    while 3 <= script.len() - i {
+        if bytes.len() <= count {
+            return Line {
+                count,
+                next: script.len(),
+            };
+        }
+        bytes[count] = hexadigit(script[i]) * 16 + hexadigit(script[i + 1]);
+        count += 1;
+        i += 3;
+        if script[i - 1] == 10 {
+            return Line { count, next: i };
+        }
+    }
+    Line {
+        count,
+        next: script.len(),
+    }
+}
+
+// The kind 7 stands for flags.
+fn run(name: &[u8], bytes: &[u8], scratch: &mut [i64])
+    requires { ⌜ 4096 ≤ length (now scratch) ⌝ }
+    ensures { λ _. ⌜ length (now (scratch .exit)) ≡ length (now (scratch .entry)) ⌝ }
+{
+    if bytes.len() < 5 {
+        return;
+    }
+    io::write_all(1, name);
+    let n = wide(bytes[2]);
+    if bytes[0] == 7 {
+        two_ways(&bytes[4..], n);
+        return;
+    }
+    let column = column_of(bytes[0], bytes[1], n, bytes[3]);
+    four_ways(column, &bytes[4..], scratch);
+}
+
+fn case(script: &[u8], at: usize, bytes: &mut [u8], scratch: &mut [i64]) -> usize
     requires { ⌜ (at < length (now script)) × (4096 ≤ length (now scratch)) ⌝ }
     ensures { λ r. ⌜ (at < r) × (r ≤ length (now (script .entry))) × (length (now (scratch .exit)) ≡ length (now (scratch .entry))) ⌝ }
 {
-    let left = script.len() - at;
-    if left < 25 {
+    if script.len() - at < 20 {
         return script.len();
     }
-    let size = wide(script[at + 24]);
-    if left - 25 < size {
-        return script.len();
-    }
-    if size == 0 {
-        return at + 25;
-    }
-    let n = wide(script[at + 22]);
-    let column = column_of(script[at + 20], script[at + 21], n, script[at + 23]);
-    let from = at + 25;
-    let next = from + size;
     let named = at + 20;
-    three_ways(&script[at..named], column, &script[from..next], scratch);
+    let line = line_bytes(script, named, bytes);
+    let count = line.count;
+    let next = line.next;
+    run(&script[at..named], &bytes[..count], scratch);
     next
 }
 
-fn all_cases(script: &[u8], scratch: &mut [i64])
+fn all_cases(script: &[u8], bytes: &mut [u8], scratch: &mut [i64])
     requires { ⌜ 4096 ≤ length (now scratch) ⌝ }
+    ensures { λ _. ⌜ length (now (scratch .exit)) ≡ length (now (scratch .entry)) ⌝ }
 {
     let mut at: usize = 0;
     while at < script.len() {
-        at = case(script, at, scratch);
+        at = case(script, at, bytes, scratch);
     }
 }
+
+// ---- cells of many elements
 
 // A cell of so many elements, each a byte 49 or several of them.
 fn many(kind: u8, high: u8, low: u8, s: &mut [u8], scratch: &mut [i64])
@@ -213,8 +353,11 @@ fn all_lengths(s: &mut [u8], scratch: &mut [i64])
 fn main() {
     let mut scratch = [0i64; 4096];
     let mut s = [49u8; 32780];
-    let script =
-        b"boolean             \x00\x00\x03\x00\x03Tf boolean with X      \x00\x00\x03\x00\x03TfXscalar boolean ?    \x00\x00\x01\x00\x01?nine bits FF 80     \x01\x00\x09\x00\x02\xff\x80nine bits FF 81     \x01\x00\x09\x00\x02\xff\x81scalar bit          \x01\x00\x01\x00\x01\x80unsignedByte        \x02\x00\x02\x00\x02\x00\xffshort               \x03\x00\x02\x00\x04\xff\xff\x7f\xffint without null    \x04\x00\x01\x00\x04\x80\x00\x00\x00long                \x05\x00\x01\x00\x08\x80\x00\x00\x00\x00\x00\x00\x00char                \x06\x00\x04\x00\x04ab\x00\xffchar with FF        \x06\x00\x04\x00\x04a\xffb\x00char 4* of 4        \x06\x01\x04\x00\x08\x00\x00\x00\x04duskchar 4* of 5        \x06\x01\x04\x00\x09\x00\x00\x00\x05duskyempty char *        \x06\x02\x00\x00\x04\x00\x00\x00\x00short 2* of 1       \x03\x01\x02\x00\x06\x00\x00\x00\x01\xff\xfebit * of 9          \x01\x02\x00\x00\x06\x00\x00\x00\x09\xff\x80null short -99      \x03\x00\x01\x01\x02\xff\x9danother short       \x03\x00\x01\x01\x02\x00\x07";
-    all_cases(script, &mut scratch);
     all_lengths(&mut s, &mut scratch);
+    let mut bytes = [0u8; 256];
+    let mut space = [0u8; 16384];
+    let count = io::read_full(0, &mut space);
+    if count <= 16384 {
+        all_cases(&space[..count], &mut bytes, &mut scratch);
+    }
 }

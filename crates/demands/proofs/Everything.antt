@@ -1,7 +1,7 @@
 -- A name whose line opens every definition at once: what computes by `refl` says `unfolding everything`.
 use Prim.Native.Nat.{ℕ}
 use Rattle.base64.specs.Base64.{decode, decodeCall, decoding, dense, encode, encodeCall, encoding, fours, inRoom, isPad, lastFour, letter, oneByte, sextet, sizedInput, stepOutcome, threeBytes, twoBytes}
-use Rattle.binary.specs.Binary.{allZero, atMost, beforeNul, bitBytes, bitsOf, bytesOf, canBeEmpty, content, contentBytes, countBytes, countIn, counted, element, elementsBytes, front, groups, nullForm, number, numbers, numbersIn, pack, packed, readBinary, readBinary2, shows, truth, truthByte, unpack, writeBinary, writeBinary2, zeros}
+use Rattle.binary.specs.Binary.{allZero, atMost, beforeNul, bitBytes, bitOf, bitsOf, bytesOf, canBeEmpty, content, contentBytes, countBytes, countIn, counted, element, elementsBytes, front, groups, nullForm, number, numbers, numbersIn, pack, packed, readBinary, readBinary2, shows, truth, truthByte, unpack, writeBinary, writeBinary2, zeros}
 use Rattle.demands.specs.Cases.{allPass, cameOut, cases, passes, sameAnswer}
 use Rattle.demands.specs.Demands.{output}
 use Rattle.demands.specs.Places.{cellsShow, contentShows, rowShows, showsAt, showsThen, streamShows, streamShowsF, throughNul}
@@ -15,8 +15,8 @@ use Rattle.table.specs.Cell.{below, bound, emptyIsNull, isChar, isElement, isNu
 use Rattle.table.specs.Outcome.{answerOf, at, bufferOf, ending, mostDeclarations, mostInput, rowsDone, written}
 use Rattle.table.specs.Result.{every}
 use Rattle.table.specs.Shape.{half, inRange, last, shape}
-use Rattle.tabledata.specs.TableData.{allText, bitLetter, bitText, bitWords, cellText, characters, close-TD, close-TR, consText, countFits, elementText, emitted, escaped, expanded, follow, formOf, forms, integerWord, isText, lower, named, names, numeric, open-TD, open-TR, readText, spaced, step, tagged, textCell, textElements, truthLetter, truthText, truthWord, writeText}
+use Rattle.tabledata.specs.TableData.{allText, bitLetter, bitText, bitWords, cellText, characters, close-TD, close-TR, consText, countFits, elementBytes, elementText, emitted, escaped, expanded, follow, formOf, forms, integerWord, isText, lower, named, names, numeric, open-TD, open-TR, readText, spaced, step, tagged, textCell, textElements, truthLetter, truthText, truthWord, writeText}
 
 unfoldable pub everything : ℕ
-unfolding between isWhite same skipWhite after ends tag attach pieces notEmpty words bound isScalar roomIn isChar roomFits nullOfKind nullElement sameInteger isNullList show emptyIsNull isNull below isElement at written rowsDone answerOf bufferOf ending mostInput mostDeclarations every last shape half inRange ofDigits toDigits ofPattern pattern digit hexadigit numeral sized withSign ranged decimal hexadecimal readInteger digits shortest sextet letter isPad dense oneByte twoBytes threeBytes lastFour fours decode encode inRoom sizedInput stepOutcome decoding encoding decodeCall encodeCall truth truthByte element number bitBytes bitsOf packed pack allZero unpack contentBytes numbers beforeNul numbersIn content front atMost counted countIn shows readBinary2 readBinary countBytes groups bytesOf elementsBytes zeros writeBinary2 canBeEmpty nullForm writeBinary open-TD close-TD open-TR close-TR names named numeric expanded emitted step consText follow characters cellText isText allText lower truthLetter truthWord bitLetter bitWords integerWord textElements countFits textCell readText escaped formOf forms truthText bitText spaced elementText tagged writeText isNameByte spanName someName spanValue readValue readAttribute nameComes attributeComes attributesF attributes valuesOf atMostOne exactlyOne readValues begins fieldBody readField kinds kindOf lengthOf beforeStar boundedLen lenBefore lenOf nullValue nullOf judge fieldsThen fieldsF declare runSized underColumns converting convert readCell flag flagsLeft readCells isOne readStart readEnd readRow isEmpty atEnd rowThen readF read writeCell writeCells bit writeStart writeEnd writeRow fitted wroteThen write run cases sameAnswer cameOut passes allPass output throughNul contentShows cellsShow rowShows showsThen streamShowsF streamShows showsAt count upTo rowAt lines lengthThen rowLengthsF rowLengths sum
+unfolding between isWhite same skipWhite after ends tag attach pieces notEmpty words bound isScalar roomIn isChar roomFits nullOfKind nullElement sameInteger isNullList show emptyIsNull isNull below isElement at written rowsDone answerOf bufferOf ending mostInput mostDeclarations every last shape half inRange ofDigits toDigits ofPattern pattern digit hexadigit numeral sized withSign ranged decimal hexadecimal readInteger digits shortest sextet letter isPad dense oneByte twoBytes threeBytes lastFour fours decode encode inRoom sizedInput stepOutcome decoding encoding decodeCall encodeCall truth truthByte bitOf element number bitBytes bitsOf packed pack allZero unpack contentBytes numbers beforeNul numbersIn content front atMost counted countIn shows readBinary2 readBinary countBytes groups bytesOf elementsBytes zeros writeBinary2 canBeEmpty nullForm writeBinary open-TD close-TD open-TR close-TR names named numeric expanded emitted step consText follow characters cellText isText allText lower truthLetter truthWord bitLetter bitWords integerWord textElements countFits textCell readText escaped formOf forms truthText bitText spaced elementText tagged writeText isNameByte spanName someName spanValue readValue readAttribute nameComes attributeComes attributesF attributes valuesOf atMostOne exactlyOne readValues begins fieldBody readField kinds kindOf lengthOf beforeStar boundedLen lenBefore lenOf nullValue nullOf judge fieldsThen fieldsF declare runSized underColumns converting convert readCell flag flagsLeft readCells isOne readStart readEnd readRow isEmpty atEnd rowThen readF read writeCell writeCells bit writeStart writeEnd writeRow fitted wroteThen write run cases sameAnswer cameOut passes allPass output throughNul contentShows cellsShow rowShows showsThen streamShowsF streamShows showsAt count upTo rowAt lines lengthThen rowLengthsF rowLengths sum elementBytes
 everything = 0

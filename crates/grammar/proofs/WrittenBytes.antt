@@ -2,25 +2,24 @@
 use Prim.Native.Nat.{_*_, _+_, _-_, _<_, _^_, _≤_, suc, zero, ℕ}
 use native.Mathlib.Nat.{pow-le-pow-right}
 use native.Mathlib.Omega.{arith}
-use mathlib.Core.Bool.{Bool, false, false≢true, true}
+use mathlib.Core.Bool.{Bool, false, true}
 use mathlib.Core.List.{List, [], _∷_, map}
 use mathlib.Core.Option.{Option, none, some}
 use mathlib.Core.Path.{_≡_, refl}
-use lib.Dec.{lit<, ltb}
-use lib.IntN.{negsuc, pos, ℤ}
+use lib.Dec.{lit<}
+use lib.IntN.{ℤ}
 use lib.ListN.{drop, length, length-take, replicate, take}
-use borrow.Author.Tests.{ltb-true}
 use mir.Val.{bits}
 use Rattle.binary.proofs.Laws.{numbers-are}
 use Rattle.binary.specs.Binary.{bitBytes, bytesOf, canBeEmpty, contentBytes, countBytes, elementsBytes, groups, nullForm, number, pack, packed, writeBinary, writeBinary2, zeros}
 use Rattle.demands.specs.Tables.{lines}
-use Rattle.number.proofs.Laws.{all-to, of-lt}
-use Rattle.number.specs.Number.{ofDigits, pattern, toDigits}
+use Rattle.number.proofs.Laws.{all-to, of-lt, pattern-lt}
+use Rattle.number.specs.Number.{ofDigits, toDigits}
 use Rattle.rows.proofs.Laws.{AllRows, FitsAll}
 use Rattle.rows.specs.Stream.{Table, bit, finished, row, stopped, writeCell, writeCells, writeEnd, writeRow, writeStart}
-use Rattle.table.proofs.Laws.{all-append, all-drop, all-replicate, all-take, and-both, holds-as, holds-bind, holds-cond}
+use Rattle.table.proofs.Laws.{all-append, all-drop, all-replicate, all-take, holds-as, holds-bind, holds-cond}
 use Rattle.table.specs.All.{All, AreBytes}
-use Rattle.table.specs.Cell.{AreColumns, Cell, Fits, IsColumn, below, fits-shown, isElement, isNull, null, nullElement, roomIn, shown}
+use Rattle.table.specs.Cell.{AreColumns, Cell, Fits, IsColumn, fits-shown, isElement, isNull, null, nullElement, roomIn, shown}
 use Rattle.table.specs.Outcome.{at}
 use Rattle.table.specs.Result.{Holds, holds, refuses}
 use Rattle.table.specs.Shape.{Bits, Shape, Text, Truths, Whole, last, shape}
@@ -61,14 +60,10 @@ unfolding pack
 pack-bytes bits a =
     packed-bytes _ _ (all-append _ bits (replicate (8 * bitBytes (length bits) - length bits) 0) a (all-replicate (λ (b : ℕ). b < 2) (8 * bitBytes (length bits) - length bits) 0 (lit< tt)))
 
-char-byte : (e : ℤ) → isElement Text e ≡ true → number Text e < 256
-unfolding isElement number below pattern
-char-byte (pos n) h = omega (arith, ltb-true n 128 (and-both (ltb n 128) _ h .0))
-char-byte (negsuc n) h = absurd (false≢true h)
-
-chars-bytes : (es : List ℤ) → All (λ (e : ℤ). isElement Text e ≡ true) es → AreBytes (map (number Text) es)
-chars-bytes [] a = tt
-chars-bytes (e ∷ es) a = (char-byte e (a .0), chars-bytes es (a .1))
+chars-bytes : (es : List ℤ) → AreBytes (map (number Text) es)
+unfolding number
+chars-bytes [] = tt
+chars-bytes (e ∷ es) = (pattern-lt 1 e, chars-bytes es)
 
 bytes-of : (k : Shape) (n : ℕ) (es : List ℤ) → All (λ (e : ℤ). isElement k e ≡ true) es → AreBytes (bytesOf k n (map (number k) es))
 unfolding bytesOf
@@ -77,7 +72,7 @@ bytes-of Bits n es a = pack-bytes _ (numbers-are Bits es a)
 bytes-of (Whole g v) n es a = groups-bytes (suc (last v)) _
 bytes-of Text n es a =
     let m : ℕ = n - length (map (number Text) es) in
-    all-append IsByte (map (number Text) es) (replicate m 0) (chars-bytes es a) (all-replicate IsByte m 0 (lit< tt))
+    all-append IsByte (map (number Text) es) (replicate m 0) (chars-bytes es) (all-replicate IsByte m 0 (lit< tt))
 
 elements-bytes : (c : Column) (es : List ℤ) → All (λ (e : ℤ). isElement (shape (c .kind)) e ≡ true) es → AreBytes (elementsBytes c es)
 unfolding elementsBytes

@@ -115,21 +115,25 @@ module _ (b : ℕ) (some : 0 < b) where
 
 -- ---- two's complement, once over the width
 
-pub pattern-lt : (signed : Bool) (v : ℕ) (z : ℤ) → inRange signed (suc v) z ≡ true → pattern (suc v) z < 256 ^ suc v
-unfolding half pattern inRange
-pattern-lt false v (pos n) h = ltb-true _ _ h
-pattern-lt false v (negsuc n) h = absurd (false≢true h)
-pattern-lt true v (pos n) h = omega (arith, ltb-true n (256 ^ suc v / 2) h)
-pattern-lt true v (negsuc n) h = omega (arith, ltb-true n (256 ^ suc v / 2) h)
+pub pattern-lt : (w : ℕ) (z : ℤ) → pattern w z < 256 ^ w
+unfolding pattern
+pattern-lt w (pos n) = mod-lt n (pow-pos 256 (lit< tt) w)
+pattern-lt w (negsuc n) = omega (arith, pow-pos 256 (lit< tt) w)
+
+positive-lt : (signed : Bool) (v n : ℕ) → inRange signed (suc v) (pos n) ≡ true → n < 256 ^ suc v
+unfolding half inRange
+positive-lt false v n h = ltb-true _ _ h
+positive-lt true v n h = omega (arith, ltb-true n (256 ^ suc v / 2) h)
 
 pub of-pattern : (signed : Bool) (v : ℕ) (z : ℤ) → inRange signed (suc v) z ≡ true → ofPattern signed (suc v) (pattern (suc v) z) ≡ z
 unfolding half pattern inRange ofPattern
-of-pattern false v (pos n) h = refl
+of-pattern false v (pos n) h = ap pos (mod-eq-of-lt (ltb-true n (256 ^ suc v) h))
 of-pattern false v (negsuc n) h = absurd (false≢true h)
-of-pattern true v (pos n) h = rw h
+of-pattern true v (pos n) h = rw (mod-eq-of-lt (positive-lt true v n h), h)
 of-pattern true v (negsuc n) h =
-    rw (le-ltb (256 ^ suc v - 1 - n) (256 ^ suc v / 2) (omega (arith, ltb-true n (256 ^ suc v / 2) h)))
-    (ap negsuc (omega (arith, ltb-true n (256 ^ suc v / 2) h)))
+    let lt : n < 256 ^ suc v / 2 = ltb-true n (256 ^ suc v / 2) h in
+    let few : n < 256 ^ suc v = omega (arith, lt) in
+    rw (mod-eq-of-lt few, le-ltb (256 ^ suc v - 1 - n) (256 ^ suc v / 2) (omega (arith, lt))) (ap negsuc (omega (arith, lt)))
 
 pub in-range : (signed : Bool) (v n : ℕ) → n < 256 ^ suc v → inRange signed (suc v) (ofPattern signed (suc v) n) ≡ true
 unfolding half pattern inRange ofPattern
@@ -143,29 +147,31 @@ in-range true v n h =
 pub read-bytes : (signed : Bool) (v : ℕ) (z : ℤ) → inRange signed (suc v) z ≡ true
     → ofPattern signed (suc v) (ofDigits 256 0 (toDigits 256 (suc v) (pattern (suc v) z))) ≡ z
 read-bytes signed v z r =
-    ap (ofPattern signed (suc v)) (of-to 256 (lit< tt) (suc v) (pattern (suc v) z) (pattern-lt signed v z r)) ∙ of-pattern signed v z r
+    ap (ofPattern signed (suc v)) (of-to 256 (lit< tt) (suc v) (pattern (suc v) z) (pattern-lt (suc v) z)) ∙ of-pattern signed v z r
 
--- a pattern of eight bytes is above one of fewer
-above : (d v n : ℕ) → n < 256 ^ suc v → (256 ^ (d + suc v) - 1 - n) % 256 ^ suc v ≡ 256 ^ suc v - 1 - n
-above d v n h =
-    let p : 1 ≤ 256 ^ d = one-le-pow d 256 (lit< tt) in
-    let e : 256 ^ d ≡ suc (256 ^ d - 1) = omega arith in
-    let whole : 256 ^ (d + suc v) ≡ (256 ^ d - 1) * 256 ^ suc v + 256 ^ suc v =
-    pow-add 256 d (suc v) ∙ ap (λ (k : ℕ). k * 256 ^ suc v) e ∙ suc-mul (256 ^ d - 1) (256 ^ suc v) in
-    let less : 256 ^ (d + suc v) - 1 - n ≡ (256 ^ d - 1) * 256 ^ suc v + (256 ^ suc v - 1 - n) = omega (arith, whole) in
-    ap (λ (k : ℕ). k % 256 ^ suc v) less ∙ digits-mod (256 ^ d - 1) (omega arith)
+low-part : (d w n : ℕ) → n % 256 ^ (d + w) ≡ (n / 256 ^ w % 256 ^ d) * 256 ^ w + n % 256 ^ w
+low-part d w n = ap (λ (k : ℕ). n % k) (pow-add 256 d w) ∙ mod-mul n (pow-pos 256 (lit< tt) d) (pow-pos 256 (lit< tt) w)
 
--- the low bytes of an integer's pattern of eight are its own
-pub low-pattern : (signed : Bool) (v : ℕ) (z : ℤ) → suc v ≤ 8 → inRange signed (suc v) z ≡ true
-    → toDigits 256 (suc v) (pattern 8 z) ≡ toDigits 256 (suc v) (pattern (suc v) z)
-unfolding pattern inRange half
-low-pattern signed v (pos n) h r = refl
-low-pattern false v (negsuc n) h r = absurd (false≢true r)
-low-pattern true v (negsuc n) h r =
-    let e : 8 ≡ (7 - v) + suc v = omega arith in
-    sym (digits-low 256 (lit< tt) (suc v) (256 ^ 8 - 1 - n))
-    ∙ ap (toDigits 256 (suc v))
-    (ap (λ (k : ℕ). (256 ^ k - 1 - n) % 256 ^ suc v) e ∙ above (7 - v) v n (omega (arith, ltb-true n (256 ^ suc v / 2) r)))
+-- a pattern of more bytes ends in the pattern of fewer
+pattern-low : (d w : ℕ) (z : ℤ) → pattern (d + w) z % 256 ^ w ≡ pattern w z
+unfolding pattern
+pattern-low d w (pos n) = ap (λ (k : ℕ). k % 256 ^ w) (low-part d w n) ∙ digits-mod (n / 256 ^ w % 256 ^ d) (mod-lt n (pow-pos 256 (lit< tt) w))
+pattern-low d w (negsuc n) =
+    let high : ℕ = n / 256 ^ w % 256 ^ d in
+    let low : ℕ = n % 256 ^ w in
+    let low-lt : low < 256 ^ w = mod-lt n (pow-pos 256 (lit< tt) w) in
+    let above : ℕ = 256 ^ d - 1 - high in
+    let e : 256 ^ d ≡ suc (above + high) = omega (arith, mod-lt (n / 256 ^ w) (pow-pos 256 (lit< tt) d)) in
+    let whole : 256 ^ (d + w) ≡ (above * 256 ^ w + high * 256 ^ w) + 256 ^ w =
+    pow-add 256 d w ∙ ap (λ (k : ℕ). k * 256 ^ w) e ∙ suc-mul (above + high) (256 ^ w) ∙ ap (λ (k : ℕ). k + 256 ^ w) (add-mul above high (256 ^ w)) in
+    let less : 256 ^ (d + w) - 1 - n % 256 ^ (d + w) ≡ above * 256 ^ w + (256 ^ w - 1 - low) = omega (arith, whole, low-part d w n, low-lt) in
+    ap (λ (k : ℕ). k % 256 ^ w) less ∙ digits-mod above (omega (arith, low-lt))
+
+-- the low bytes of an integer's pattern of eight are its pattern of as many
+pub low-pattern : (w : ℕ) (z : ℤ) → w ≤ 8 → toDigits 256 w (pattern 8 z) ≡ toDigits 256 w (pattern w z)
+low-pattern w z h =
+    let e : 8 ≡ (8 - w) + w = omega arith in
+    sym (digits-low 256 (lit< tt) w (pattern 8 z)) ∙ ap (toDigits 256 w) (ap (λ (k : ℕ). pattern k z % 256 ^ w) e ∙ pattern-low (8 - w) w z)
 
 -- ---- words that are written are read back
 
@@ -233,10 +239,10 @@ range-lt : (v : ℕ) → suc v ≤ 8 → 256 ^ suc v < 10 ^ 20
 range-lt v h = let p : 256 ^ suc v ≤ 256 ^ 8 = pow-le-pow-right (lit< tt) h in omega arith
 
 pub read-shortest : (signed : Bool) (v : ℕ) (z : ℤ) → suc v ≤ 8 → inRange signed (suc v) z ≡ true → readInteger signed (suc v) (shortest z) ≡ good z
-unfolding shortest withSign inRange half pattern
+unfolding shortest withSign inRange half
 read-shortest signed v (pos n) h r =
     plain-read signed (suc v) (digits 20 n) (digits-are 20 n .0) (digits-some 19 n)
-    ∙ decimal-read signed (suc v) false n (omega (arith, range-lt v h, pattern-lt signed v (pos n) r)) r
+    ∙ decimal-read signed (suc v) false n (omega (arith, range-lt v h, positive-lt signed v n r)) r
 read-shortest false v (negsuc n) h r = absurd (false≢true r)
 read-shortest true v (negsuc n) h r =
     minus-read (suc v) (digits 20 (suc n)) (digits-some 19 (suc n))

@@ -21,7 +21,7 @@ pub enum Integer {
 
 // ---- "Integers are big-endian"
 
-pub fn two_bytes(s: &[u8], at: usize) -> u16
+fn two_bytes(s: &[u8], at: usize) -> u16
     requires { ⌜ at + 2 ≤ length (now s) ⌝ }
     ensures { λ r. ⌜ r ≡ ofDigits 256 0 (take 2 (drop at (now (s .entry)))) ⌝ }
 {
@@ -37,7 +37,7 @@ pub fn four_bytes(s: &[u8], at: usize) -> u32
 }
 
 // Two halves, which the compiler makes one load.
-pub fn eight_bytes(s: &[u8], at: usize) -> u64
+fn eight_bytes(s: &[u8], at: usize) -> u64
     requires { ⌜ at + 8 ≤ length (now s) ⌝ }
     ensures { λ r. ⌜ r ≡ ofDigits 256 0 (take 8 (drop at (now (s .entry)))) ⌝ }
 {
@@ -47,7 +47,7 @@ pub fn eight_bytes(s: &[u8], at: usize) -> u64
 // ---- "two's complement for the signed"
 
 // The upper half of the patterns is counted down from -1, so that no cast loses a bit and the least number is no exception.
-pub fn short_of(x: u16) -> i16
+fn short_of(x: u16) -> i16
     ensures { λ r. ⌜ r ≡ ofPattern true 2 x ⌝ }
 {
     if x < 32768 {
@@ -57,7 +57,7 @@ pub fn short_of(x: u16) -> i16
     }
 }
 
-pub fn int_of(x: u32) -> i32
+fn int_of(x: u32) -> i32
     ensures { λ r. ⌜ r ≡ ofPattern true 4 x ⌝ }
 {
     if x < 2147483648 {
@@ -67,7 +67,7 @@ pub fn int_of(x: u32) -> i32
     }
 }
 
-pub fn long_of(x: u64) -> i64
+fn long_of(x: u64) -> i64
     ensures { λ r. ⌜ r ≡ ofPattern true 8 x ⌝ }
 {
     if x < 9223372036854775808 {
@@ -79,28 +79,28 @@ pub fn long_of(x: u64) -> i64
 
 // ---- the integer of a kind in the bytes at a place
 
-pub fn read_unsigned_byte(s: &[u8], at: usize) -> i64
+fn read_unsigned_byte(s: &[u8], at: usize) -> i64
     requires { ⌜ at + 1 ≤ length (now s) ⌝ }
     ensures { λ r. ⌜ r ≡ ofPattern false 1 (ofDigits 256 0 (take 1 (drop at (now (s .entry))))) ⌝ }
 {
     s[at] as i64
 }
 
-pub fn read_short(s: &[u8], at: usize) -> i64
+fn read_short(s: &[u8], at: usize) -> i64
     requires { ⌜ at + 2 ≤ length (now s) ⌝ }
     ensures { λ r. ⌜ r ≡ ofPattern true 2 (ofDigits 256 0 (take 2 (drop at (now (s .entry))))) ⌝ }
 {
     short_of(two_bytes(s, at)) as i64
 }
 
-pub fn read_int(s: &[u8], at: usize) -> i64
+fn read_int(s: &[u8], at: usize) -> i64
     requires { ⌜ at + 4 ≤ length (now s) ⌝ }
     ensures { λ r. ⌜ r ≡ ofPattern true 4 (ofDigits 256 0 (take 4 (drop at (now (s .entry))))) ⌝ }
 {
     int_of(four_bytes(s, at)) as i64
 }
 
-pub fn read_long(s: &[u8], at: usize) -> i64
+fn read_long(s: &[u8], at: usize) -> i64
     requires { ⌜ at + 8 ≤ length (now s) ⌝ }
     ensures { λ r. ⌜ r ≡ ofPattern true 8 (ofDigits 256 0 (take 8 (drop at (now (s .entry))))) ⌝ }
 {
@@ -121,7 +121,7 @@ pub fn read_integer(s: &[u8], at: usize, kind: Integer) -> i64
 
 // ---- numbers into big-endian bytes; each function gives the place after them
 
-pub fn put_two(out: &mut [u8], at: usize, x: u16) -> usize
+fn put_two(out: &mut [u8], at: usize, x: u16) -> usize
     requires { ⌜ at + 2 ≤ length (now out) ⌝ }
     ensures { λ r. ⌜ Wrote (now (out .entry)) at (toDigits 256 2 x) (now (out .exit)) r ⌝ }
 {
@@ -138,7 +138,7 @@ pub fn put_four(out: &mut [u8], at: usize, x: u32) -> usize
     put_two(out, middle, (x % 65536) as u16)
 }
 
-pub fn put_eight(out: &mut [u8], at: usize, x: u64) -> usize
+fn put_eight(out: &mut [u8], at: usize, x: u64) -> usize
     requires { ⌜ at + 8 ≤ length (now out) ⌝ }
     ensures { λ r. ⌜ Wrote (now (out .entry)) at (toDigits 256 8 x) (now (out .exit)) r ⌝ }
 {
@@ -158,7 +158,7 @@ fn pattern_of(z: i64) -> u64
     }
 }
 
-pub fn write_unsigned_byte(out: &mut [u8], at: usize, z: i64) -> usize
+fn write_unsigned_byte(out: &mut [u8], at: usize, z: i64) -> usize
     requires { ⌜ at + 1 ≤ length (now out) ⌝ }
     ensures { λ r. ⌜ Wrote (now (out .entry)) at (toDigits 256 1 (pattern 8 z)) (now (out .exit)) r ⌝ }
 {
@@ -166,21 +166,21 @@ pub fn write_unsigned_byte(out: &mut [u8], at: usize, z: i64) -> usize
     at + 1
 }
 
-pub fn write_short(out: &mut [u8], at: usize, z: i64) -> usize
+fn write_short(out: &mut [u8], at: usize, z: i64) -> usize
     requires { ⌜ at + 2 ≤ length (now out) ⌝ }
     ensures { λ r. ⌜ Wrote (now (out .entry)) at (toDigits 256 2 (pattern 8 z)) (now (out .exit)) r ⌝ }
 {
     put_two(out, at, (pattern_of(z) % 65536) as u16)
 }
 
-pub fn write_int(out: &mut [u8], at: usize, z: i64) -> usize
+fn write_int(out: &mut [u8], at: usize, z: i64) -> usize
     requires { ⌜ at + 4 ≤ length (now out) ⌝ }
     ensures { λ r. ⌜ Wrote (now (out .entry)) at (toDigits 256 4 (pattern 8 z)) (now (out .exit)) r ⌝ }
 {
     put_four(out, at, (pattern_of(z) % 4294967296) as u32)
 }
 
-pub fn write_long(out: &mut [u8], at: usize, z: i64) -> usize
+fn write_long(out: &mut [u8], at: usize, z: i64) -> usize
     requires { ⌜ at + 8 ≤ length (now out) ⌝ }
     ensures { λ r. ⌜ Wrote (now (out .entry)) at (toDigits 256 8 (pattern 8 z)) (now (out .exit)) r ⌝ }
 {
@@ -598,7 +598,7 @@ pub fn read_word(s: &[u8], kind: Integer) -> Reading
 // ---- words of plain digits, quickly
 
 // A run of digits: their number, and the place after them.
-pub struct Digits {
+struct Digits {
     pub number: u64,
     pub next: usize,
 }
@@ -610,7 +610,7 @@ fn earlier(a: usize, b: usize) -> usize
 }
 
 // The digits from `at` on, at most 18 of them, so that no number overflows; the character after them is not looked at.
-pub fn quick_digits(s: &[u8], at: usize) -> Digits
+fn quick_digits(s: &[u8], at: usize) -> Digits
     requires { ⌜ at ≤ length (now s) ⌝ }
     ensures { λ r. ⌜ RunAt (now (s .entry)) at (r .number) (r .next) ⌝ }
 {

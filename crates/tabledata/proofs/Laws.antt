@@ -1,4 +1,5 @@
--- Laws of TABLEDATA cells: a cell that is written is read back; a cell takes at least a byte; what is read fits its column and has a text.
+-- Laws of TABLEDATA cells: a cell that is written is read back; a cell takes at least a byte; what is read fits its column and has a text;
+-- what is written is the form, where there is one.
 use Prim.Native.Nat.{_+_, _-_, _<_, _≤_, suc, zero, ℕ}
 use native.Mathlib.Omega.{arith}
 use mathlib.Core.Bool.{Bool, _&&_, _||_, cond, false, false≢true, or-true, true}
@@ -10,14 +11,15 @@ use lib.ListN.{length}
 use borrow.Author.Tests.{eqb-true, le-leb, le-ltb, leb-true, lt-ltb, ltb-true, ne-eqb}
 use Rattle.number.proofs.Laws.{IsDigit, digits-are, digits-some, integer-is, read-shortest}
 use Rattle.number.specs.Number.{digits, hexadigit, numeral, readInteger, shortest, sized}
-use Rattle.table.proofs.Laws.{IsWord, Numbered, after-fails, after-le, all-append, all-map, all-weaken, and-both, between-is, between-yes, cond-cases, every-back, fails-always, fails-bind, fails-cond, fails-else, fails-every, good-bind, holds-any, holds-as, holds-bind, holds-cond, holds-else, holds-every, holds-weaken, last-le, nil-not-null, no-white, not-empty, or-either, pieces-space, pieces-word, skip-le, tag-fails, tag-le}
+use Rattle.table.proofs.Laws.{IsWord, Numbered, after-fails, after-le, all-append, all-map, all-weaken, and-both, between-is, between-yes, cond-cases, every-back, fails-always, fails-bind, fails-cond, fails-else, fails-every, good-bind, holds-any, holds-as, holds-at, holds-bind, holds-cond, holds-else, holds-every, holds-weaken, last-le, nil-not-null, no-white, not-empty, or-either, pieces-space, pieces-word, skip-le, tag-fails, tag-le}
 use Rattle.table.specs.All.{All}
 use Rattle.table.specs.Bytes.{after, between, byte, bytes, ends, isWhite, notEmpty, pieces, same, skipWhite, tag, words}
 use Rattle.table.specs.Cell.{Cell, Fits, below, bound, emptyIsNull, fits-null, fits-shown, isElement, isNullList, null, nullElement, roomFits, roomIn, show, shown}
+use Rattle.table.specs.Contracts.{formBytes}
 use Rattle.table.specs.Result.{Fails, Holds, IsGood, Result, bad, every, fails, gives, good, holds, refuses}
 use Rattle.table.specs.Shape.{Bits, Shape, Text, Truths, Whole, Width, last, shape}
 use Rattle.table.specs.declared.Column.{Column}
-use Rattle.tabledata.specs.TableData.{Step, Where, allText, bitLetter, bitText, bitWords, broken, cellText, characters, close-TD, consText, countFits, elementText, emit, emitted, escaped, expanded, follow, formOf, forms, goes, integerWord, isText, lower, named, names, numeric, open-TD, plain, readText, spaced, step, tagBegins, tagged, textCell, textElements, truthLetter, truthText, truthWord, writeText}
+use Rattle.tabledata.specs.TableData.{Step, Where, allText, bitLetter, bitText, bitWords, broken, cellText, characters, close-TD, consText, countFits, elementBytes, elementText, emit, emitted, escaped, expanded, follow, formOf, forms, goes, integerWord, isText, joined, lower, named, names, numeric, open-TD, plain, readText, spaced, step, tagBegins, tagged, textBytes, textCell, textElements, truthLetter, truthText, truthWord, writeText}
 
 -- ---- words
 
@@ -124,18 +126,18 @@ unfolding integerWord isElement
 integer-read g v e h = rw (read-shortest g (last v) e (last-le v) h)
 
 bit-read : (e : ℤ) → isElement Bits e ≡ true → bitLetter (bitText e) ≡ good e
-unfolding bitLetter bitText isElement below
-bit-read (pos n) h = rw (between-yes 48 49 (n + 48) (omega arith) (omega (arith, ltb-true n 2 h))) (ap (λ (m : ℕ). good (pos m)) (omega arith))
+unfolding bitLetter bitText isElement below between
+bit-read (pos zero) h = refl
+bit-read (pos (suc zero)) h = refl
+bit-read (pos (suc (suc n))) h = absurd (omega (arith, ltb-true (suc (suc n)) 2 h))
 bit-read (negsuc n) h = absurd (false≢true h)
 
-bit-is : (e : ℤ) → isElement Bits e ≡ true → IsDigit (bitText e)
-unfolding bitText isElement below
-bit-is (pos n) h = (omega arith, omega (arith, ltb-true n 2 h))
-bit-is (negsuc n) h = absurd (false≢true h)
-
-bits-are : (es : List ℤ) → All (λ (e : ℤ). isElement Bits e ≡ true) es → All IsDigit (map bitText es)
-bits-are [] a = tt
-bits-are (e ∷ es) a = (bit-is e (a .0), bits-are es (a .1))
+bit-is : (e : ℤ) → IsDigit (bitText e)
+unfolding bitText
+bit-is (pos zero) = (lit≤ tt, lit≤ tt)
+bit-is (pos (suc zero)) = (lit≤ tt, lit≤ tt)
+bit-is (pos (suc (suc n))) = (lit≤ tt, lit≤ tt)
+bit-is (negsuc n) = (lit≤ tt, lit≤ tt)
 
 spaced-says : (k : Shape) (f : List ℕ → Result ℕ ℤ) (g : ℤ → List ℕ) (es : List ℤ) → ((z : ℤ) → PlainWord (g z))
     → ((s : List ℕ) → textElements k s ≡ every f (words s)) → ((e : ℤ) → isElement k e ≡ true → f (g e) ≡ good e)
@@ -147,7 +149,7 @@ spaced-says k f g es p q r a =
 bits-says : (e : ℤ) (es : List ℤ) → All (λ (e : ℤ). isElement Bits e ≡ true) (e ∷ es) → Says Bits (e ∷ es) (map bitText (e ∷ es))
 unfolding textElements words bitWords notEmpty
 bits-says e es a =
-    let d : All IsDigit (map bitText (e ∷ es)) = bits-are (e ∷ es) a in
+    let d : All IsDigit (map bitText (e ∷ es)) = all-map IsDigit bitText bit-is (e ∷ es) in
     says Bits (e ∷ es) (map bitText (e ∷ es)) (all-weaken _ _ (map bitText (e ∷ es)) plain-digit d)
     (rw (pieces-word (map bitText (e ∷ es)) (all-weaken _ _ (map bitText (e ∷ es)) (λ b h. no-white b (omega arith)) d))
     (every-back bitLetter bitText (e ∷ es) (all-weaken _ _ (e ∷ es) bit-read a)))
@@ -166,7 +168,7 @@ escape-read c t =
     P s = characters plain (s ++ t) ≡ consText c (characters plain t)
 
 chars-say : (es : List ℤ) → All (λ (e : ℤ). isElement Text e ≡ true) es → Holds (Says Text es) (forms es)
-unfolding forms formOf textElements consText allText
+unfolding forms formOf textElements consText allText skipWhite
 chars-say [] a = holds (record { raw = []; read = closed-read; text = unfold allText in refl; elements = refl })
 chars-say (pos c ∷ es) a =
     let f : Holds {E = ℕ} (λ (b : List ℕ). (b ≡ escaped c) × (isText c ≡ true)) (cond (isText c) (good (escaped c)) (bad 16))
@@ -183,7 +185,7 @@ chars-say (pos c ∷ es) a =
 chars-say (negsuc c ∷ es) a = refuses
 
 pub text-back : (k : Shape) (e : ℤ) (es : List ℤ) → All (λ (e : ℤ). isElement k e ≡ true) (e ∷ es) → Holds (Says k (e ∷ es)) (elementText k (e ∷ es))
-unfolding elementText textElements isElement
+unfolding elementBytes elementText textElements isElement
 text-back Truths e es a = holds (spaced-says Truths truthWord truthText (e ∷ es) truth-word (λ s. refl) truth-read a)
 text-back Bits e es a = holds (bits-says e es a)
 text-back (Whole g v) e es a = holds (spaced-says (Whole g v) (integerWord g (suc (last v))) shortest (e ∷ es) shortest-word (λ s. refl) (integer-read g v) a)
@@ -420,3 +422,30 @@ unfolding writeText
 write-text-fails c null = gives
 write-text-fails c (shown []) = fails (lit≤ tt, lit≤ tt)
 write-text-fails c (shown (e ∷ es)) = fails-bind (element-text-fails (shape (c .kind)) (e ∷ es)) (λ t. gives)
+
+-- ---- what is written is the form, where there is one
+
+bytes-form : (r : Result ℕ (List ℕ)) → Holds (λ (b : List ℕ). formBytes r ≡ b) r
+bytes-form (good b) = holds refl
+bytes-form (bad n) = refuses
+
+bytes-forms : (es : List ℤ) → Holds (λ (b : List ℕ). joined (λ e. formBytes (formOf e)) es ≡ b) (forms es)
+unfolding forms joined
+bytes-forms [] = holds refl
+bytes-forms (e ∷ es) = holds-bind (bytes-form (formOf e)) (λ b h. holds-bind (bytes-forms es) (λ r i. holds (rw (h, i))))
+
+bytes-elements : (k : Shape) (es : List ℤ) → Holds (λ (b : List ℕ). elementBytes k es ≡ b) (elementText k es)
+unfolding elementBytes elementText
+bytes-elements Truths es = holds refl
+bytes-elements Bits es = holds refl
+bytes-elements (Whole g v) es = holds refl
+bytes-elements Text es = bytes-forms es
+
+bytes-cell : (c : Column) (x : Cell) → Holds (λ (b : List ℕ). textBytes c x ≡ b) (writeText c x)
+unfolding textBytes writeText
+bytes-cell c null = holds refl
+bytes-cell c (shown []) = refuses
+bytes-cell c (shown (e ∷ es)) = holds-bind (bytes-elements (shape (c .kind)) (e ∷ es)) (λ t h. holds (ap tagged h))
+
+pub text-bytes : (c : Column) (x : Cell) (b : List ℕ) → writeText c x ≡ good b → textBytes c x ≡ b
+text-bytes c x b e = holds-at (bytes-cell c x) e

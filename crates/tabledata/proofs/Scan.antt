@@ -14,7 +14,6 @@ use borrow.Author.Tests.{eq-eqb, eqb-false, eqb-true, le-ltb, lt-ltb, ne-eqb}
 use Rattle.number.specs.Number.{Fault, Unwritten, digit, hexadigit, numeral, sized}
 use Rattle.table.proofs.Laws.{between-is, between-yes, or-either}
 use Rattle.table.specs.Bytes.{after, between, bytes, ends, isWhite, same, skipWhite, tag}
-use Rattle.table.specs.Outcome.{at}
 use Rattle.table.specs.Result.{Result, bad, good, orElse, refusedAs}
 use Rattle.tabledata.specs.Contracts.{DigitIs, ItemIs, TagIs, baseIn, digitIn, ended, nameAs, referred, spoiledNumber, valueIn}
 use Rattle.tabledata.specs.TableData.{Where, cellText, characters, close-TD, consText, emitted, expanded, follow, isText, named, names, numeric, open-TD, plain, reference, step}

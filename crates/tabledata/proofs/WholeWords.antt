@@ -4,44 +4,36 @@ use native.Mathlib.Nat.{le-refl}
 use native.Mathlib.Omega.{arith}
 use mathlib.Core.Bool.{Bool, _&&_, cond, false, false≢true, true}
 use mathlib.Core.List.{List, [], _++_, _∷_}
-use mathlib.Core.Option.{some}
 use mathlib.Core.Path.{_∙_, _≡_, ap, refl, subst, sym}
 use lib.Dec.{eqb, leb, ltb}
-use lib.IntN.{negsuc, pos, ℤ}
+use lib.IntN.{ℤ}
 use lib.ListN.{drop, getD, length, length-drop, take}
 use lib.Seq.{length-take-le, take-all}
 use borrow.Author.Tests.{eq-eqb, eqb-true, le-leb, leb-true, ne-eqb}
-use mir.Syntax.{w64}
-use mir.Val.{ofZ, toZ}
 use Rattle.number.proofs.WordLaws.{fed-reads, feed-more}
-use Rattle.number.specs.Contracts.{IsPlain, QuickAt, isSigned, size, widthOf}
+use Rattle.number.specs.Contracts.{IsPlain, QuickAt, isSigned, size}
 use Rattle.number.specs.Number.{Fault, digit, hexadigit}
-use Rattle.number.specs.Words.{addDecimal, addHexadecimal, brokenWord, capped, decimalNext, feed, firstNext, fresh, hexadecimalNext, reading, stepFrom, word, zeroNext, step as letter, step as letter, step as letter, step as letter}
+use Rattle.number.specs.Words.{addDecimal, addHexadecimal, brokenWord, capped, decimalNext, feed, firstNext, fresh, hexadecimalNext, reading, stepFrom, word, zeroNext, step as letter}
 use Rattle.number.specs.declared.Form.{Form}
 use Rattle.number.specs.declared.Form.the-variants.{Decimal, Hexadecimal, Minus, Plus, Start, Zero}
 use Rattle.number.specs.declared.Integer.{Integer}
-use Rattle.number.specs.declared.Quick.{Quick}
 use Rattle.number.specs.declared.Word.{Word}
-use Rattle.table.proofs.Laws.{NoWhite, all-weaken, and-both, bad-good, cond-cases, nil-not-null, no-white, same-self}
+use Rattle.table.proofs.Laws.{NoWhite, all-weaken, and-both, bad-good, cond-cases, nil-not-null, no-white}
 use Rattle.table.specs.All.{All}
-use Rattle.table.specs.Bytes.{after, bytes, ends, isWhite, skipWhite, tag, words}
-use Rattle.table.specs.Cell.{Cell, bound, emptyIsNull, isChar, isNullList, null, nullElement, nullOfKind, roomFits, roomIn, sameInteger, show, shown}
+use Rattle.table.specs.Bytes.{after, between, bytes, ends, isWhite, skipWhite, tag, words}
+use Rattle.table.specs.Cell.{Cell, bound, emptyIsNull, isChar, isNullList, null, nullElement, roomFits, roomIn, show, shown}
 use Rattle.table.specs.Contracts.{Reads}
-use Rattle.table.specs.Outcome.{at}
 use Rattle.table.specs.Result.{Result, _>>=_, bad, every, good, refusedAs}
 use Rattle.table.specs.Shape.{Bits, Shape, Text, Truths, Whole, Width, last, shape}
 use Rattle.table.specs.declared.Column.{Column}
 use Rattle.table.specs.declared.Found.{Found}
 use Rattle.table.specs.declared.Found.the-variants.{Refused, Shown}
-use Rattle.table.specs.declared.Null.{Null}
-use Rattle.table.specs.declared.Null.the-variants.{Declared, Undeclared}
 use Rattle.tabledata.proofs.Laws.{nil-elements}
-use Rattle.tabledata.proofs.Machine.{last-at, passed-none, passed-plain, passed-then, plain-yes}
-use Rattle.tabledata.proofs.Scan.{next1}
-use Rattle.tabledata.proofs.Words.{added-word, last-good, words-start}
-use Rattle.tabledata.specs.Contracts.{Counted, Finds, LastAt, Passed, QuickLast, begunForm, content, elementsOf, finished, isPlain, nullAs, onward, roomAnd}
-use Rattle.tabledata.specs.TableData.{allText, cellText, characters, close-TD, countFits, follow, integerWord, open-TD, plain, readText, step, textCell, textElements}
-use Rattle.number.specs.Words.{step as letter}
+use Rattle.tabledata.proofs.Machine.{cut-at, last-at, passed-none, passed-plain, passed-then, plain-yes}
+use Rattle.tabledata.proofs.Scan.{next1, text-plain}
+use Rattle.tabledata.specs.Contracts.{Counted, Finds, Passed, QuickWordIs, begunForm, content, elementsOf, finished, isPlain, onward, roomAnd}
+use Rattle.tabledata.specs.TableData.{allText, cellText, characters, close-TD, countFits, follow, integerWord, isText, open-TD, plain, readText, step, textCell, textElements}
+use Rattle.tabledata.specs.declared.QuickWord.{QuickWord}
 
 -- ---- a word that has begun
 
@@ -121,37 +113,6 @@ unfolding textElements
 whole-are g v w = refl
 
 -- ---- what elements come to in a column
-
-alike : (a b : ℤ) → sameInteger a b ≡ true → a ≡ b
-unfolding sameInteger
-alike (pos m) (pos n) e = ap pos (eqb-true m n e)
-alike (pos m) (negsuc n) e = absurd (false≢true e)
-alike (negsuc m) (pos n) e = absurd (false≢true e)
-alike (negsuc m) (negsuc n) e = ap negsuc (eqb-true m n e)
-
-pub same-bits : (a b : ℤ) → toZ w64 (ofZ w64 a) ≡ a → toZ w64 (ofZ w64 b) ≡ b → eqb (ofZ w64 a) (ofZ w64 b) ≡ sameInteger a b
-same-bits a b f g = by (eqb (ofZ w64 a) (ofZ w64 b)) refl (sameInteger a b) refl
-  where
-    by : (t : Bool) → eqb (ofZ w64 a) (ofZ w64 b) ≡ t → (u : Bool) → sameInteger a b ≡ u → t ≡ u
-    by true e true k = refl
-    by true e false k =
-        let one : a ≡ b = sym f ∙ ap (toZ w64) (eqb-true (ofZ w64 a) (ofZ w64 b) e) ∙ g in
-        sym (same-self a) ∙ ap (sameInteger a) one ∙ k
-    by false e true k = sym (sym (eq-eqb (ofZ w64 a) (ofZ w64 b) (ap (ofZ w64) (alike a b k))) ∙ e)
-    by false e false k = refl
-
-pub null-one : (l : List ℤ) (n : ℕ) (z : ℤ) → n ≡ 1 → 1 ≤ length l → isNullList (some z) (take n l) ≡ sameInteger (getD l 0 (pos 0)) z
-unfolding isNullList
-null-one [] n z e h = absurd (omega arith)
-null-one (x ∷ l) n z e h = rw e
-
-pub null-many : (l : List ℤ) (n : ℕ) (z : ℤ) → (n ≡ 1 → ⊥) → n ≤ length l → isNullList (some z) (take n l) ≡ false
-unfolding isNullList
-null-many l zero z e h = refl
-null-many [] (suc n) z e h = absurd (omega arith)
-null-many (x ∷ l) (suc zero) z e h = absurd (e refl)
-null-many (x ∷ []) (suc (suc n)) z e h = absurd (omega arith)
-null-many (x ∷ y ∷ l) (suc (suc n)) z e h = refl
 
 -- a cell whose content begins at a place is its elements, finished
 abbrev withRest : {A : Type 0} → List ℕ → A → Result ℕ (A × List ℕ)
@@ -237,11 +198,6 @@ room-own Bits m n = rw (eq-eqb m m refl)
 room-own (Whole g v) m n = rw (eq-eqb m m refl)
 room-own Text m n = rw (le-leb m m (le-refl m))
 
-pub null-whole : (g : Bool) (v : Width) (o : Null) → nullAs o ≡ nullOfKind (Whole g v) o
-unfolding nullOfKind
-null-whole g v Undeclared = refl
-null-whole g v (Declared z) = refl
-
 -- what was found of the elements is found of the cell
 pub found-reads : (c : Column) (s : List ℕ) (place next n : ℕ) (es : List ℤ) (entry exit : List ℤ) (r : Found) → place ≤ next → next ≤ length s → length exit ≡ length entry
     → readText c (drop place s) ≡ finished c es (drop next s) → Counted es n exit → Finds c n next exit r → Reads (readText c (drop place s)) s place entry exit r
@@ -292,21 +248,39 @@ passed-run (suc n) s i h a =
 plain-white : (w : List ℕ) → All IsPlain w → NoWhite w
 plain-white w a = all-weaken _ _ w (λ c h. no-white c (omega (arith, h))) a
 
-pub quick-last-is : (k : Integer) (s : List ℕ) (from end next : ℕ) (z : ℤ) → QuickAt k s from z end → after 10 (bytes "</TD>") (drop end s) ≡ good (drop next s) → end ≤ next → next ≤ length s → QuickLast k s from (Quick.Value z next)
-unfolding integerWord
-quick-last-is k s from end next z q e h i =
-    let f : from + (end - from) ≡ end = omega (arith, q .later) in
-    let p : Passed s from end (take (end - from) (drop from s)) = subst (λ (j : ℕ). Passed s from j (take (end - from) (drop from s))) f (passed-run (end - from) s from (omega (arith, q .later, q .within)) (q .plain)) in (
-      take (end - from) (drop from s),
-      omega (arith, q .later, q .within, length-take-le (end - from) (drop from s) (omega (arith, length-drop from s, q .within))),
-      rw (q .reads),
-      last-at s from end (take (end - from) (drop from s)) p next (plain-white (take (end - from) (drop from s)) (q .plain)) (quick-end s end next e),
-      omega (arith, q .later),
-      i,
-    )
+module _ (k : Integer) (s : List ℕ) (from end : ℕ) (z : ℤ) (q : QuickAt k s from z end) where
+  abbrev digits : List ℕ
+  digits = take (end - from) (drop from s)
 
--- the one word of a cell
-pub one-word-cell : (k : Integer) (s : List ℕ) (from next : ℕ) (w : List ℕ) (z : ℤ) → 1 ≤ length w → integerWord (isSigned k) (size k) w ≡ good z → LastAt s from next w → content (Whole (isSigned k) (widthOf k)) (drop from s) ≡ good (z ∷ [], drop next s)
-one-word-cell k s from next w z h e l =
-    last-good (Whole (isSigned k) (widthOf k)) (integerWord (isSigned k) (size k)) (whole-are (isSigned k) (widthOf k)) s from from [] [] (passed-none s from) (words-start (integerWord (isSigned k) (size k))) next w l (z ∷ [])
-    (added-word (integerWord (isSigned k) (size k)) w (good z) h e)
+  quick-passed : Passed s from end digits
+  quick-passed =
+      let f : from + (end - from) ≡ end = omega (arith, q .later) in
+      subst (λ (j : ℕ). Passed s from j digits) f (passed-run (end - from) s from (omega (arith, q .later, q .within)) (q .plain))
+
+  quick-some : 1 ≤ length digits
+  quick-some = omega (arith, q .later, q .within, length-take-le (end - from) (drop from s) (omega (arith, length-drop from s, q .within)))
+
+  quick-means : integerWord (isSigned k) (size k) digits ≡ good z
+  unfolding integerWord
+  quick-means = rw (q .reads)
+
+  pub quick-cut-is : end < length s → getD s end 0 ≡ 32 → QuickWordIs k s from (QuickWord.Cut z (end + 1))
+  unfolding between isText isWhite
+  quick-cut-is h e = (
+    digits,
+    quick-some,
+    quick-means,
+    cut-at s from end (end + 1) digits (getD s end 0) quick-passed (plain-white digits (q .plain)) (text-plain s end h (λ x. omega (arith, e, x)) (λ x. omega (arith, e, x))) (ap isText e) (ap isWhite e),
+    omega (arith, q .later),
+    omega arith,
+  )
+
+  pub quick-last-is : (next : ℕ) → after 10 (bytes "</TD>") (drop end s) ≡ good (drop next s) → end ≤ next → next ≤ length s → QuickWordIs k s from (QuickWord.Last z next)
+  quick-last-is next e h i = (
+    digits,
+    quick-some,
+    quick-means,
+    last-at s from end digits quick-passed next (plain-white digits (q .plain)) (quick-end s end next e),
+    omega (arith, q .later),
+    i,
+  )

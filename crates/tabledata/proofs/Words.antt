@@ -12,7 +12,6 @@ use lib.ListN.{drop, length, length-map}
 use borrow.Author.Tests.{eq-eqb, eqb-true, le-leb, lt-leb, ne-eqb}
 use Rattle.table.proofs.Laws.{NoWhite, all-append, allBelow, and-both, bad-good, between-is, between-yes, cond-cases, each-below, pieces-word}
 use Rattle.table.specs.Bytes.{attach, between, bytes, isWhite, notEmpty, pieces, same, words}
-use Rattle.table.specs.Outcome.{at}
 use Rattle.table.specs.Result.{Result, _>>=_, bad, every, good}
 use Rattle.table.specs.Shape.{Shape, Truths}
 use Rattle.tabledata.proofs.Laws.{text-lt}

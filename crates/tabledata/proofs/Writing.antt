@@ -3,31 +3,30 @@
 use Prim.Native.Nat.{_*_, _+_, _<_, _≤_, suc, zero, ℕ}
 use native.Mathlib.Numerals.{add-one, towards-suc}
 use native.Mathlib.Omega.{arith}
-use mathlib.Core.Bool.{Bool, cond, false, false≢true, true}
+use mathlib.Core.Bool.{Bool, false, false≢true, true}
 use mathlib.Core.List.{List, [], _++_, _∷_, append-nil, map}
-use mathlib.Core.Option.{some}
 use mathlib.Core.Path.{_∙_, _≡_, ap, refl, subst, sym}
 use lib.IntN.{negsuc, pos, ℤ}
 use lib.ListN.{drop, drop-of-length-le, getD, length, length-append, length-map, set, take}
 use lib.Seq.{drop-cons, getD-take, length-sets, length-take-le, sets}
-use borrow.Author.Tests.{eq-eqb, ltb-true, ne-eqb}
+use borrow.Author.Tests.{eq-eqb, ne-eqb}
 use mir.Syntax.{w64}
 use mir.Val.{ofZ, toZ}
 use Rattle.number.proofs.Laws.{digits-are}
 use Rattle.number.specs.Number.{shortest}
 use Rattle.table.proofs.Laws.{bad-good}
-use Rattle.table.specs.All.{All}
 use Rattle.table.specs.Bytes.{between, bytes}
-use Rattle.table.specs.Cell.{Fits, below, fits-shown, isElement, null, shown}
-use Rattle.table.specs.Contracts.{sizeOf}
-use Rattle.table.specs.Outcome.{at}
-use Rattle.table.specs.Result.{IsGood, Result, _>>=_, bad, good}
+use Rattle.table.specs.Cell.{Cell, null, shown}
+use Rattle.table.specs.Contracts.{formBytes, sizeOf}
+use Rattle.table.specs.Result.{Result, _>>=_, bad, good}
 use Rattle.table.specs.Shape.{Bits, Shape, Text, Truths, Whole, Width, shape}
 use Rattle.table.specs.Wrote.{Wrote}
 use Rattle.table.specs.declared.Column.{Column}
-use Rattle.tabledata.proofs.Scan.{same-end, text-not}
-use Rattle.tabledata.specs.Contracts.{Puttable, Writable, formSize, joined, sizeWith, written}
-use Rattle.tabledata.specs.TableData.{bitText, close-TD, elementText, escaped, formOf, forms, isText, open-TD, spaced, tagged, truthText, writeText}
+use Rattle.tabledata.proofs.Laws.{text-bytes, text-lt}
+use Rattle.tabledata.proofs.Machine.{plain-is, plain-low}
+use Rattle.tabledata.proofs.Scan.{text-not}
+use Rattle.tabledata.specs.Contracts.{formSize, isPlain, sizeWith}
+use Rattle.tabledata.specs.TableData.{bitText, close-TD, elementBytes, elementText, escaped, formOf, forms, isText, joined, open-TD, spaced, tagged, textBytes, truthText, writeText}
 
 -- ---- writing
 
@@ -46,6 +45,9 @@ wrote-then {x} {y} {z} {i} {j} {k} {a} {b} p q = record {
 
 pub wrote-one : (l : List ℕ) (i v : ℕ) → Wrote l i (v ∷ []) (set l i v) (i + 1)
 wrote-one l i v = record { now-is = refl; next-is = refl }
+
+pub wrote-none : (l : List ℕ) (i : ℕ) → Wrote l i [] l i
+wrote-none l i = record { now-is = refl; next-is = omega arith }
 
 pub wrote-as : {old new : List ℕ} {at next : ℕ} {a b : List ℕ} → a ≡ b → Wrote old at a new next → Wrote old at b new next
 wrote-as {old} {new} {at} {next} e w = subst (λ (t : List ℕ). Wrote old at t new next) e w
@@ -94,6 +96,13 @@ taken-at l n k h = getD-take n l k (pos 0) h
 pub taken-long : (l : List ℤ) (n : ℕ) → n ≤ length l → length (take n l) ≡ n
 taken-long l n h = length-take-le n l h
 
+module _ (f : ℤ → List ℕ) (l : List ℤ) (n k : ℕ) (h : n ≤ length l) where
+  pub taken-more : k < n → joined f (drop k (take n l)) ≡ f (getD l k (pos 0)) ++ joined f (drop (k + 1) (take n l))
+  taken-more i = joined-more f (take n l) k (omega (arith, taken-long l n h)) ∙ ap (λ (z : ℤ). f z ++ joined f (drop (k + 1) (take n l))) (taken-at l n k i)
+
+  pub taken-end : n ≤ k → joined f (drop k (take n l)) ≡ []
+  taken-end i = joined-end f (take n l) k (omega (arith, taken-long l n h))
+
 spaced-tail : (g : ℤ → List ℕ) (e : ℤ) (es : List ℤ) → spaced (map g (e ∷ es)) ≡ g e ++ joined (λ z. 32 ∷ g z) es
 unfolding spaced joined
 spaced-tail g e [] = sym (append-nil (g e))
@@ -104,56 +113,34 @@ pub spaced-joined : (g : ℤ → List ℕ) (es : List ℤ) → 1 ≤ length es �
 spaced-joined g [] h = absurd (omega arith)
 spaced-joined g (e ∷ es) h = spaced-tail g e es
 
+pub spaced-taken : (g : ℤ → List ℕ) (l : List ℤ) (n : ℕ) → n ≤ length l → (n ≡ 0 → ⊥) → spaced (map g (take n l)) ≡ g (getD l 0 (pos 0)) ++ joined (λ z. 32 ∷ g z) (drop 1 (take n l))
+spaced-taken g l n h i =
+    spaced-joined g (take n l) (omega (arith, taken-long l n h, i))
+    ∙ ap (λ (z : ℤ). g z ++ joined (λ z. 32 ∷ g z) (drop 1 (take n l))) (taken-at l n 0 (omega (arith, i)))
+
+pub spaced-none : (g : ℤ → List ℕ) (l : List ℤ) (n : ℕ) → n ≡ 0 → spaced (map g (take n l)) ≡ []
+unfolding spaced
+spaced-none g l n e = rw e
+
 pub spaced-length : (g : ℤ → List ℕ) (es : List ℤ) → 1 ≤ length es → suc (length (spaced (map g es))) ≡ length (joined (λ z. 32 ∷ g z) es)
 unfolding joined
 spaced-length g [] h = absurd (omega arith)
 spaced-length g (e ∷ es) h = ap (λ (t : List ℕ). suc (length t)) (spaced-tail g e es)
 
-pub bits-joined : (es : List ℤ) → map bitText es ≡ joined (λ z. bitText z ∷ []) es
-unfolding joined
+pub bits-joined : (es : List ℤ) → elementBytes Bits es ≡ joined (λ z. bitText z ∷ []) es
+unfolding elementBytes joined
 bits-joined [] = refl
 bits-joined (e ∷ es) = ap (λ (t : List ℕ). bitText e ∷ t) (bits-joined es)
 
+pub bits-long : (l : List ℤ) (n : ℕ) → n ≤ length l → length (elementBytes Bits (take n l)) ≡ n
+unfolding elementBytes
+bits-long l n h = length-map (take n l) bitText ∙ taken-long l n h
+
 -- ---- char
 
--- what a char comes to, where all have a form
+-- the bytes of a char
 abbrev pub charForm : ℤ → List ℕ
-charForm z = written (formOf z)
-
-pub forms-joined : (es : List ℤ) → IsGood (forms es) → written (forms es) ≡ joined charForm es
-unfolding forms joined
-forms-joined [] h = refl
-forms-joined (e ∷ es) h = go (formOf e) refl (forms es) refl (forms-joined es)
-  where
-    go : (r : Result ℕ (List ℕ)) → formOf e ≡ r → (q : Result ℕ (List ℕ)) → forms es ≡ q → (IsGood (forms es) → written (forms es) ≡ joined charForm es) → written (forms (e ∷ es)) ≡ charForm e ++ joined charForm es
-    go (good b) p (good t) q ih = rw (p, q) (ap (λ (u : List ℕ). b ++ u) (sym (ap written q) ∙ ih (rw q tt)))
-    go (good b) p (bad n) q ih = absurd (rw (p, q) at h)
-    go (bad n) p q e ih = absurd (rw p at h)
-
--- each of them has one
-pub form-good : (es : List ℤ) (k : ℕ) → IsGood (forms es) → k < length es → IsGood (formOf (getD es k (pos 0)))
-unfolding forms
-form-good [] k h i = absurd (omega arith)
-form-good (e ∷ es) zero h i = go (formOf e) h
-  where
-    go : (r : Result ℕ (List ℕ)) → IsGood (r >>= λ b. forms es >>= λ t. good (b ++ t)) → IsGood r
-    go (good b) k = tt
-    go (bad n) k = k
-form-good (e ∷ es) (suc k) h i = form-good es k (go (formOf e) (forms es) h) (omega arith)
-  where
-    go : (r q : Result ℕ (List ℕ)) → IsGood (r >>= λ b. q >>= λ t. good (b ++ t)) → IsGood q
-    go (good b) (good t) k = tt
-    go (good b) (bad n) k = k
-    go (bad n) q k = absurd k
-
--- a code whose char has a form
-pub form-code : (c : ℕ) → IsGood (formOf (pos c)) → formOf (pos c) ≡ good (escaped c)
-unfolding formOf
-form-code c h = go (isText c) refl h
-  where
-    go : (t : Bool) → isText c ≡ t → IsGood (cond {A = Result ℕ (List ℕ)} t (good (escaped c)) (bad 16)) → formOf (pos c) ≡ good (escaped c)
-    go true e k = rw e
-    go false e k = absurd k
+charForm z = formBytes (formOf z)
 
 -- ---- sizes
 
@@ -242,16 +229,16 @@ size-bits es = ap good (omega (arith, length-map es bitText))
 pub equal-bits : (a b : ℤ) → toZ w64 (ofZ w64 a) ≡ a → toZ w64 (ofZ w64 b) ≡ b → ofZ w64 a ≡ ofZ w64 b → a ≡ b
 equal-bits a b f g e = sym f ∙ ap (toZ w64) e ∙ g
 
-pub bit-zero : (z : ℤ) → z ≡ pos 0 → 48 ≡ bitText z
+pub bit-one : (z : ℤ) → z ≡ pos 1 → 49 ≡ bitText z
 unfolding bitText
-bit-zero z e = rw e
+bit-one z e = rw e
 
-pub bit-one : (z : ℤ) → isElement Bits z ≡ true → (z ≡ pos 0 → ⊥) → 49 ≡ bitText z
-unfolding bitText isElement below
-bit-one (pos zero) h n = absurd (n refl)
-bit-one (pos (suc zero)) h n = refl
-bit-one (pos (suc (suc k))) h n = absurd (omega (arith, ltb-true (suc (suc k)) 2 h))
-bit-one (negsuc k) h n = absurd (false≢true h)
+pub bit-other : (z : ℤ) → (z ≡ pos 1 → ⊥) → 48 ≡ bitText z
+unfolding bitText
+bit-other (pos zero) n = refl
+bit-other (pos (suc zero)) n = absurd (n refl)
+bit-other (pos (suc (suc k))) n = refl
+bit-other (negsuc k) n = refl
 
 pub truth-other : (z : ℤ) → (z ≡ pos 0 → ⊥) → (z ≡ pos 1 → ⊥) → truthText z ≡ 63 ∷ []
 unfolding truthText
@@ -259,12 +246,6 @@ truth-other (pos zero) x y = absurd (x refl)
 truth-other (pos (suc zero)) x y = absurd (y refl)
 truth-other (pos (suc (suc k))) x y = refl
 truth-other (negsuc k) x y = refl
-
--- an element of a kind, at an index
-pub each-at : (k : Shape) (es : List ℤ) (i : ℕ) → All (λ (e : ℤ). isElement k e ≡ true) es → i < length es → isElement k (getD es i (pos 0)) ≡ true
-each-at k [] i a h = absurd (omega arith)
-each-at k (e ∷ es) zero a h = a .0
-each-at k (e ∷ es) (suc i) a h = each-at k es i (a .1) (omega arith)
 
 -- a code beyond 127 has no form, whichever it is
 pub form-none : (c : ℕ) → isText c ≡ false → formOf (pos c) ≡ bad 16
@@ -302,95 +283,55 @@ wrote-two l i a b = record { now-is = ap (λ (n : ℕ). set (set l i a) n b) (ad
 pub left-room : {old new : List ℕ} {at i : ℕ} {whole rest : List ℕ} → Left old at whole new i rest → (a more : List ℕ) → rest ≡ a ++ more → at + length whole ≤ length old → i + length a ≤ length new
 left-room p a more e h = omega (arith, p .same-next, p .same-long, ap length e, length-append a more)
 
-pub escaped-amp : (c : ℕ) → c ≡ 38 → escaped c ≡ bytes "&amp;"
-unfolding escaped
-escaped-amp c e = rw e
+-- a char that stands for itself, and one that is left out
+pub char-itself : (c : ℕ) → isText c ≡ true → (c ≡ 38 → ⊥) → (c ≡ 60 → ⊥) → (c ≡ 62 → ⊥) → (c ≡ 13 → ⊥) → charForm (pos c) ≡ c ∷ []
+char-itself c t x y z w = ap formBytes (form-text c t ∙ ap good (escaped-itself c x y z w))
 
-pub escaped-lt : (c : ℕ) → c ≡ 60 → escaped c ≡ bytes "&lt;"
-unfolding escaped
-escaped-lt c e = rw e
+pub char-plain : (c : ℕ) → isPlain c ≡ true → (c ≡ 62 → ⊥) → (charForm (pos c) ≡ c ∷ []) × (c < 128)
+char-plain c h n =
+    let p = plain-is c h in
+    (char-itself c (p .1) (p .0 .1) (p .0 .0) n (λ e. absurd (false≢true (sym (plain-low c (omega (arith, e))) ∙ h))), text-lt c (p .1) .1)
 
-pub escaped-gt : (c : ℕ) → c ≡ 62 → escaped c ≡ bytes "&gt;"
-unfolding escaped
-escaped-gt c e = rw e
-
-pub escaped-return : (c : ℕ) → c ≡ 13 → escaped c ≡ bytes "&#xD;"
-unfolding escaped
-escaped-return c e = rw e
+pub char-none : (c : ℕ) → isText c ≡ false → charForm (pos c) ≡ []
+char-none c t = ap formBytes (form-none c t)
 
 -- the char that stands there, by its code
-pub char-form : (z x : ℤ) (c : ℕ) → z ≡ x → formOf z ≡ formOf (pos c) → IsGood (formOf x) → charForm x ≡ escaped c
-char-form z x c e f h = ap written (ap formOf (sym e) ∙ f ∙ form-code c (subst IsGood (ap formOf (sym e) ∙ f) h))
+pub char-code : (z x : ℤ) (c : ℕ) → z ≡ x → formOf z ≡ formOf (pos c) → charForm x ≡ charForm (pos c)
+char-code z x c e f = ap formBytes (ap formOf (sym e) ∙ f)
 
 -- ---- sizes by the kind
 
 module _ (c : Column) (es : List ℤ) (some : 1 ≤ length es) where
   pub size-of-truths : shape (c .kind) ≡ Truths → sizeOf (writeText c (shown es)) ≡ good (2 * length es + 8)
-  unfolding elementText
+  unfolding elementBytes elementText
   size-of-truths q = size-shown c es some ∙ ap (λ (k : Shape). sizeWith 9 (elementText k es)) q ∙ size-words truthText es some ∙ ap good (omega (arith, truths-long es))
 
   pub size-of-bits : shape (c .kind) ≡ Bits → sizeOf (writeText c (shown es)) ≡ good (length es + 9)
-  unfolding elementText
+  unfolding elementBytes elementText
   size-of-bits q = size-shown c es some ∙ ap (λ (k : Shape). sizeWith 9 (elementText k es)) q ∙ size-bits es
 
   pub size-of-whole : (g : Bool) (v : Width) → shape (c .kind) ≡ Whole g v → sizeOf (writeText c (shown es)) ≡ good (8 + length (joined (λ z. 32 ∷ shortest z) es))
-  unfolding elementText
+  unfolding elementBytes elementText
   size-of-whole g v q = size-shown c es some ∙ ap (λ (k : Shape). sizeWith 9 (elementText k es)) q ∙ size-words shortest es some
 
   pub size-of-chars : shape (c .kind) ≡ Text → sizeOf (writeText c (shown es)) ≡ sizeWith 9 (forms es)
-  unfolding elementText
+  unfolding elementBytes elementText
   size-of-chars q = size-shown c es some ∙ ap (λ (k : Shape). sizeWith 9 (elementText k es)) q
 
 -- ---- a whole cell
 
-good-some : (c : Column) (es : List ℤ) → IsGood (writeText c (shown es)) → 1 ≤ length es
-unfolding writeText
-good-some c [] h = absurd h
-good-some c (e ∷ es) h = omega arith
+pub text-tagged : (c : Column) (es : List ℤ) → textBytes c (shown es) ≡ bytes "<TD>" ++ (elementBytes (shape (c .kind)) es ++ bytes "</TD>")
+unfolding textBytes tagged open-TD close-TD
+text-tagged c es = refl
 
-good-element : (c : Column) (es : List ℤ) → IsGood (writeText c (shown es)) → IsGood (elementText (shape (c .kind)) es)
-unfolding writeText
-good-element c [] h = absurd h
-good-element c (e ∷ es) h = go (elementText (shape (c .kind)) (e ∷ es)) h
+pub text-long : (c : Column) (es : List ℤ) → length (textBytes c (shown es)) ≡ 9 + length (elementBytes (shape (c .kind)) es)
+unfolding textBytes
+text-long c es = tagged-long (elementBytes (shape (c .kind)) es)
+
+-- a cell that was measured takes just so many bytes
+pub sized-text : (c : Column) (x : Cell) (n : ℕ) → sizeOf (writeText c x) ≡ good n → length (textBytes c x) ≡ n
+sized-text c x n e = go (writeText c x) refl e
   where
-    go : (r : Result ℕ (List ℕ)) → IsGood (r >>= λ t. good (tagged t)) → IsGood r
-    go (good t) k = tt
-    go (bad n) k = k
-
-pub written-tagged : (c : Column) (es : List ℤ) → IsGood (writeText c (shown es)) → written (writeText c (shown es)) ≡ bytes "<TD>" ++ (written (elementText (shape (c .kind)) es) ++ bytes "</TD>")
-unfolding writeText tagged open-TD close-TD
-written-tagged c [] h = absurd h
-written-tagged c (e ∷ es) h = go (elementText (shape (c .kind)) (e ∷ es)) h
-  where
-    go : (r : Result ℕ (List ℕ)) → IsGood (r >>= λ t. good (tagged t)) → written (r >>= λ t. good (tagged t)) ≡ bytes "<TD>" ++ (written r ++ bytes "</TD>")
-    go (good t) k = refl
-    go (bad n) k = absurd k
-
-fits-each : (c : Column) (es : List ℤ) → Fits c (shown es) → All (λ (e : ℤ). isElement (shape (c .kind)) e ≡ true) es
-fits-each c es (fits-shown x n) = x .each
-
-module _ (c : Column) (n : ℕ) (l : List ℤ) (place room : ℕ) (p : Writable c false n l place room) where
-  abbrev text : List ℕ
-  text = written (elementText (shape (c .kind)) (take n l))
-
-  pub writable-long : place + 4 + length (written (elementText (shape (c .kind)) (take n l))) + 5 ≤ room
-  writable-long = omega (arith, p .fits, ap length (written-tagged c (take n l) (p .form)), length-append text (bytes "</TD>"))
-
-  pub writable-put : (next m : ℕ) → next ≡ place + 4 → m ≡ room → Puttable (shape (c .kind)) n l next m
-  writable-put next m e f = record {
-    some = omega (arith, good-some c (take n l) (p .form), taken-long l n (p .few));
-    few = p .few;
-    each = fits-each c (take n l) (p .shows);
-    form = good-element c (take n l) (p .form);
-    fits = omega (arith, writable-long, e, f);
-  }
-
--- ---- what a size says: there is a form, of that length
-
-pub sized-good : (r : Result ℕ (List ℕ)) (n : ℕ) → sizeOf r ≡ good n → IsGood r
-sized-good (good b) n e = tt
-sized-good (bad x) n e = absurd (bad-good e)
-
-pub sized-long : (r : Result ℕ (List ℕ)) (n : ℕ) → sizeOf r ≡ good n → length (written r) ≡ n
-sized-long (good b) n e = let q : _≡_ {A = Result ℕ ℕ} (good (length b)) (good n) = e in cc
-sized-long (bad x) n e = absurd (bad-good e)
+    go : (r : Result ℕ (List ℕ)) → writeText c x ≡ r → sizeOf r ≡ good n → length (textBytes c x) ≡ n
+    go (good b) q e = let h : _≡_ {A = Result ℕ ℕ} (good (length b)) (good n) = e in ap length (text-bytes c x b q) ∙ cc
+    go (bad m) q e = absurd (bad-good e)

@@ -2,33 +2,28 @@
 use Prim.Native.Nat.{_*_, _+_, _-_, _<_, _≤_, ℕ}
 use mathlib.Core.Bool.{Bool, _&&_, cond, false, not, true}
 use mathlib.Core.List.{List, [], _++_, _∷_, map}
-use mathlib.Core.Option.{Option, none, some}
 use mathlib.Core.Path.{_≡_}
 use lib.Dec.{eqb, leb, ltb}
 use lib.IntN.{pos, ℤ}
 use lib.ListN.{drop, length, take}
 use Rattle.number.specs.Contracts.{isSigned, size}
 use Rattle.number.specs.Number.{Fault, Unwritten, digit, hexadigit}
-use Rattle.number.specs.Words.{feed, fresh, word}
+use Rattle.number.specs.Words.{feed, fresh}
 use Rattle.number.specs.declared.Form.{Form}
 use Rattle.number.specs.declared.Form.the-variants.{Decimal, Hexadecimal, Minus, Plus, Start, Zero}
 use Rattle.number.specs.declared.Integer.{Integer}
-use Rattle.number.specs.declared.Quick.{Quick}
-use Rattle.number.specs.declared.Quick.the-variants.{Careful}
 use Rattle.table.specs.All.{All}
-use Rattle.table.specs.Bytes.{between, ends, isWhite, notEmpty, skipWhite, tag}
-use Rattle.table.specs.Cell.{Cell, Fits, bound, emptyIsNull, isElement, isNull, roomFits, roomIn, show}
-use Rattle.table.specs.Contracts.{foundAs, held}
-use Rattle.table.specs.Result.{IsGood, Result, _>>=_, bad, every, good}
+use Rattle.table.specs.Bytes.{between, isWhite, notEmpty, skipWhite, tag}
+use Rattle.table.specs.Cell.{Cell, bound, emptyIsNull, roomFits, roomIn, show}
+use Rattle.table.specs.Contracts.{foundAs}
+use Rattle.table.specs.Result.{Result, _>>=_, bad, every, good}
 use Rattle.table.specs.Shape.{Shape, shape}
 use Rattle.table.specs.declared.Column.{Column}
 use Rattle.table.specs.declared.Found.{Found}
 use Rattle.table.specs.declared.Found.the-variants.{Refused, Shown}
 use Rattle.table.specs.declared.Kind.{Kind}
 use Rattle.table.specs.declared.Len.{Len}
-use Rattle.table.specs.declared.Null.{Null}
-use Rattle.table.specs.declared.Null.the-variants.{Declared, Undeclared}
-use Rattle.tabledata.specs.TableData.{allText, bitLetter, characters, close-TD, consText, countFits, elementText, expanded, integerWord, lower, plain, reference, textElements, writeText}
+use Rattle.tabledata.specs.TableData.{allText, bitLetter, characters, close-TD, consText, countFits, expanded, integerWord, lower, plain, reference, textElements}
 use Rattle.tabledata.specs.declared.Added.{Added}
 use Rattle.tabledata.specs.declared.Added.the-variants.{NoWord, To}
 use Rattle.tabledata.specs.declared.Item.{Item}
@@ -38,6 +33,7 @@ use Rattle.tabledata.specs.declared.Opening.{Opening}
 use Rattle.tabledata.specs.declared.Opening.the-variants.{Content, Empty, Shut}
 use Rattle.tabledata.specs.declared.Piece.{Piece}
 use Rattle.tabledata.specs.declared.Piece.the-variants.{Cut, Foul, Last, Rent}
+use Rattle.tabledata.specs.declared.QuickWord.{QuickWord}
 use Rattle.tabledata.specs.declared.Reference.{Reference}
 use Rattle.tabledata.specs.declared.Reference.the-variants.{Means, Unknown}
 use Rattle.tabledata.specs.declared.Tag.{Tag}
@@ -286,11 +282,13 @@ pub record NumeralIs (s : List ℕ) (from : ℕ) (r : Numeral) : Type 0 where
   pub found : NumeralAs s from r
   pub within : NumeralWithin s from r
 
--- the quick way reads the cell's one word, or leaves it to the careful way
-abbrev pub QuickLast : Integer → List ℕ → ℕ → Quick → Type 0
-QuickLast kind s from (Quick.Value z next) =
+-- the quick way reads a word that ends before a space or with the cell, or leaves it to the careful way
+abbrev pub QuickWordIs : Integer → List ℕ → ℕ → QuickWord → Type 0
+QuickWordIs kind s from (QuickWord.Cut z next) =
+    (w : List ℕ) × (1 ≤ length w) × (integerWord (isSigned kind) (size kind) w ≡ good z) × CutAt s from next w × (from < next) × (next ≤ length s)
+QuickWordIs kind s from (QuickWord.Last z next) =
     (w : List ℕ) × (1 ≤ length w) × (integerWord (isSigned kind) (size kind) w ≡ good z) × LastAt s from next w × (from ≤ next) × (next ≤ length s)
-QuickLast kind s from Careful = Unit {0}
+QuickWordIs kind s from QuickWord.Careful = Unit {0}
 
 -- has a word begun?
 abbrev pub begunForm : Form → Bool
@@ -303,10 +301,6 @@ begunForm Hexadecimal = true
 begunForm Form.Broken = true
 
 -- ---- what a cell shows
-
-abbrev pub nullAs : Null → Option ℤ
-nullAs Undeclared = none
-nullAs (Declared z) = some z
 
 -- does a count above 0 fit?
 unfoldable pub roomAnd : Kind → Len → ℕ → Bool
@@ -333,11 +327,6 @@ pub record Finds (c : Column) (count next : ℕ) (scratch : List ℤ) (r : Found
 
 -- ---- a cell is written
 
--- a form's bytes, where there is one
-abbrev pub written : Result ℕ (List ℕ) → List ℕ
-written (good b) = b
-written (bad n) = []
-
 -- the length of a text and so many bytes more, or why there is none
 unfoldable pub sizeWith : ℕ → Result ℕ (List ℕ) → Result ℕ ℕ
 sizeWith n r = r >>= λ t. good (n + length t)
@@ -345,23 +334,3 @@ sizeWith n r = r >>= λ t. good (n + length t)
 -- 0 where a char has no form
 unfoldable pub formSize : ℕ → Result ℕ ℕ
 formSize n = cond (eqb n 0) (bad 16) (good n)
-
--- each element's bytes in turn
-unfoldable pub joined : (ℤ → List ℕ) → List ℤ → List ℕ
-joined f [] = []
-joined f (e ∷ es) = f e ++ joined f es
-
--- elements that have a text, with room for it at a place
-pub record Puttable (k : Shape) (count : ℕ) (scratch : List ℤ) (place room : ℕ) : Type 0 where
-  pub some : 1 ≤ count
-  pub few : count ≤ length scratch
-  pub each : All (λ (e : ℤ). isElement k e ≡ true) (take count scratch)
-  pub form : IsGood (elementText k (take count scratch))
-  pub fits : place + length (written (elementText k (take count scratch))) ≤ room
-
--- a cell that its column can show, that has a form, with room for it at a place
-pub record Writable (c : Column) (isNull : Bool) (count : ℕ) (scratch : List ℤ) (place room : ℕ) : Type 0 where
-  pub few : count ≤ length scratch
-  pub shows : Fits c (held isNull count scratch)
-  pub form : IsGood (writeText c (held isNull count scratch))
-  pub fits : place + length (written (writeText c (held isNull count scratch))) ≤ room

@@ -8,6 +8,7 @@ use lib.ListN.{length}
 use Rattle.number.specs.Number.{Fault, digit, hexadigit, readInteger, shortest, sized}
 use Rattle.table.specs.Bytes.{after, between, byte, bytes, ends, same, skipWhite, tag, words}
 use Rattle.table.specs.Cell.{Cell, bound, emptyIsNull, null, roomFits, roomIn, show, shown}
+use Rattle.table.specs.Contracts.{formBytes}
 use Rattle.table.specs.Result.{Result, _>>=_, bad, every, good, orElse, refusedAs}
 use Rattle.table.specs.Shape.{Bits, Shape, Text, Truths, Whole, last, shape}
 use Rattle.table.specs.declared.Column.{Column}
@@ -183,7 +184,9 @@ truthText (pos (suc (suc n))) = bytes "?"
 truthText (negsuc n) = bytes "?"
 
 unfoldable pub bitText : ℤ → ℕ
-bitText (pos n) = n + 48
+bitText (pos zero) = byte "0"
+bitText (pos (suc zero)) = byte "1"
+bitText (pos (suc (suc n))) = byte "0"
 bitText (negsuc n) = byte "0"
 
 -- "one space between"
@@ -192,11 +195,23 @@ spaced [] = []
 spaced (w ∷ []) = w
 spaced (w ∷ v ∷ ws) = w ++ (byte " " ∷ spaced (v ∷ ws))
 
--- "integers shortest decimal, no `+`; one space between, none between bits"
+-- each element's bytes in turn
+unfoldable pub joined : (ℤ → List ℕ) → List ℤ → List ℕ
+joined f [] = []
+joined f (e ∷ es) = f e ++ joined f es
+
+-- "integers shortest decimal, no `+`; one space between, none between bits"; a char that has no form is left out here
+unfoldable pub elementBytes : Shape → List ℤ → List ℕ
+elementBytes Truths es = spaced (map truthText es)
+elementBytes Bits es = map bitText es
+elementBytes (Whole g v) es = spaced (map shortest es)
+elementBytes Text es = joined (λ e. formBytes (formOf e)) es
+
+-- the same where each char has a form, or 16
 unfoldable pub elementText : Shape → List ℤ → Result ℕ (List ℕ)
-elementText Truths es = good (spaced (map truthText es))
-elementText Bits es = good (map bitText es)
-elementText (Whole g v) es = good (spaced (map shortest es))
+elementText Truths es = good (elementBytes Truths es)
+elementText Bits es = good (elementBytes Bits es)
+elementText (Whole g v) es = good (elementBytes (Whole g v) es)
 elementText Text es = forms es
 
 unfoldable pub tagged : List ℕ → List ℕ
@@ -207,3 +222,9 @@ unfoldable pub writeText : Column → Cell → Result ℕ (List ℕ)
 writeText c null = good (bytes "<TD/>")
 writeText c (shown []) = bad 14
 writeText c (shown (e ∷ es)) = elementText (shape (c .kind)) (e ∷ es) >>= λ t. good (tagged t)
+
+-- `writeText`'s bytes, and bytes for what 14 and 16 refuse too, so that a writer has a promise for every cell. Where there is a form they
+-- are the form: law `text-bytes`.
+unfoldable pub textBytes : Column → Cell → List ℕ
+textBytes c null = bytes "<TD/>"
+textBytes c (shown es) = tagged (elementBytes (shape (c .kind)) es)

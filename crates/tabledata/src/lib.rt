@@ -8,26 +8,23 @@ use table::Column;
 use table::Found;
 use table::Kind;
 use table::Len;
-use table::Null;
 use table::Size;
-ghost use mathlib.Core.Path.{_≡_};
-ghost use mathlib.Core.Bool.{false, true};
 ghost use Prim.Native.Nat.{_*_, _+_, _-_, _<_, _≤_};
-ghost use lib.IntN.{pos, ℤ};
-ghost use lib.ListN.{drop, length, set, take};
-ghost use mathlib.Core.List.{List, [], _++_, _∷_, map};
 ghost use Rattle.number.specs.Contracts.{isSigned, size, widthOf};
-ghost use Rattle.number.specs.Words.{feed, fresh};
-ghost use Rattle.table.specs.All.{All};
 ghost use Rattle.number.specs.Number.{shortest};
-ghost use Rattle.table.specs.Result.{IsGood};
-ghost use Rattle.table.specs.Wrote.{Wrote};
-ghost use Rattle.table.specs.Cell.{bound, isElement, isNullList, nullElement, nullOfKind, roomFits};
-ghost use Rattle.table.specs.Contracts.{Reads, held, sizeAs, sizeOf};
+ghost use Rattle.number.specs.Words.{feed, fresh};
 ghost use Rattle.table.specs.Bytes.{after, bytes, isWhite, same, skipWhite, tag};
+ghost use Rattle.table.specs.Cell.{bound, roomFits};
+ghost use Rattle.table.specs.Contracts.{Reads, formBytes, held, sizeAs, sizeOf};
 ghost use Rattle.table.specs.Shape.{Bits, Text, Truths, Whole, shape};
-ghost use Rattle.tabledata.specs.TableData.{allText, bitText, cellText, characters, close-TR, elementText, escaped, expanded, formOf, forms, integerWord, isText, lower, named, names, numeric, open-TR, plain, readText, reference, spaced, truthText, truthWord, writeText};
-ghost use Rattle.tabledata.specs.Contracts.{Adds, BitIs, Copied, DigitIs, Finds, NumeralIs, PieceIs, Puttable, QuickLast, Writable, formSize, joined, sizeWith, written, begunForm, nullAs, roomAnd, Takes, content, isPlain, packed, spell, valueOf, ItemIs, NameIs, Skipped, TagIs, baseIn, ended, openingText, OpeningWithin, referenceAs, spoiledNumber, valueIn};
+ghost use Rattle.table.specs.Wrote.{Wrote};
+ghost use Rattle.tabledata.specs.Contracts.{Adds, BitIs, Copied, DigitIs, Finds, ItemIs, NameIs, NumeralIs, OpeningWithin, PieceIs, QuickWordIs, Skipped, TagIs, Takes, baseIn, begunForm, content, ended, formSize, isPlain, openingText, packed, referenceAs, roomAnd, sizeWith, spell, spoiledNumber, valueIn, valueOf};
+ghost use Rattle.tabledata.specs.TableData.{bitText, cellText, characters, close-TR, elementBytes, expanded, formOf, forms, integerWord, isText, joined, lower, named, names, numeric, open-TR, plain, readText, reference, spaced, textBytes, truthText, truthWord, writeText};
+ghost use lib.IntN.{pos};
+ghost use lib.ListN.{drop, length, set, take};
+ghost use mathlib.Core.Bool.{false, true};
+ghost use mathlib.Core.List.{[], _++_, _∷_, map};
+ghost use mathlib.Core.Path.{_≡_};
 
 // What is there, and the place after it; or it is not there as it should be.
 pub enum Tag {
@@ -676,48 +673,33 @@ fn add_integer(word: Word, kind: Integer, scratch: &mut [i64], count: usize) -> 
     }
 }
 
-fn careful_integers(s: &[u8], from: usize, kind: Integer, scratch: &mut [i64]) -> Taken
-    requires { ⌜ from ≤ length (now s) ⌝ }
-    ensures { λ r. ⌜ Takes (content (Whole (isSigned kind) (widthOf kind)) (drop from (now (s .entry)))) (now (s .entry)) from (now (scratch .entry)) (now (scratch .exit)) r ⌝ }
-{
-    let mut i = from;
-    let mut count = 0;
-    loop {
-        match integer_piece(s, i) {
-            Numeral::Rent => return Taken::Faulty(10),
-            Numeral::Foul(next) => return Taken::Faulty(spoiled(s, next)),
-            Numeral::Last(word, next) => {
-                let Added::To(all) = add_integer(word, kind, scratch, count) else {
-                    return Taken::Faulty(11);
-                };
-                return Taken::Held(all, next);
-            }
-            Numeral::Cut(word, next) => {
-                let Added::To(more) = add_integer(word, kind, scratch, count) else {
-                    return Taken::Faulty(spoiled(s, next));
-                };
-                count = more;
-                i = next;
-            }
-        }
-    }
+// A word of plain digits, read at once: with a space behind it, or with just `</TD>`; or a word for the careful way.
+pub enum QuickWord {
+    Cut(i64, usize),
+    Last(i64, usize),
+    Careful,
 }
 
-// A cell of one word that is plain digits and ends with just `</TD>`, as most are.
-fn quick_last(s: &[u8], from: usize, kind: Integer) -> Quick
+fn quick_word(s: &[u8], from: usize, kind: Integer) -> QuickWord
     requires { ⌜ from ≤ length (now s) ⌝ }
-    ensures { λ r. ⌜ QuickLast kind (now (s .entry)) from r ⌝ }
+    ensures { λ r. ⌜ QuickWordIs kind (now (s .entry)) from r ⌝ }
 {
     if s.len() <= from {
-        return Quick::Careful;
+        return QuickWord::Careful;
     }
     match number::quick_integer(s, from, kind) {
-        Quick::Careful => Quick::Careful,
+        Quick::Careful => QuickWord::Careful,
         Quick::Value(z, end) => {
+            if s.len() <= end {
+                return QuickWord::Careful;
+            }
+            if s[end] == 32 {
+                return QuickWord::Cut(z, end + 1);
+            }
             let Tag::At(next) = goes_on(s, end, b"</TD>") else {
-                return Quick::Careful;
+                return QuickWord::Careful;
             };
-            Quick::Value(z, next)
+            QuickWord::Last(z, next)
         }
     }
 }
@@ -726,11 +708,36 @@ fn integers(s: &[u8], from: usize, kind: Integer, scratch: &mut [i64]) -> Taken
     requires { ⌜ from ≤ length (now s) ⌝ }
     ensures { λ r. ⌜ Takes (content (Whole (isSigned kind) (widthOf kind)) (drop from (now (s .entry)))) (now (s .entry)) from (now (scratch .entry)) (now (scratch .exit)) r ⌝ }
 {
-    match quick_last(s, from, kind) {
-        Quick::Careful => careful_integers(s, from, kind, scratch),
-        Quick::Value(z, next) => {
-            put(scratch, 0, z);
-            Taken::Held(1, next)
+    let mut i = from;
+    let mut count = 0;
+    loop {
+        match quick_word(s, i, kind) {
+            QuickWord::Cut(z, next) => {
+                put(scratch, count, z);
+                count += 1;
+                i = next;
+            }
+            QuickWord::Last(z, next) => {
+                put(scratch, count, z);
+                return Taken::Held(count + 1, next);
+            }
+            QuickWord::Careful => match integer_piece(s, i) {
+                Numeral::Rent => return Taken::Faulty(10),
+                Numeral::Foul(next) => return Taken::Faulty(spoiled(s, next)),
+                Numeral::Last(word, next) => {
+                    let Added::To(all) = add_integer(word, kind, scratch, count) else {
+                        return Taken::Faulty(11);
+                    };
+                    return Taken::Held(all, next);
+                }
+                Numeral::Cut(word, next) => {
+                    let Added::To(more) = add_integer(word, kind, scratch, count) else {
+                        return Taken::Faulty(spoiled(s, next));
+                    };
+                    count = more;
+                    i = next;
+                }
+            },
         }
     }
 }
@@ -749,50 +756,6 @@ fn elements(s: &[u8], from: usize, kind: Kind, scratch: &mut [i64]) -> Taken
         Kind::Int => integers(s, from, Integer::Int, scratch),
         Kind::Long => integers(s, from, Integer::Long, scratch),
         Kind::Char => chars(s, from, scratch),
-    }
-}
-
-fn null_of_kind(kind: Kind, null: Null) -> Null
-    ensures { λ r. ⌜ nullAs r ≡ nullOfKind (shape kind) null ⌝ }
-{
-    match kind {
-        Kind::Boolean => Null::Declared(2),
-        Kind::Bit => Null::Undeclared,
-        Kind::UnsignedByte => null,
-        Kind::Short => null,
-        Kind::Int => null,
-        Kind::Long => null,
-        Kind::Char => Null::Undeclared,
-    }
-}
-
-// The element that stands for null in a column.
-fn null_element(column: Column) -> Null
-    ensures { λ r. ⌜ nullAs r ≡ nullElement column ⌝ }
-{
-    let kind = column.kind;
-    let len = column.len;
-    let null = column.null;
-    match len {
-        Len::Fixed(n) => {
-            if n == 1 {
-                null_of_kind(kind, null)
-            } else {
-                Null::Undeclared
-            }
-        }
-        Len::Bounded(_) => Null::Undeclared,
-        Len::Free => Null::Undeclared,
-    }
-}
-
-fn is_null(null: Null, count: usize, scratch: &[i64]) -> bool
-    requires { ⌜ count ≤ length (now scratch) ⌝ }
-    ensures { λ r. ⌜ r ≡ isNullList (nullAs null) (take count (now (scratch .entry))) ⌝ }
-{
-    match null {
-        Null::Undeclared => false,
-        Null::Declared(z) => { if count == 1 { scratch[0] == z } else { false } }
     }
 }
 
@@ -839,7 +802,7 @@ fn found(column: Column, count: usize, next: usize, scratch: &[i64]) -> Found
     if !count_fits(kind, len, count) {
         return Found::Refused(12);
     }
-    if is_null(null_element(column), count, scratch) {
+    if table::is_null(table::null_element(column), count, scratch) {
         return Found::Null(next);
     }
     Found::Shown(count, next)
@@ -958,10 +921,10 @@ fn put_bytes(out: &mut [u8], at: usize, word: &[u8]) -> usize
     at + k
 }
 
-// "Char writes `&amp;`, `&lt;`, `&gt;` and `&#xD;`"
+// "Char writes `&amp;`, `&lt;`, `&gt;` and `&#xD;`"; a code with no form is left out.
 fn put_escaped(out: &mut [u8], at: usize, c: u32) -> usize
-    requires { ⌜ (at + length (escaped c) ≤ length (now out)) × (c < 256) ⌝ }
-    ensures { λ r. ⌜ Wrote (now (out .entry)) at (escaped c) (now (out .exit)) r ⌝ }
+    requires { ⌜ at + length (formBytes (formOf (pos c))) ≤ length (now out) ⌝ }
+    ensures { λ r. ⌜ Wrote (now (out .entry)) at (formBytes (formOf (pos c))) (now (out .exit)) r ⌝ }
 {
     match c {
         38 => put_bytes(out, at, b"&amp;"),
@@ -969,35 +932,52 @@ fn put_escaped(out: &mut [u8], at: usize, c: u32) -> usize
         62 => put_bytes(out, at, b"&gt;"),
         13 => put_bytes(out, at, b"&#xD;"),
         _ => {
+            if !is_text(c) {
+                return at;
+            }
             out[at] = c as u8;
             at + 1
         }
     }
 }
 
+// Most chars are written as themselves, which takes fewer tests than `put_escaped` does.
+fn put_char(out: &mut [u8], at: usize, c: u32) -> usize
+    requires { ⌜ at + length (formBytes (formOf (pos c))) ≤ length (now out) ⌝ }
+    ensures { λ r. ⌜ Wrote (now (out .entry)) at (formBytes (formOf (pos c))) (now (out .exit)) r ⌝ }
+{
+    if !is_plain(c) {
+        return put_escaped(out, at, c);
+    }
+    if c == 62 {
+        return put_escaped(out, at, c);
+    }
+    out[at] = c as u8;
+    at + 1
+}
+
 fn put_chars(count: usize, scratch: &[i64], out: &mut [u8], at: usize) -> usize
-    requires { ⌜ (count ≤ length (now scratch)) × IsGood (forms (take count (now scratch))) × (at + length (written (forms (take count (now scratch)))) ≤ length (now out)) ⌝ }
-    ensures { λ r. ⌜ Wrote (now (out .entry)) at (written (forms (take count (now (scratch .entry))))) (now (out .exit)) r ⌝ }
+    requires { ⌜ (count ≤ length (now scratch)) × (at + length (elementBytes Text (take count (now scratch))) ≤ length (now out)) ⌝ }
+    ensures { λ r. ⌜ Wrote (now (out .entry)) at (elementBytes Text (take count (now (scratch .entry)))) (now (out .exit)) r ⌝ }
 {
     let mut i = at;
     let mut k = 0;
     while k < count {
-        i = put_escaped(out, i, code_of(scratch[k]));
+        i = put_char(out, i, code_of(scratch[k]));
         k += 1;
     }
     i
 }
 
 fn bit_byte(z: i64) -> u8
-    requires { ⌜ isElement Bits z ≡ true ⌝ }
     ensures { λ r. ⌜ r ≡ bitText z ⌝ }
 {
-    if z == 0 { 48 } else { 49 }
+    if z == 1 { 49 } else { 48 }
 }
 
 fn put_bits(count: usize, scratch: &[i64], out: &mut [u8], at: usize) -> usize
-    requires { ⌜ (count ≤ length (now scratch)) × All (λ e. isElement Bits e ≡ true) (take count (now scratch)) × (at + count ≤ length (now out)) ⌝ }
-    ensures { λ r. ⌜ Wrote (now (out .entry)) at (map bitText (take count (now (scratch .entry)))) (now (out .exit)) r ⌝ }
+    requires { ⌜ (count ≤ length (now scratch)) × (at + length (elementBytes Bits (take count (now scratch))) ≤ length (now out)) ⌝ }
+    ensures { λ r. ⌜ Wrote (now (out .entry)) at (elementBytes Bits (take count (now (scratch .entry)))) (now (out .exit)) r ⌝ }
 {
     let mut k = 0;
     while k < count {
@@ -1021,7 +1001,7 @@ fn truth_byte(z: i64) -> u8
 
 // Each element but the first, behind a space.
 fn more_truths(count: usize, scratch: &[i64], out: &mut [u8], at: usize) -> usize
-    requires { ⌜ (1 ≤ count) × (count ≤ length (now scratch)) × (at + length (joined (λ z. 32 ∷ truthText z) (drop 1 (take count (now scratch)))) ≤ length (now out)) ⌝ }
+    requires { ⌜ (count ≤ length (now scratch)) × (at + length (joined (λ z. 32 ∷ truthText z) (drop 1 (take count (now scratch)))) ≤ length (now out)) ⌝ }
     ensures { λ r. ⌜ Wrote (now (out .entry)) at (joined (λ z. 32 ∷ truthText z) (drop 1 (take count (now (scratch .entry))))) (now (out .exit)) r ⌝ }
 {
     let mut i = at;
@@ -1036,15 +1016,18 @@ fn more_truths(count: usize, scratch: &[i64], out: &mut [u8], at: usize) -> usiz
 }
 
 fn put_truths(count: usize, scratch: &[i64], out: &mut [u8], at: usize) -> usize
-    requires { ⌜ (1 ≤ count) × (count ≤ length (now scratch)) × (at + length (spaced (map truthText (take count (now scratch)))) ≤ length (now out)) ⌝ }
+    requires { ⌜ (count ≤ length (now scratch)) × (at + length (spaced (map truthText (take count (now scratch)))) ≤ length (now out)) ⌝ }
     ensures { λ r. ⌜ Wrote (now (out .entry)) at (spaced (map truthText (take count (now (scratch .entry))))) (now (out .exit)) r ⌝ }
 {
+    if count == 0 {
+        return at;
+    }
     out[at] = truth_byte(scratch[0]);
     more_truths(count, scratch, out, at + 1)
 }
 
 fn more_integers(count: usize, scratch: &[i64], out: &mut [u8], at: usize) -> usize
-    requires { ⌜ (1 ≤ count) × (count ≤ length (now scratch)) × (at + length (joined (λ z. 32 ∷ shortest z) (drop 1 (take count (now scratch)))) ≤ length (now out)) ⌝ }
+    requires { ⌜ (count ≤ length (now scratch)) × (at + length (joined (λ z. 32 ∷ shortest z) (drop 1 (take count (now scratch)))) ≤ length (now out)) ⌝ }
     ensures { λ r. ⌜ Wrote (now (out .entry)) at (joined (λ z. 32 ∷ shortest z) (drop 1 (take count (now (scratch .entry))))) (now (out .exit)) r ⌝ }
 {
     let mut i = at;
@@ -1058,17 +1041,20 @@ fn more_integers(count: usize, scratch: &[i64], out: &mut [u8], at: usize) -> us
 }
 
 fn put_integers(count: usize, scratch: &[i64], out: &mut [u8], at: usize) -> usize
-    requires { ⌜ (1 ≤ count) × (count ≤ length (now scratch)) × (at + length (spaced (map shortest (take count (now scratch)))) ≤ length (now out)) ⌝ }
+    requires { ⌜ (count ≤ length (now scratch)) × (at + length (spaced (map shortest (take count (now scratch)))) ≤ length (now out)) ⌝ }
     ensures { λ r. ⌜ Wrote (now (out .entry)) at (spaced (map shortest (take count (now (scratch .entry))))) (now (out .exit)) r ⌝ }
 {
+    if count == 0 {
+        return at;
+    }
     let next = number::write_shortest(out, at, scratch[0]);
     more_integers(count, scratch, out, next)
 }
 
 // The text of a cell's elements.
 fn put_elements(kind: Kind, count: usize, scratch: &[i64], out: &mut [u8], at: usize) -> usize
-    requires { ⌜ Puttable (shape kind) count (now scratch) at (length (now out)) ⌝ }
-    ensures { λ r. ⌜ Wrote (now (out .entry)) at (written (elementText (shape kind) (take count (now (scratch .entry))))) (now (out .exit)) r ⌝ }
+    requires { ⌜ (count ≤ length (now scratch)) × (at + length (elementBytes (shape kind) (take count (now scratch))) ≤ length (now out)) ⌝ }
+    ensures { λ r. ⌜ Wrote (now (out .entry)) at (elementBytes (shape kind) (take count (now (scratch .entry)))) (now (out .exit)) r ⌝ }
 {
     match kind {
         Kind::Boolean => put_truths(count, scratch, out, at),
@@ -1081,7 +1067,7 @@ fn put_elements(kind: Kind, count: usize, scratch: &[i64], out: &mut [u8], at: u
     }
 }
 
-// A cell that has a form, at a place with room for it: "Null is `<TD/>`."
+// A cell, at a place with room for it: "Null is `<TD/>`."
 pub fn write_text(
     column: Column,
     null: bool,
@@ -1090,8 +1076,8 @@ pub fn write_text(
     out: &mut [u8],
     at: usize,
 ) -> usize
-    requires { ⌜ Writable column null count (now scratch) at (length (now out)) ⌝ }
-    ensures { λ r. ⌜ Wrote (now (out .entry)) at (written (writeText column (held null count (now (scratch .entry))))) (now (out .exit)) r ⌝ }
+    requires { ⌜ (count ≤ length (now scratch)) × (at + length (textBytes column (held null count (now scratch))) ≤ length (now out)) ⌝ }
+    ensures { λ r. ⌜ Wrote (now (out .entry)) at (textBytes column (held null count (now (scratch .entry)))) (now (out .exit)) r ⌝ }
 {
     if null {
         return put_bytes(out, at, b"<TD/>");

@@ -1,5 +1,6 @@
-// 01's spellings of a TABLEDATA cell, run. Each record of the input is a column and a cell: the kind's letter, the length (a digit or `*`), `-`
-// where -99 is declared null, the text, `|`. Each line of the output is what the cell shows and how it is written, or its refusal.
+// 01's spellings of a TABLEDATA cell, run. Each record of the input is three bytes and a text, `|` behind it: the kind's letter, the length,
+// `-` where -99 is declared null; or `W` and a kind's letter, for elements that are given as longs and written as that kind; or `R`, for a
+// row that is cut off at every place. Each line of the output is a record, what its cell shows, its size and how it is written.
 use libc::STDIN_FILENO;
 use libc::STDOUT_FILENO;
 use table::Column;
@@ -10,13 +11,12 @@ use table::Null;
 use table::Size;
 use tabledata::Tag;
 ghost use Prim.Native.Nat.{_+_, _≤_};
-ghost use mathlib.Core.Bool.{false};
 ghost use mathlib.Core.Path.{_≡_};
-ghost use lib.ListN.{length, take};
-ghost use Rattle.table.specs.Cell.{Fits, bound, shown};
-ghost use Rattle.table.specs.Result.{IsGood};
+ghost use lib.ListN.{length};
+ghost use Rattle.table.specs.Cell.{bound};
+ghost use Rattle.table.specs.Contracts.{held, sizeOf};
+ghost use Rattle.table.specs.Result.{good};
 ghost use Rattle.tabledata.specs.TableData.{writeText};
-ghost use Rattle.tabledata_vectors.specs.Again.{Takes};
 
 fn say(text: &[u8]) {
     io::write_all(STDOUT_FILENO, text);
@@ -26,33 +26,44 @@ fn number_of(n: u64) {
     io::print_decimal(STDOUT_FILENO, n);
 }
 
+// A record, or how long it is.
+fn say_record(text: &[u8]) {
+    if text.len() <= 128 {
+        say(text);
+        return;
+    }
+    say(b"(");
+    number_of(text.len() as u64);
+    say(b" bytes)");
+}
+
 // ---- a cell
 
-// The cell written again, where it is short.
-fn written_again(column: Column, count: usize, scratch: &[i64], size: usize)
-    requires { ⌜ (count ≤ length (now scratch)) × Fits column (shown (take count (now scratch))) × IsGood (writeText column (shown (take count (now scratch)))) × Takes column count (now scratch) size ⌝ }
+// The cell written, where it is short.
+fn written(column: Column, null: bool, count: usize, scratch: &[i64], size: usize)
+    requires { ⌜ (count ≤ length (now scratch)) × (sizeOf (writeText column (held null count (now scratch))) ≡ good size) ⌝ }
 {
     if 128 < size {
         say(b"..\n");
         return;
     }
     let mut out = [10u8; 129];
-    let end = tabledata::write_text(column, false, count, scratch, &mut out, 0);
+    let end = tabledata::write_text(column, null, count, scratch, &mut out, 0);
     if end < 129 {
         say(&out[..end + 1]);
     }
 }
 
-fn elements(column: Column, count: usize, scratch: &[i64])
-    requires { ⌜ (count ≤ 4096) × (length (now scratch) ≡ 4096) × Fits column (shown (take count (now scratch))) × IsGood (writeText column (shown (take count (now scratch)))) ⌝ }
+// The cell's size and its form.
+fn form(column: Column, null: bool, count: usize, scratch: &[i64])
+    requires { ⌜ (count ≤ 4096) × (length (now scratch) ≡ 4096) ⌝ }
 {
-    number_of(count as u64);
-    match tabledata::size_text(column, false, count, scratch) {
+    match tabledata::size_text(column, null, count, scratch) {
         Size::Bytes(n) => {
             say(b" in ");
             number_of(n as u64);
             say(b" ");
-            written_again(column, count, scratch, n);
+            written(column, null, count, scratch, n);
         }
         Size::NoForm(n) => {
             say(b" no form ");
@@ -67,7 +78,6 @@ fn cell(text: &[u8], column: Column, scratch: &mut [i64])
     requires { ⌜ (length (now scratch) ≡ 4096) × (bound (column .len) ≤ 4096) ⌝ }
     ensures { λ _. ⌜ length (now (scratch .exit)) ≡ length (now (scratch .entry)) ⌝ }
 {
-    say(text);
     match tabledata::read_text(text, 0, column, scratch) {
         Found::Refused(n) => {
             say(b" refused ");
@@ -75,16 +85,40 @@ fn cell(text: &[u8], column: Column, scratch: &mut [i64])
             say(b"\n");
         }
         Found::Null(_) => {
-            say(b" null\n");
+            say(b" null");
+            form(column, true, 0, scratch);
         }
         Found::Shown(count, _) => {
             say(b" shows ");
-            elements(column, count, scratch);
+            number_of(count as u64);
+            form(column, false, count, scratch);
         }
     }
 }
 
+// Longs written as elements of a kind.
+fn elements(text: &[u8], kind: Kind, scratch: &mut [i64])
+    requires { ⌜ length (now scratch) ≡ 4096 ⌝ }
+    ensures { λ _. ⌜ length (now (scratch .exit)) ≡ length (now (scratch .entry)) ⌝ }
+{
+    match tabledata::read_text(text, 0, free(Kind::Long), scratch) {
+        Found::Refused(_) => say(b" no list\n"),
+        Found::Null(_) => form(free(kind), false, 0, scratch),
+        Found::Shown(count, _) => form(free(kind), false, count, scratch),
+    }
+}
+
 // ---- a column
+
+fn free(kind: Kind) -> Column
+    ensures { λ r. ⌜ bound (r .len) ≤ 4096 ⌝ }
+{
+    Column {
+        kind,
+        len: Len::Free,
+        null: Null::Undeclared,
+    }
+}
 
 fn kind_of(letter: u8) -> Kind {
     match letter {
@@ -104,6 +138,8 @@ fn len_of(letter: u8) -> Len
     match letter {
         b'1'..=b'9' => Len::Fixed((letter - 48) as usize),
         b'+' => Len::Bounded(2),
+        b'F' => Len::Fixed(4096),
+        b'V' => Len::Bounded(4096),
         _ => Len::Free,
     }
 }
@@ -115,12 +151,12 @@ fn null_of(letter: u8) -> Null {
     }
 }
 
-// ---- a row cut off anywhere: the sample night's columns
+// ---- a row cut off anywhere: a bit, a char and a boolean column of length 4
 
-fn night_column(k: usize) -> Column
+fn row_column(k: usize) -> Column
     ensures { λ r. ⌜ bound (r .len) ≤ 4096 ⌝ }
 {
-    let kind = night_kind(k);
+    let kind = row_kind(k);
     Column {
         kind,
         len: Len::Fixed(4),
@@ -128,7 +164,7 @@ fn night_column(k: usize) -> Column
     }
 }
 
-fn night_kind(k: usize) -> Kind {
+fn row_kind(k: usize) -> Kind {
     match k {
         0 => Kind::Bit,
         1 => Kind::Char,
@@ -136,8 +172,8 @@ fn night_kind(k: usize) -> Kind {
     }
 }
 
-fn refused(length: usize, number: u64, column: usize) {
-    number_of(length as u64);
+fn answer(place: usize, number: u64, column: usize) {
+    number_of(place as u64);
     say(b": ");
     number_of(number);
     say(b" at ");
@@ -145,20 +181,21 @@ fn refused(length: usize, number: u64, column: usize) {
     say(b"\n");
 }
 
+// The number and column of a row's refusal and the text's length; or 0 and the place after the row and white space.
 fn row(text: &[u8], scratch: &mut [i64])
     requires { ⌜ length (now scratch) ≡ 4096 ⌝ }
     ensures { λ _. ⌜ length (now (scratch .exit)) ≡ length (now (scratch .entry)) ⌝ }
 {
     let Tag::At(first) = tabledata::row_begins(text, 0) else {
-        refused(text.len(), 10, 0);
+        answer(text.len(), 10, 0);
         return;
     };
     let mut at = first;
     let mut column = 0;
     while column < 3 {
-        match tabledata::read_text(text, at, night_column(column), scratch) {
+        match tabledata::read_text(text, at, row_column(column), scratch) {
             Found::Refused(n) => {
-                refused(text.len(), n, column);
+                answer(text.len(), n, column);
                 return;
             }
             Found::Null(next) => {
@@ -172,10 +209,10 @@ fn row(text: &[u8], scratch: &mut [i64])
         }
     }
     let Tag::At(next) = tabledata::row_ends(text, at) else {
-        refused(text.len(), 10, 3);
+        answer(text.len(), 10, 3);
         return;
     };
-    refused(next, 0, 3);
+    answer(tabledata::skip_white(text, next), 0, 3);
 }
 
 fn prefixes(text: &[u8], scratch: &mut [i64])
@@ -201,6 +238,11 @@ fn one_record(text: &[u8], scratch: &mut [i64])
     }
     if text[0] == b'R' {
         prefixes(&text[3..], scratch);
+        return;
+    }
+    say_record(text);
+    if text[0] == b'W' {
+        elements(&text[3..], kind_of(text[1]), scratch);
         return;
     }
     let kind = kind_of(text[0]);
@@ -239,39 +281,16 @@ fn records(text: &[u8], scratch: &mut [i64])
     }
 }
 
-// ---- 14 and 16: a cell that only another kind of rows can show
-
-fn size_of(column: Column, count: usize, scratch: &[i64])
-    requires { ⌜ (length (now scratch) ≡ 4096) × (count ≤ 4096) ⌝ }
-{
-    match tabledata::size_text(column, false, count, scratch) {
-        Size::Bytes(n) => {
-            say(b"in ");
-            number_of(n as u64);
-            say(b"\n");
-        }
-        Size::NoForm(n) => {
-            say(b"no form ");
-            number_of(n);
-            say(b"\n");
+// A row that has no cells, as it is written.
+fn written_row() {
+    let mut out = [32u8; 16];
+    let next = tabledata::write_row_start(&mut out, 0);
+    if next <= 10 {
+        let end = tabledata::write_row_end(&mut out, next);
+        if end <= 16 {
+            say(&out[..end]);
         }
     }
-}
-
-fn without_form(scratch: &mut [i64])
-    requires { ⌜ length (now scratch) ≡ 4096 ⌝ }
-    ensures { λ _. ⌜ length (now (scratch .exit)) ≡ length (now (scratch .entry)) ⌝ }
-{
-    let text = Column {
-        kind: Kind::Char,
-        len: Len::Free,
-        null: Null::Undeclared,
-    };
-    size_of(text, 0, scratch);
-    scratch[0] = 65;
-    scratch[1] = 5;
-    size_of(text, 1, scratch);
-    size_of(text, 2, scratch);
 }
 
 fn main() {
@@ -279,5 +298,5 @@ fn main() {
     let n = io::read_full(STDIN_FILENO, &mut space);
     let mut scratch = [0i64; 4096];
     records(&space[..n], &mut scratch);
-    without_form(&mut scratch);
+    written_row();
 }

@@ -1,43 +1,28 @@
--- `binary::add_flag` meets its contract: one digit more.
-use Prim.Native.Nat.{_*_, _+_}
-use Rattle.binary.proofs.FlagLaws.{flag-next, long-enough}
-use Rattle.binary.proofs.Writing.{bits-grow}
+-- `binary::add_flag` meets its contract: one digit more; what is shifted out of the word is no flag of these columns.
+use Rattle.binary.proofs.FlagLaws.{flag-added}
 use Rattle.binary.specs.Contracts.{flagBit}
 use Rattle.number.specs.Number.{toDigits}
 use lib.Dec.{lit<}
 use mathlib.Core.Bool.{Bool}
 use mathlib.Core.List.{[], _++_, _∷_}
-use mathlib.Core.Path.{_∙_, _≡_, ap, sym}
+use mathlib.Core.Path.{_∙_, ap, sym}
 use native.Mathlib.Nat.{add-zero}
 use native.Mathlib.Omega.{arith}
 use Rattle.binary.proofs.add_flag.Statement.{statement}
 use Rattle.binary.proofs.add_flag.Tie as tie
 
-mul-result : tie.Need-mul-result
-mul-result c =
-    let a = c .before .args in
-    omega (arith, bits-grow (a .k) (a .flags) 1 (c .before .pre .0) (lit< tt), long-enough (a .k) (c .before .pre .1))
-
 add-result : tie.Need-add-result
-add-result c =
-    let a = c .before .args in
-    omega (arith, bits-grow (a .k) (a .flags) 1 (c .before .pre .0) (lit< tt), long-enough (a .k) (c .before .pre .1))
-
-mul-result-2 : tie.Need-mul-result-2
-mul-result-2 c =
-    let a = c .before .args in
-    omega (arith, bits-grow (a .k) (a .flags) 1 (c .before .pre .0) (lit< tt), long-enough (a .k) (c .before .pre .1))
+add-result c = omega arith
 
 returns : tie.Need-returns
 returns c =
     let a = c .before .args in
-    (flag-next (a .k) (a .flags) 1 (lit< tt) ∙ ap (λ (f : Bool). toDigits 2 (a .k) (a .flags) ++ (flagBit f ∷ [])) (sym (c .if1 .taken)), bits-grow (a .k) (a .flags) 1 (c .before .pre .0) (lit< tt))
+    flag-added (a .k) (a .flags) 1 (c .before .pre) (lit< tt) ∙ ap (λ (f : Bool). toDigits 2 (a .k) (a .flags) ++ (flagBit f ∷ [])) (sym (c .if1 .taken))
 
 returns-2 : tie.Need-returns-2
 returns-2 c =
     let a = c .before .args in
-    let z : a .flags * 2 ≡ a .flags * 2 + 0 = sym (add-zero _) in
-    (ap (toDigits 2 (a .k + 1)) z ∙ flag-next (a .k) (a .flags) 0 (lit< tt) ∙ ap (λ (f : Bool). toDigits 2 (a .k) (a .flags) ++ (flagBit f ∷ [])) (sym (c .if1 .left)), omega (arith, bits-grow (a .k) (a .flags) 0 (c .before .pre .0) (lit< tt)))
+    ap (toDigits 2 _) (sym (add-zero _)) ∙ flag-added (a .k) (a .flags) 0 (c .before .pre) (lit< tt) ∙ ap (λ (f : Bool). toDigits 2 (a .k) (a .flags) ++ (flagBit f ∷ [])) (sym (c .if1 .left))
 
 pub add-flag-spec : {M : Type 1} → statement M
-add-flag-spec = tie.close (tie.spec mul-result add-result mul-result-2 returns returns-2)
+add-flag-spec = tie.close (tie.spec add-result returns returns-2)

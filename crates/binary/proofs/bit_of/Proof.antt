@@ -1,6 +1,6 @@
 -- `binary::bit_of` meets its contract: an element is compared by its bits.
 use Rattle.binary.proofs.Writing.{bit-zero}
-use Rattle.binary.specs.Contracts.{bitOf}
+use Rattle.binary.specs.Binary.{bitOf}
 use lib.Dec.{lit<}
 use mathlib.Core.Path.{_∙_, ap, sym}
 use mir.Facts.{toZ-ofZ}
@@ -10,6 +10,7 @@ use Rattle.binary.proofs.bit_of.Statement.{statement}
 use Rattle.binary.proofs.bit_of.Tie as tie
 
 returns : tie.Need-returns
+unfolding bitOf
 returns c = (sym (ap bitOf (sym (toZ-ofZ {w = w64} (c .before .fits .z)) ∙ ap (toZ w64) (c .if1 .taken))), lit< tt)
 
 returns-2 : tie.Need-returns-2

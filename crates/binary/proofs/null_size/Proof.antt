@@ -1,12 +1,11 @@
 -- `binary::null_size` meets its contract: the null element's column is a scalar; else an empty cell stands for null, where one can.
 use Prim.Native.Nat.{zero-le}
-use Rattle.binary.proofs.Laws.{empty-room}
-use Rattle.binary.proofs.Writing.{null-empty, null-none, null-scalar, null-some, room-length}
-use Rattle.binary.specs.Contracts.{nullAs}
-use Rattle.table.specs.Contracts.{sizeOf}
+use Rattle.binary.proofs.Sizes.{elements-length, zeros-length}
+use Rattle.binary.proofs.Writing.{empty-zeros, null-bound, null-empty, null-none, null-some}
+use Rattle.table.specs.Contracts.{nullAs, sizeOf}
 use Rattle.table.specs.Result.{good}
-use Rattle.table.specs.Shape.{shape}
 use borrow.Author.Needs.{needs}
+use lib.ListN.{length}
 use mathlib.Core.List.{[], _∷_}
 use mathlib.Core.Path.{_∙_, ap, sym}
 use Rattle.binary.proofs.null_size.Statement.{statement}
@@ -18,10 +17,10 @@ null-element-requires c κs = search needs
 enum-told : tie.Need-enum-told
 enum-told c = search needs
 
-cell-bytes-requires : tie.Need-cell-bytes-requires
-cell-bytes-requires c κs =
+elements-size-requires : tie.Need-elements-size-requires
+elements-size-requires c κs =
     let q = sym (c .before .before .null-element .ensures) ∙ ap nullAs (c .enum-told .given .1) in
-    (null-scalar _ _ q .1, c .before .before .before .pre)
+    (c .before .before .before .pre, null-bound _ _ q)
 
 enum-told-2 : tie.Need-enum-told-2
 enum-told-2 c = search needs
@@ -29,21 +28,21 @@ enum-told-2 c = search needs
 can-be-empty-requires : tie.Need-can-be-empty-requires
 can-be-empty-requires c κs = search needs
 
-cell-bytes-requires-2 : tie.Need-cell-bytes-requires-2
-cell-bytes-requires-2 c κs = (zero-le, c .before .before .before .before .before .pre)
+room-size-requires : tie.Need-room-size-requires
+room-size-requires c κs = (c .before .before .before .before .before .pre, zero-le)
 
 returns : tie.Need-returns
 returns c =
     let a = c .before .before .before .before .args in
     let q = sym (c .before .before .before .null-element .ensures) ∙ ap nullAs (c .before .enum-told .given .1) in
-    ap good (c .cell-bytes .ensures .0 ∙ sym (room-length (a .column) (_ ∷ []) (null-scalar (a .column) _ q .0))) ∙ sym (ap sizeOf (null-some (a .column) _ q))
+    ap good (c .elements-size .ensures ∙ sym (elements-length (a .column) (_ ∷ []) (null-bound (a .column) _ q))) ∙ sym (ap sizeOf (null-some (a .column) _ q))
 
 returns-2 : tie.Need-returns-2
 returns-2 c =
     let a = c .before .before .before .before .before .before .args in
     let q = sym (c .before .before .before .before .before .null-element .ensures) ∙ ap nullAs (c .before .before .before .enum-told2 .given .1) in
     let e = sym (c .before .before .can-be-empty .ensures) ∙ c .before .if1 .taken in
-    ap good (c .cell-bytes2 .ensures .0 ∙ sym (room-length (a .column) [] (empty-room (shape (a .column .kind)) (a .column .len) e))) ∙ sym (ap sizeOf (null-empty (a .column) q e))
+    ap good (c .room-size .ensures ∙ sym (ap length (empty-zeros (a .column) e) ∙ zeros-length (a .column))) ∙ sym (ap sizeOf (null-empty (a .column) q e))
 
 returns-3 : tie.Need-returns-3
 returns-3 c =
@@ -57,10 +56,10 @@ null-size-spec =
     (tie.spec
     null-element-requires
     enum-told
-    cell-bytes-requires
+    elements-size-requires
     enum-told-2
     can-be-empty-requires
-    cell-bytes-requires-2
+    room-size-requires
     returns
     returns-2
     returns-3)

@@ -1,7 +1,7 @@
 -- `binary::packed_byte` meets its contract. The loop's invariant: the bits from the j-th on, behind those in b, spell the whole number.
 use Prim.Native.Nat.{_*_, _+_, _-_, _<_, _^_, _≤_, ℕ}
 use Rattle.binary.proofs.Writing.{bits-grow, few-bits, packed-exact, packed-next, packed-small}
-use Rattle.binary.specs.Contracts.{bitOf}
+use Rattle.binary.specs.Binary.{bitOf}
 use Rattle.number.specs.Number.{ofDigits}
 use Rattle.table.specs.Outcome.{at}
 use borrow.Author.Needs.{needs, sfits-of}

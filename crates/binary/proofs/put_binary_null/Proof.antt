@@ -1,9 +1,9 @@
--- `binary::put_binary_null` meets its contract: the element that stands for null is an element of its scalar column; an empty cell is zeros.
+-- `binary::put_binary_null` meets its contract: an element that stands for null has a scalar column; an empty cell is zeros.
 use Prim.Native.Nat.{ℕ}
-use Rattle.binary.proofs.Writing.{empty-zeros, null-elements, null-empty, null-none, null-scalar, null-some, room-length, zeros-length}
+use Rattle.binary.proofs.Writing.{empty-zeros, null-bound, null-empty, null-none, null-some}
 use Rattle.binary.specs.Binary.{elementsBytes}
-use Rattle.binary.specs.Contracts.{formOf, nullAs}
 use Rattle.number.proofs.Places.{wrote-as}
+use Rattle.table.specs.Contracts.{formBytes, nullAs}
 use Rattle.table.specs.Result.{Result}
 use borrow.Author.Needs.{needs}
 use lib.Dec.{lit≤}
@@ -30,12 +30,12 @@ slice-aggregate-put-elements c = search needs
 put-elements-requires : tie.Need-put-elements-requires
 put-elements-requires c κs =
     let a = c .before .before .before .before .before .before .before .args in
-    let i = c .before .before .before .before .before .before .before .pre .0 in
+    let p = c .before .before .before .before .before .before .before .pre in
     let z = c .before .before .before .null .given .0 .0 in
     let q = sym (c .before .before .before .before .before .null-element .ensures) ∙ ap nullAs (c .before .before .before .null .given .1) in
     let e : toZ w64 (ofZ w64 z) ≡ z = search needs in (
-      (i .most-room, lit≤ tt, rw e (null-elements (a .column) z i q)),
-      omega (arith, c .before .before .before .before .before .before .before .pre .1, ap (λ (r : Result ℕ (List ℕ)). length (formOf r)) (null-some (a .column) z q), room-length (a .column) (z ∷ []) (null-scalar (a .column) z q .0)),
+      (p .0, null-bound (a .column) z q, lit≤ tt),
+      rw e (omega (arith, p .1, ap (λ (r : Result ℕ (List ℕ)). length (formBytes r)) (null-some (a .column) z q))),
     )
 
 enum-told : tie.Need-enum-told
@@ -49,7 +49,7 @@ put-null-requires c κs =
     let a = c .before .before .before .before .before .before .before .args in
     let q = sym (c .before .before .before .before .before .null-element .ensures) ∙ ap nullAs (c .before .before .before .enum-told .given .1) in
     let e = sym (c .before .before .can-be-empty .ensures) ∙ c .before .if1 .taken in
-    (c .before .before .before .before .before .before .before .pre .0 .most-room, omega (arith, c .before .before .before .before .before .before .before .pre .1, ap (λ (r : Result ℕ (List ℕ)). length (formOf r)) (null-empty (a .column) q e), ap length (empty-zeros (a .column) e), zeros-length (a .column)))
+    (c .before .before .before .before .before .before .before .pre .0, omega (arith, c .before .before .before .before .before .before .before .pre .1, ap (λ (r : Result ℕ (List ℕ)). length (formBytes r)) (null-empty (a .column) q e), ap length (empty-zeros (a .column) e)))
 
 same-length : tie.Need-same-length
 same-length c = c .before .before .put-elements .kept .1 .1 .1 .0
@@ -60,7 +60,7 @@ returns c =
     let z = c .before .before .before .before .before .before .null .given .0 .0 in
     let q = sym (c .before .before .before .before .before .before .before .before .null-element .ensures) ∙ ap nullAs (c .before .before .before .before .before .before .null .given .1) in
     let e : toZ w64 (ofZ w64 z) ≡ z = search needs in
-    wrote-as (ap (λ (x : ℤ). elementsBytes (a .column) (x ∷ [])) e ∙ sym (ap formOf (null-some (a .column) z q))) (c .before .before .put-elements .ensures)
+    wrote-as (ap (λ (x : ℤ). elementsBytes (a .column) (x ∷ [])) e ∙ sym (ap formBytes (null-some (a .column) z q))) (c .before .before .put-elements .ensures)
 
 same-length-2 : tie.Need-same-length-2
 same-length-2 c = c .before .before .put-null .kept .1 .0
@@ -70,13 +70,13 @@ returns-2 c =
     let a = c .before .before .before .before .before .before .before .before .before .before .args in
     let q = sym (c .before .before .before .before .before .before .before .before .null-element .ensures) ∙ ap nullAs (c .before .before .before .before .before .before .enum-told .given .1) in
     let e = sym (c .before .before .before .before .before .can-be-empty .ensures) ∙ c .before .before .before .before .if1 .taken in
-    wrote-as (sym (ap formOf (null-empty (a .column) q e) ∙ empty-zeros (a .column) e)) (c .before .before .put-null .ensures)
+    wrote-as (sym (ap formBytes (null-empty (a .column) q e) ∙ empty-zeros (a .column) e)) (c .before .before .put-null .ensures)
 
 returns-3 : tie.Need-returns-3
 returns-3 c =
     let a = c .before .before .before .before .before .before .args in
     let q = sym (c .before .before .before .before .null-element .ensures) ∙ ap nullAs (c .before .before .enum-told .given .1) in
-    wrote-as (sym (ap formOf (null-none (a .column) q (sym (c .before .can-be-empty .ensures) ∙ c .if1 .left)))) (record { now-is = refl; next-is = sym (add-zero _) })
+    wrote-as (sym (ap formBytes (null-none (a .column) q (sym (c .before .can-be-empty .ensures) ∙ c .if1 .left)))) (record { now-is = refl; next-is = sym (add-zero _) })
 
 pub put-binary-null-spec : {M : Type 1} → statement M
 put-binary-null-spec =

@@ -3,8 +3,7 @@
 use Prim.Native.Nat.{_%_, _*_, _+_, _-_, _/_, _≤_, ℕ}
 use Rattle.binary.proofs.Digits.{some-of}
 use Rattle.binary.proofs.Writing.{length-packed-bits, pack-left, pack-next, pack-none}
-use Rattle.binary.specs.Binary.{bitBytes, pack}
-use Rattle.binary.specs.Contracts.{bitOf}
+use Rattle.binary.specs.Binary.{bitBytes, bitOf, pack}
 use Rattle.table.specs.Outcome.{at}
 use denote.Ref.{now}
 use lib.Dec.{lit≤}

@@ -1,7 +1,9 @@
 -- `binary::put_null` meets its contract: a count of 0, then zeros.
 use Prim.Native.Nat.{zero-le}
-use Rattle.binary.proofs.Writing.{cell-parts, room-bound, zeros-as}
+use Rattle.binary.proofs.Sizes.{room-bound, zeros-length}
+use Rattle.binary.proofs.Writing.{zeros-as}
 use Rattle.binary.specs.Binary.{contentBytes}
+use Rattle.binary.specs.Contracts.{roomSize}
 use Rattle.number.proofs.Places.{wrote-as, wrote-then}
 use Rattle.table.specs.Shape.{shape}
 use borrow.Author.Needs.{needs}
@@ -19,15 +21,17 @@ content-bytes-requires c κs =
     omega (arith, c .room-in .ensures, room-bound (a .column .len) 0 zero-le, c .before .before .pre .0)
 
 put-count-requires : tie.Need-put-count-requires
+unfolding roomSize
 put-count-requires c κs =
     let a = c .before .before .before .before .args in
-    (omega (arith, cell-parts (a .column) 0, c .before .before .before .before .pre .1), zero-le)
+    (omega (arith, zeros-length (a .column), c .before .before .before .before .pre .1), zero-le)
 
 put-zeros-requires : tie.Need-put-zeros-requires
+unfolding roomSize
 put-zeros-requires c κs =
     let a = c .before .before .before .before .before .before .before .before .args in
     let s = c .before .before .before .before .before .content-bytes .ensures .0 ∙ ap (contentBytes (shape (a .column .kind))) (c .before .before .before .before .before .before .room-in .ensures) in
-    omega (arith, cell-parts (a .column) 0, c .before .before .before .before .before .before .before .before .pre .1, c .before .before .before .put-count .ensures .next-is, c .before .before .before .put-count .kept .1 .1 .0, s)
+    omega (arith, zeros-length (a .column), c .before .before .before .before .before .before .before .before .pre .1, c .before .before .before .put-count .ensures .next-is, c .before .before .before .put-count .kept .1 .1 .0, s)
 
 same-length : tie.Need-same-length
 same-length c = c .before .before .put-zeros .kept .1 .0 ∙ c .before .before .before .before .before .before .put-count .kept .1 .1 .0

@@ -1,5 +1,6 @@
--- `binary::size_binary` meets its contract: null by its form, an empty cell by none, and elements fill their room.
-use Rattle.binary.proofs.Writing.{count-few, held-elements, shown-length, write-empty, write-null, write-shown}
+-- `binary::size_binary` meets its contract: null by its form, an empty cell by none, else the elements.
+use Rattle.binary.proofs.Sizes.{held-length}
+use Rattle.binary.proofs.Writing.{write-empty, write-null, write-shown}
 use Rattle.table.specs.Contracts.{sizeOf}
 use Rattle.table.specs.Result.{good}
 use borrow.Author.Needs.{needs}
@@ -21,19 +22,16 @@ returns-2 c =
     let a = c .before .before .args in
     sym (ap sizeOf (write-empty (a .column) (a .null) (a .count) (now (a .scratch)) (c .before .if1 .left) (c .if2 .taken)))
 
-cell-bytes-requires : tie.Need-cell-bytes-requires
-cell-bytes-requires c κs =
-    let a = c .before .before .args in
-    let f = held-elements (a .column) (a .null) (a .count) (now (a .scratch)) (c .before .if1 .left) (c .before .before .pre .2) in
-    (count-few (a .column) (a .null) (a .count) (now (a .scratch)) f (c .before .before .pre .1), c .before .before .pre .0)
+elements-size-requires : tie.Need-elements-size-requires
+elements-size-requires c κs = search needs
 
 returns-3 : tie.Need-returns-3
 returns-3 c =
     let a = c .before .before .before .args in
-    let f = held-elements (a .column) (a .null) (a .count) (now (a .scratch)) (c .before .before .if1 .left) (c .before .before .before .pre .2) in
-    ap good (c .cell-bytes .ensures .0 ∙ sym (shown-length (a .column) (a .null) (a .count) (now (a .scratch)) f (c .before .before .before .pre .1)))
-    ∙ sym (ap sizeOf (write-shown (a .column) (a .null) (a .count) (now (a .scratch)) (c .before .before .if1 .left) (c .before .if2 .left) (c .before .before .before .pre .1)))
+    let p = c .before .before .before .pre in
+    ap good (c .elements-size .ensures ∙ sym (held-length (a .column) (a .count) (now (a .scratch)) (p .1) (p .2)))
+    ∙ sym (ap sizeOf (write-shown (a .column) (a .null) (a .count) (now (a .scratch)) (c .before .before .if1 .left) (c .before .if2 .left) (p .2)))
 
 pub size-binary-spec : {M : Type 1} → statement M
 size-binary-spec =
-    tie.close (tie.spec null-size-requires returns returns-2 cell-bytes-requires returns-3)
+    tie.close (tie.spec null-size-requires returns returns-2 elements-size-requires returns-3)

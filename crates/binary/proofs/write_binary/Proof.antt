@@ -1,8 +1,8 @@
 -- `binary::write_binary` meets its contract: null by its form, nothing for an empty cell, or the elements.
 use Prim.Native.Nat.{ℕ}
-use Rattle.binary.proofs.Writing.{held-elements, shown-length, write-empty, write-null, write-shown}
-use Rattle.binary.specs.Contracts.{formOf}
+use Rattle.binary.proofs.Writing.{write-empty, write-null, write-shown}
 use Rattle.number.proofs.Places.{wrote-as}
+use Rattle.table.specs.Contracts.{formBytes}
 use Rattle.table.specs.Result.{Result}
 use denote.Ref.{now}
 use lib.ListN.{length}
@@ -16,7 +16,7 @@ use Rattle.binary.proofs.write_binary.Tie as tie
 put-binary-null-requires : tie.Need-put-binary-null-requires
 put-binary-null-requires c κs =
     let a = c .before .before .before .args in
-    (c .before .before .before .pre .0 .0, omega (arith, c .before .before .before .pre .1, ap (λ (r : Result ℕ (List ℕ)). length (formOf r)) (write-null (a .column) (a .null) (a .count) (now (a .scratch)) (c .before .if1 .taken))))
+    (c .before .before .before .pre .0 .0, omega (arith, c .before .before .before .pre .1, ap (λ (r : Result ℕ (List ℕ)). length (formBytes r)) (write-null (a .column) (a .null) (a .count) (now (a .scratch)) (c .before .if1 .taken))))
 
 same-length : tie.Need-same-length
 same-length c = c .before .before .put-binary-null .kept .1 .0
@@ -24,21 +24,18 @@ same-length c = c .before .before .put-binary-null .kept .1 .0
 returns : tie.Need-returns
 returns c =
     let a = c .before .before .before .before .before .before .args in
-    wrote-as (sym (ap formOf (write-null (a .column) (a .null) (a .count) (now (a .scratch)) (c .before .before .before .before .if1 .taken)))) (c .before .before .put-binary-null .ensures)
+    wrote-as (sym (ap formBytes (write-null (a .column) (a .null) (a .count) (now (a .scratch)) (c .before .before .before .before .if1 .taken)))) (c .before .before .put-binary-null .ensures)
 
 returns-2 : tie.Need-returns-2
 returns-2 c =
     let a = c .before .before .before .args in
-    wrote-as (sym (ap formOf (write-empty (a .column) (a .null) (a .count) (now (a .scratch)) (c .before .if1 .left) (c .if2 .taken)))) (record { now-is = refl; next-is = sym (add-zero _) })
+    wrote-as (sym (ap formBytes (write-empty (a .column) (a .null) (a .count) (now (a .scratch)) (c .before .if1 .left) (c .if2 .taken)))) (record { now-is = refl; next-is = sym (add-zero _) })
 
 put-elements-requires : tie.Need-put-elements-requires
 put-elements-requires c κs =
     let a = c .before .before .before .before .args in
     let p = c .before .before .before .before .pre in
-    let x = held-elements (a .column) (a .null) (a .count) (now (a .scratch)) (c .before .before .if1 .left) (p .0 .2) in (
-      (p .0 .0 .most-room, p .0 .1, x),
-      omega (arith, p .1, ap (λ (r : Result ℕ (List ℕ)). length (formOf r)) (write-shown (a .column) (a .null) (a .count) (now (a .scratch)) (c .before .before .if1 .left) (c .before .if2 .left) (p .0 .1)), shown-length (a .column) (a .null) (a .count) (now (a .scratch)) x (p .0 .1)),
-    )
+    (p .0, omega (arith, p .1, ap (λ (r : Result ℕ (List ℕ)). length (formBytes r)) (write-shown (a .column) (a .null) (a .count) (now (a .scratch)) (c .before .before .if1 .left) (c .before .if2 .left) (p .0 .2))))
 
 same-length-2 : tie.Need-same-length-2
 same-length-2 c = c .before .before .put-elements .kept .1 .1 .1 .0
@@ -46,7 +43,7 @@ same-length-2 c = c .before .before .put-elements .kept .1 .1 .1 .0
 returns-3 : tie.Need-returns-3
 returns-3 c =
     let a = c .before .before .before .before .before .before .before .args in
-    wrote-as (sym (ap formOf (write-shown (a .column) (a .null) (a .count) (now (a .scratch)) (c .before .before .before .before .before .if1 .left) (c .before .before .before .before .if2 .left) (c .before .before .before .before .before .before .before .pre .0 .1)))) (c .before .before .put-elements .ensures)
+    wrote-as (sym (ap formBytes (write-shown (a .column) (a .null) (a .count) (now (a .scratch)) (c .before .before .before .before .before .if1 .left) (c .before .before .before .before .if2 .left) (c .before .before .before .before .before .before .before .pre .0 .2)))) (c .before .before .put-elements .ensures)
 
 pub write-binary-spec : {M : Type 1} → statement M
 write-binary-spec =

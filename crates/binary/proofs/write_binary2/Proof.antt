@@ -1,5 +1,5 @@
 -- `binary::write_binary2` meets its contract: null as zeros, or the elements.
-use Rattle.binary.proofs.Writing.{held-elements, shown-length, write2-null, write2-shown, zeros-length}
+use Rattle.binary.proofs.Writing.{write2-null, write2-shown}
 use Rattle.number.proofs.Places.{wrote-as}
 use denote.Ref.{now}
 use lib.ListN.{length}
@@ -11,7 +11,7 @@ use Rattle.binary.proofs.write_binary2.Tie as tie
 put-null-requires : tie.Need-put-null-requires
 put-null-requires c κs =
     let a = c .before .before .before .args in
-    ((c .before .before .before .pre .0 .0), omega (arith, c .before .before .before .pre .1, ap length (write2-null (a .column) (a .null) (a .count) (now (a .scratch)) (c .before .if1 .taken)), zeros-length (a .column)))
+    ((c .before .before .before .pre .0 .0), omega (arith, c .before .before .before .pre .1, ap length (write2-null (a .column) (a .null) (a .count) (now (a .scratch)) (c .before .if1 .taken))))
 
 same-length : tie.Need-same-length
 same-length c = c .before .before .put-null .kept .1 .0
@@ -25,8 +25,7 @@ put-elements-requires : tie.Need-put-elements-requires
 put-elements-requires c κs =
     let a = c .before .before .before .args in
     let p = c .before .before .before .pre in
-    let x = held-elements (a .column) (a .null) (a .count) (now (a .scratch)) (c .before .if1 .left) (p .0 .2) in
-    ((p .0 .0, p .0 .1, x), omega (arith, p .1, ap length (write2-shown (a .column) (a .null) (a .count) (now (a .scratch)) (c .before .if1 .left)), shown-length (a .column) (a .null) (a .count) (now (a .scratch)) x (p .0 .1)))
+    (p .0, omega (arith, p .1, ap length (write2-shown (a .column) (a .null) (a .count) (now (a .scratch)) (c .before .if1 .left))))
 
 same-length-2 : tie.Need-same-length-2
 same-length-2 c = c .before .before .put-elements .kept .1 .1 .1 .0

@@ -76,7 +76,7 @@ returns c =
     let a = c .before .before .before .before .args in
     let n = c .before .before .flag-bytes in
     let z : l .m ≡ 0 = omega arith in
-    let w = write-is (a .columns) (a .flags) (n .result) (n .ensures .0) (c .before .before .before .before .pre .0) (c .before .before .before .before .pre .1) in
+    let w = write-is (a .columns) (a .flags) (n .result) (n .ensures .0) (c .before .before .before .before .pre .0) in
     record {
       now-is = (rw z at (l .inv .3)) ∙ ap (sets (now (a .out)) (a .at)) w;
       next-is = omega (arith, l .inv .1, length-flags (a .columns) (a .flags), n .ensures .0);

@@ -6,11 +6,11 @@ use Rattle.binary_vectors.proofs.put_bytes.Statement.{statement}
 use Rattle.binary_vectors.proofs.put_bytes.Tie as tie
 
 abbrev Inv-loop : tie.InvT-loop
-Inv-loop out n k₀ t4 t5 k =
+Inv-loop out n k₀ t4 k =
     Unit {0}
 
 abbrev μ-loop : tie.MeasureT-loop
-μ-loop out n k₀ t4 t5 k =
+μ-loop out n k₀ t4 k =
     n - k
 
 loop-holds : tie.Need-loop-holds Inv-loop μ-loop
@@ -22,20 +22,11 @@ slice-aggregate-write-all c = search needs
 write-all-requires : tie.Need-write-all-requires Inv-loop μ-loop
 write-all-requires c κs = search needs
 
-returns : tie.Need-returns Inv-loop μ-loop
-returns c = search needs
-
-slice-aggregate-write-all-2 : tie.Need-slice-aggregate-write-all-2 Inv-loop μ-loop
-slice-aggregate-write-all-2 c = search needs
-
-write-all-requires-2 : tie.Need-write-all-requires-2 Inv-loop μ-loop
-write-all-requires-2 c κs = search needs
-
 shared-slice-read-print-hex : tie.Need-shared-slice-read-print-hex Inv-loop μ-loop
 shared-slice-read-print-hex c = search needs
 
 cast-print-hex : tie.Need-cast-print-hex Inv-loop μ-loop
-cast-print-hex c = omega (arith, c .shared-slice-known2 .given (c .before .before .before .before .before .before .loop .k))
+cast-print-hex c = omega (arith, c .shared-slice-known2 .given (c .before .before .before .before .before .loop .k))
 
 print-hex-requires : tie.Need-print-hex-requires Inv-loop μ-loop
 print-hex-requires c κs = search needs
@@ -49,8 +40,8 @@ loop-less c = search needs
 loop-again : tie.Need-loop-again Inv-loop μ-loop
 loop-again c = tt
 
-returns-2 : tie.Need-returns-2 Inv-loop μ-loop
-returns-2 c = search needs
+returns : tie.Need-returns Inv-loop μ-loop
+returns c = search needs
 
 pub put-bytes-spec : {M : Type 1} → statement M
 put-bytes-spec =
@@ -61,13 +52,10 @@ put-bytes-spec =
     loop-holds
     slice-aggregate-write-all
     write-all-requires
-    returns
-    slice-aggregate-write-all-2
-    write-all-requires-2
     shared-slice-read-print-hex
     cast-print-hex
     print-hex-requires
     add-k
     loop-less
     loop-again
-    returns-2)
+    returns)

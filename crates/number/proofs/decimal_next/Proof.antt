@@ -16,7 +16,7 @@ returns : tie.Need-returns
 returns c =
     let a = c .before .before .before .before .args in
     c .broken .ensures
-    ∙ sym (decimal-full (a .form) (a .count) (a .value) (a .c) (a .c - 48) (digit-yes (a .c) (omega arith) (omega arith)) (c .before .if3 .taken))
+    ∙ sym (decimal-full (a .form) (a .count) (a .value) (a .c) (a .c - 48) (digit-yes (a .c) (omega arith) (omega arith)) (omega arith))
 
 add-t8 : tie.Need-add-t8
 add-t8 c = search needs
@@ -34,7 +34,7 @@ returns-2 : tie.Need-returns-2
 returns-2 c =
     let a = c .before .before .before .before .args in
     ap (word (a .form) (a .count + 1)) (c .with-digit .ensures)
-    ∙ sym (decimal-more (a .form) (a .count) (a .value) (a .c) (a .c - 48) (digit-yes (a .c) (omega arith) (omega arith)) (c .before .if3 .left))
+    ∙ sym (decimal-more (a .form) (a .count) (a .value) (a .c) (a .c - 48) (digit-yes (a .c) (omega arith) (omega arith)) (omega arith))
 
 returns-3 : tie.Need-returns-3
 returns-3 c =

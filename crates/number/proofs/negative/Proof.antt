@@ -7,7 +7,7 @@ use mir.Syntax.{w64}
 use Rattle.number.specs.Contracts.{top}
 use Rattle.number.specs.Number.{Fault}
 use Rattle.table.specs.Result.{Result, good}
-use Rattle.number.proofs.Signed.{high-fits, high-is}
+use Rattle.number.proofs.Signed.{high-is, less-fits}
 use Rattle.number.proofs.WordLaws.{decimal-down, decimal-none, decimal-under, decimal-zero, top-lt}
 use native.Mathlib.Omega.{arith}
 use borrow.Author.Needs.{needs}
@@ -43,7 +43,7 @@ cast-t7 c = omega (arith, c .before .top-of .ensures, top-lt (c .before .before 
 
 sub-t8 : tie.Need-sub-t8
 sub-t8 c =
-    high-fits w64 (c .before .before .before .before .args .value - 1) (omega (arith, c .before .top-of .ensures, top-lt (c .before .before .before .before .args .kind)))
+    search (less-fits w64 (c .before .before .before .before .args .value - 1) (omega (arith, c .before .top-of .ensures, top-lt (c .before .before .before .before .args .kind))))
 
 returns-4 : tie.Need-returns-4
 returns-4 c =

@@ -9,7 +9,7 @@ use lib.IntN.{ℤ}
 use mir.Syntax.{w64}
 use Rattle.number.specs.Contracts.{QuickAt, isSigned, top}
 use Rattle.number.proofs.QuickLaws.{quick-down}
-use Rattle.number.proofs.Signed.{negated, negated-fits}
+use Rattle.number.proofs.Signed.{less-fits, negated}
 use Rattle.number.proofs.WordLaws.{top-lt}
 use borrow.Author.Needs.{needs}
 use Rattle.number.proofs.quick_negative.Statement.{statement}
@@ -44,7 +44,7 @@ cast-t11 c = omega (arith, c .before .top-of .ensures, top-lt (c .before .before
 
 sub-t12 : tie.Need-sub-t12
 sub-t12 c =
-    negated-fits w64 (c .before .before .before .quick-digits .result .number) (omega (arith, c .before .top-of .ensures, top-lt (c .before .before .before .before .before .before .before .args .kind)))
+    search (less-fits w64 (c .before .before .before .quick-digits .result .number) (omega (arith, c .before .top-of .ensures, top-lt (c .before .before .before .before .before .before .before .args .kind))))
 
 returns-4 : tie.Need-returns-4
 returns-4 c =

@@ -6,7 +6,6 @@ use lib.ListN.{drop, length}
 use borrow.Author.Needs.{needs}
 use denote.Ref.{now}
 use Rattle.table.specs.Bytes.{after}
-use Rattle.table.specs.Outcome.{at}
 use Rattle.tabledata.proofs.Scan.{after-all, after-end, after-more, after-no}
 use Rattle.tabledata.proofs.goes_on.Statement.{statement}
 use Rattle.tabledata.proofs.goes_on.Tie as tie

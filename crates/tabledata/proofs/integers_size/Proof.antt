@@ -12,7 +12,7 @@ use mir.Syntax.{w64}
 use Rattle.number.specs.Contracts.{size}
 use Rattle.number.specs.Number.{shortest}
 use Rattle.tabledata.proofs.Writing.{joined-end, joined-more, shortest-le, taken-at, taken-long}
-use Rattle.tabledata.specs.Contracts.{joined}
+use Rattle.tabledata.specs.TableData.{joined}
 use Rattle.tabledata.proofs.integers_size.Statement.{statement}
 use Rattle.tabledata.proofs.integers_size.Tie as tie
 

@@ -5,8 +5,6 @@ use mathlib.Core.Path.{_≡_}
 use lib.ListN.{drop, getD, length}
 use borrow.Author.Needs.{needs}
 use denote.Ref.{now}
-use Rattle.number.specs.Words.{word}
-use Rattle.table.specs.Outcome.{at}
 use Rattle.tabledata.proofs.Scan.{done, next1}
 use Rattle.tabledata.proofs.Writing.{Left, left-all, left-none, left-step, wrote-one}
 use Rattle.tabledata.proofs.put_bytes.Statement.{statement}

@@ -1,29 +1,28 @@
 -- `tabledata::put_chars` meets its contract. The invariant: what is left of the characters is still to be written here.
-use Prim.Native.Nat.{_+_, _-_, _≤_, ℕ}
-use native.Mathlib.Omega.{arith}
+use Prim.Native.Nat.{_+_, _-_, ℕ}
 use mathlib.Core.List.{List, _++_}
-use mathlib.Core.Path.{_∙_, ap, sym}
+use mathlib.Core.Path.{_∙_, _≡_, ap}
 use lib.IntN.{pos}
-use lib.ListN.{drop, getD, take}
+use lib.ListN.{drop, take}
 use borrow.Author.Needs.{needs, sfits-of}
 use denote.Ref.{now}
 use mir.Facts.{toZ-ofZ}
 use mir.Syntax.{w64}
-use Rattle.table.specs.Outcome.{at}
-use Rattle.tabledata.proofs.Writing.{Left, char-form, charForm, form-good, forms-joined, joined-end, joined-more, left-all, left-none, left-room, left-step, taken-at, taken-long}
-use Rattle.tabledata.specs.Contracts.{joined, written}
-use Rattle.tabledata.specs.TableData.{escaped, forms}
+use Rattle.table.specs.Shape.{Text}
+use Rattle.tabledata.proofs.Writing.{Left, char-code, charForm, left-all, left-none, left-room, left-step, taken-end, taken-more}
+use Rattle.tabledata.specs.TableData.{elementBytes, joined}
 use Rattle.tabledata.proofs.put_chars.Statement.{statement}
 use Rattle.tabledata.proofs.put_chars.Tie as tie
 
 abbrev Inv-loop : tie.InvT-loop
-Inv-loop count scratch out₀ at i₀ k₀ out i k = (k ≤ count) × Left out₀ at (written (forms (take count scratch))) out i (joined charForm (drop k (take count scratch)))
+Inv-loop count scratch out₀ at i₀ k₀ out i k = Left out₀ at (elementBytes Text (take count scratch)) out i (joined charForm (drop k (take count scratch)))
 
 abbrev μ-loop : tie.MeasureT-loop
 μ-loop count scratch out₀ at i₀ k₀ out i k = count - k
 
 loop-holds : tie.Need-loop-holds Inv-loop μ-loop
-loop-holds c = (search needs, rw (← forms-joined (take ((c .before) .args .count) (now ((c .before) .args .scratch))) ((c .before) .pre .1)) (left-all (now ((c .before) .args .out)) ((c .before) .args .at) (written (forms (take ((c .before) .args .count) (now ((c .before) .args .scratch)))))))
+unfolding elementBytes
+loop-holds c = left-all (now (c .before .args .out)) (c .before .args .at) _
 
 mul-code-of : tie.Need-mul-code-of Inv-loop μ-loop
 mul-code-of c = search needs
@@ -34,8 +33,16 @@ shared-slice-copy-out-code-of c = search needs
 code-of-requires : tie.Need-code-of-requires Inv-loop μ-loop
 code-of-requires c κs = search needs
 
-put-escaped-requires : tie.Need-put-escaped-requires Inv-loop μ-loop
-put-escaped-requires c κs = (left-room ((c .before .before .before .before .loop) .inv .1) (escaped ((c .code-of) .result)) (joined charForm (drop (((c .before .before .before .before .loop) .k) + 1) (take ((c .before .before .before .before .before .before) .args .count) (now ((c .before .before .before .before .before .before) .args .scratch))))) (joined-more charForm (take ((c .before .before .before .before .before .before) .args .count) (now ((c .before .before .before .before .before .before) .args .scratch))) ((c .before .before .before .before .loop) .k) (omega (arith, (taken-long (now ((c .before .before .before .before .before .before) .args .scratch)) ((c .before .before .before .before .before .before) .args .count) ((c .before .before .before .before .before .before) .pre .0)))) ∙ ap (λ (b : List ℕ). b ++ joined charForm (drop (((c .before .before .before .before .loop) .k) + 1) (take ((c .before .before .before .before .before .before) .args .count) (now ((c .before .before .before .before .before .before) .args .scratch))))) (char-form _ (getD (take ((c .before .before .before .before .before .before) .args .count) (now ((c .before .before .before .before .before .before) .args .scratch))) ((c .before .before .before .before .loop) .k) (pos 0)) ((c .code-of) .result) (toZ-ofZ {w = w64} (sfits-of ((c .before .code-of-arg) .given)) ∙ sym (taken-at (now ((c .before .before .before .before .before .before) .args .scratch)) ((c .before .before .before .before .before .before) .args .count) ((c .before .before .before .before .loop) .k) ((c .before .before .before .loop-test) .taken))) ((c .code-of) .ensures .0) (form-good (take ((c .before .before .before .before .before .before) .args .count) (now ((c .before .before .before .before .before .before) .args .scratch))) ((c .before .before .before .before .loop) .k) ((c .before .before .before .before .before .before) .pre .1) (omega (arith, (taken-long (now ((c .before .before .before .before .before .before) .args .scratch)) ((c .before .before .before .before .before .before) .args .count) ((c .before .before .before .before .before .before) .pre .0))))))) ((c .before .before .before .before .before .before) .pre .2), omega (arith, (c .code-of) .ensures .1))
+-- the next character, by its code
+more : (c : tie.After-code-of Inv-loop μ-loop) → let a = c .before .before .before .before .before .before .args in let k = c .before .before .before .before .loop .k in
+    joined charForm (drop k (take (a .count) (now (a .scratch)))) ≡ charForm (pos (c .code-of .result)) ++ joined charForm (drop (k + 1) (take (a .count) (now (a .scratch))))
+more c =
+    let a = c .before .before .before .before .before .before .args in let k = c .before .before .before .before .loop .k in
+    taken-more charForm (now (a .scratch)) (a .count) k (c .before .before .before .before .before .before .pre .0) (c .before .before .before .loop-test .taken)
+    ∙ ap (λ (b : List ℕ). b ++ joined charForm (drop (k + 1) (take (a .count) (now (a .scratch))))) (char-code _ _ (c .code-of .result) (toZ-ofZ {w = w64} (sfits-of (c .before .code-of-arg .given))) (c .code-of .ensures .0))
+
+put-char-requires : tie.Need-put-char-requires Inv-loop μ-loop
+put-char-requires c κs = left-room (c .before .before .before .before .loop .inv) (charForm (pos (c .code-of .result))) _ (more c) (c .before .before .before .before .before .before .pre .1)
 
 add-k : tie.Need-add-k Inv-loop μ-loop
 add-k c = search needs
@@ -44,13 +51,13 @@ loop-less : tie.Need-loop-less Inv-loop μ-loop
 loop-less c = search needs
 
 loop-again : tie.Need-loop-again Inv-loop μ-loop
-loop-again c = (search needs, left-step ((c .before .before .before .before .before .before .before .loop) .inv .1) (joined-more charForm (take ((c .before .before .before .before .before .before .before .before .before) .args .count) (now ((c .before .before .before .before .before .before .before .before .before) .args .scratch))) ((c .before .before .before .before .before .before .before .loop) .k) (omega (arith, (taken-long (now ((c .before .before .before .before .before .before .before .before .before) .args .scratch)) ((c .before .before .before .before .before .before .before .before .before) .args .count) ((c .before .before .before .before .before .before .before .before .before) .pre .0)))) ∙ ap (λ (b : List ℕ). b ++ joined charForm (drop (((c .before .before .before .before .before .before .before .loop) .k) + 1) (take ((c .before .before .before .before .before .before .before .before .before) .args .count) (now ((c .before .before .before .before .before .before .before .before .before) .args .scratch))))) (char-form _ (getD (take ((c .before .before .before .before .before .before .before .before .before) .args .count) (now ((c .before .before .before .before .before .before .before .before .before) .args .scratch))) ((c .before .before .before .before .before .before .before .loop) .k) (pos 0)) ((c .before .before .before .code-of) .result) (toZ-ofZ {w = w64} (sfits-of ((c .before .before .before .before .code-of-arg) .given)) ∙ sym (taken-at (now ((c .before .before .before .before .before .before .before .before .before) .args .scratch)) ((c .before .before .before .before .before .before .before .before .before) .args .count) ((c .before .before .before .before .before .before .before .loop) .k) ((c .before .before .before .before .before .before .loop-test) .taken))) ((c .before .before .before .code-of) .ensures .0) (form-good (take ((c .before .before .before .before .before .before .before .before .before) .args .count) (now ((c .before .before .before .before .before .before .before .before .before) .args .scratch))) ((c .before .before .before .before .before .before .before .loop) .k) ((c .before .before .before .before .before .before .before .before .before) .pre .1) (omega (arith, (taken-long (now ((c .before .before .before .before .before .before .before .before .before) .args .scratch)) ((c .before .before .before .before .before .before .before .before .before) .args .count) ((c .before .before .before .before .before .before .before .before .before) .pre .0))))))) ((c .before .before .put-escaped) .ensures))
+loop-again c = left-step (c .before .before .before .before .before .before .before .loop .inv) (more (c .before .before .before)) (c .before .before .put-char .ensures)
 
 same-length : tie.Need-same-length Inv-loop μ-loop
-same-length c = (c .before .loop) .inv .1 .same-long
+same-length c = c .before .loop .inv .same-long
 
 returns : tie.Need-returns Inv-loop μ-loop
-returns c = left-none ((c .before .loop) .inv .1) (joined-end charForm (take ((c .before .before .before) .args .count) (now ((c .before .before .before) .args .scratch))) ((c .before .loop) .k) (omega (arith, (taken-long (now ((c .before .before .before) .args .scratch)) ((c .before .before .before) .args .count) ((c .before .before .before) .pre .0)))))
+returns c = left-none (c .before .loop .inv) (taken-end charForm (now (c .before .before .before .args .scratch)) (c .before .before .before .args .count) (c .before .loop .k) (c .before .before .before .pre .0) (c .loop-test .left))
 
 pub put-chars-spec : {M : Type 1} → statement M
 put-chars-spec =
@@ -62,7 +69,7 @@ put-chars-spec =
     mul-code-of
     shared-slice-copy-out-code-of
     code-of-requires
-    put-escaped-requires
+    put-char-requires
     add-k
     loop-less
     loop-again

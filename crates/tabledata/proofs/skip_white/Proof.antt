@@ -4,7 +4,6 @@ use mathlib.Core.Path.{_∙_, _≡_, ap, refl, sym}
 use lib.ListN.{drop, length}
 use borrow.Author.Needs.{needs}
 use Rattle.table.specs.Bytes.{isWhite, skipWhite}
-use Rattle.table.specs.Outcome.{at}
 use Rattle.tabledata.proofs.Scan.{skip-end, skip-here, skip-more}
 use Rattle.tabledata.proofs.skip_white.Statement.{statement}
 use Rattle.tabledata.proofs.skip_white.Tie as tie

@@ -1,19 +1,19 @@
--- `tabledata_vectors::elements` meets its contract: the size that was measured is the cell's.
+-- `tabledata_vectors::elements` meets its contract: what was read stands in the scratch.
 use native.Mathlib.Omega.{arith}
-use mathlib.Core.Path.{_∙_, ap, sym}
 use borrow.Author.Needs.{needs}
-use Rattle.table.specs.Contracts.{sizeAs}
+use mathlib.Core.Path.{_∙_, subst}
+use Rattle.table.specs.Contracts.{Reads}
 use Rattle.tabledata_vectors.proofs.elements.Statement.{statement}
 use Rattle.tabledata_vectors.proofs.elements.Tie as tie
 
-number-of-requires : tie.Need-number-of-requires
-number-of-requires c κs = search needs
+free-requires : tie.Need-free-requires
+free-requires c κs = search needs
 
-size-text-requires : tie.Need-size-text-requires
-size-text-requires c κs = (omega (arith, (c .before) .pre .0, (c .before) .pre .1), (c .before) .pre .0)
+read-text-requires : tie.Need-read-text-requires
+read-text-requires c κs = search needs
 
-enum-known-n : tie.Need-enum-known-n
-enum-known-n c = search needs
+enum-told : tie.Need-enum-told
+enum-told c = search needs
 
 slice-aggregate-say : tie.Need-slice-aggregate-say
 slice-aggregate-say c = search needs
@@ -21,60 +21,60 @@ slice-aggregate-say c = search needs
 say-requires : tie.Need-say-requires
 say-requires c κs = search needs
 
-number-of-requires-2 : tie.Need-number-of-requires-2
-number-of-requires-2 c κs = search needs
+enum-told-2 : tie.Need-enum-told-2
+enum-told-2 c = search needs
 
-slice-aggregate-say-2 : tie.Need-slice-aggregate-say-2
-slice-aggregate-say-2 c = search needs
+free-requires-2 : tie.Need-free-requires-2
+free-requires-2 c κs = search needs
 
-say-requires-2 : tie.Need-say-requires-2
-say-requires-2 c κs = search needs
+form-requires : tie.Need-form-requires
+form-requires c κs = search needs
 
-written-again-requires : tie.Need-written-again-requires
-written-again-requires c κs = (omega (arith, (c .before .before .before .before .before .before .before .before .before .before) .pre .0, (c .before .before .before .before .before .before .before .before .before .before) .pre .1), (c .before .before .before .before .before .before .before .before .before .before) .pre .2, (c .before .before .before .before .before .before .before .before .before .before) .pre .3, sym ((c .before .before .before .before .before .before .before .before .size-text) .ensures) ∙ ap sizeAs ((c .before .before .before .before .before .before .n) .given .1))
+enum-known-count : tie.Need-enum-known-count
+enum-known-count c = search needs
 
-enum-known-n-2 : tie.Need-enum-known-n-2
-enum-known-n-2 c = search needs
+free-requires-3 : tie.Need-free-requires-3
+free-requires-3 c κs = search needs
 
-slice-aggregate-say-3 : tie.Need-slice-aggregate-say-3
-slice-aggregate-say-3 c = search needs
+form-requires-2 : tie.Need-form-requires-2
+form-requires-2 c κs = let t = subst (Reads _ _ _ _ _) (c .before .before .before .count .given .1) (c .before .before .before .before .before .before .read-text .ensures) in (omega (arith, t .within .2, t .long, c .before .before .before .before .before .before .before .before .before .before .pre), t .long ∙ c .before .before .before .before .before .before .before .before .before .before .pre)
 
-say-requires-3 : tie.Need-say-requires-3
-say-requires-3 c κs = search needs
-
-number-of-requires-3 : tie.Need-number-of-requires-3
-number-of-requires-3 c κs = search needs
-
-slice-aggregate-say-4 : tie.Need-slice-aggregate-say-4
-slice-aggregate-say-4 c = search needs
-
-say-requires-4 : tie.Need-say-requires-4
-say-requires-4 c κs = search needs
+same-length : tie.Need-same-length
+same-length c = search needs
 
 returns : tie.Need-returns
 returns c = search needs
 
+same-length-2 : tie.Need-same-length-2
+same-length-2 c = search needs
+
 returns-2 : tie.Need-returns-2
 returns-2 c = search needs
+
+same-length-3 : tie.Need-same-length-3
+same-length-3 c = search needs
+
+returns-3 : tie.Need-returns-3
+returns-3 c = search needs
 
 pub elements-spec : {M : Type 1} → statement M
 elements-spec =
     tie.close
     (tie.spec
-    number-of-requires
-    size-text-requires
-    enum-known-n
+    free-requires
+    read-text-requires
+    enum-told
     slice-aggregate-say
     say-requires
-    number-of-requires-2
-    slice-aggregate-say-2
-    say-requires-2
-    written-again-requires
-    enum-known-n-2
-    slice-aggregate-say-3
-    say-requires-3
-    number-of-requires-3
-    slice-aggregate-say-4
-    say-requires-4
+    enum-told-2
+    free-requires-2
+    form-requires
+    enum-known-count
+    free-requires-3
+    form-requires-2
+    same-length
     returns
-    returns-2)
+    same-length-2
+    returns-2
+    same-length-3
+    returns-3)

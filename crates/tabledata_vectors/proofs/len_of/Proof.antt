@@ -18,7 +18,7 @@ returns c = lit≤ tt
 
 returns-2 : tie.Need-returns-2
 unfolding bound
-returns-2 c = omega arith
+returns-2 c = lit≤ tt
 
 returns-3 : tie.Need-returns-3
 unfolding bound
@@ -26,7 +26,15 @@ returns-3 c = lit≤ tt
 
 returns-4 : tie.Need-returns-4
 unfolding bound
-returns-4 c = lit≤ tt
+returns-4 c = omega arith
+
+returns-5 : tie.Need-returns-5
+unfolding bound
+returns-5 c = lit≤ tt
+
+returns-6 : tie.Need-returns-6
+unfolding bound
+returns-6 c = lit≤ tt
 
 pub len-of-spec : {M : Type 1} → statement M
-len-of-spec = tie.close (tie.spec sub-t4 cast-t5 returns returns-2 returns-3 returns-4)
+len-of-spec = tie.close (tie.spec sub-t4 cast-t5 returns returns-2 returns-3 returns-4 returns-5 returns-6)

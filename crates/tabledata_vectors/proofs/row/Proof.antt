@@ -5,7 +5,6 @@ use mathlib.Core.Path.{_∙_, _≡_, refl, subst}
 use lib.ListN.{length}
 use borrow.Author.Needs.{needs}
 use Rattle.table.specs.Contracts.{Reads}
-use Rattle.table.specs.Outcome.{at}
 use Rattle.tabledata.specs.Contracts.{TagIs}
 use Rattle.tabledata_vectors.proofs.row.Statement.{statement}
 use Rattle.tabledata_vectors.proofs.row.Tie as tie
@@ -25,8 +24,8 @@ enum-known-first c = search needs
 enum-told : tie.Need-enum-told Inv-loop μ-loop
 enum-told c = search needs
 
-refused-requires : tie.Need-refused-requires Inv-loop μ-loop
-refused-requires c κs = search needs
+answer-requires : tie.Need-answer-requires Inv-loop μ-loop
+answer-requires c κs = search needs
 
 returns : tie.Need-returns Inv-loop μ-loop
 returns c = search needs
@@ -34,17 +33,17 @@ returns c = search needs
 loop-holds : tie.Need-loop-holds Inv-loop μ-loop
 loop-holds c = let t = (subst (TagIs _ _ _) ((c .before .first) .given .1) ((c .before .before .before .row-begins) .ensures)) in (t .within .1, refl)
 
-night-column-requires : tie.Need-night-column-requires Inv-loop μ-loop
-night-column-requires c κs = search needs
+row-column-requires : tie.Need-row-column-requires Inv-loop μ-loop
+row-column-requires c κs = search needs
 
 read-text-requires : tie.Need-read-text-requires Inv-loop μ-loop
-read-text-requires c κs = ((c .before .before .before .loop) .inv .0, (c .before .night-column) .ensures, omega (arith, (c .before .before .before .loop) .inv .1, (c .before .before .before .before .before .before .before .before .before) .pre))
+read-text-requires c κs = ((c .before .before .before .loop) .inv .0, (c .before .row-column) .ensures, omega (arith, (c .before .before .before .loop) .inv .1, (c .before .before .before .before .before .before .before .before .before) .pre))
 
 enum-known-n : tie.Need-enum-known-n Inv-loop μ-loop
 enum-known-n c = search needs
 
-refused-requires-2 : tie.Need-refused-requires-2 Inv-loop μ-loop
-refused-requires-2 c κs = search needs
+answer-requires-2 : tie.Need-answer-requires-2 Inv-loop μ-loop
+answer-requires-2 c κs = search needs
 
 same-length : tie.Need-same-length Inv-loop μ-loop
 same-length c = (c .before .before .before .before .before .read-text) .ensures .long ∙ (c .before .before .before .before .before .before .before .before .before .loop) .inv .1
@@ -85,8 +84,8 @@ enum-known-next-3 c = search needs
 enum-told-2 : tie.Need-enum-told-2 Inv-loop μ-loop
 enum-told-2 c = search needs
 
-refused-requires-3 : tie.Need-refused-requires-3 Inv-loop μ-loop
-refused-requires-3 c κs = search needs
+answer-requires-3 : tie.Need-answer-requires-3 Inv-loop μ-loop
+answer-requires-3 c κs = search needs
 
 same-length-2 : tie.Need-same-length-2 Inv-loop μ-loop
 same-length-2 c = (c .before .before .before .before .before .loop) .inv .1
@@ -94,14 +93,17 @@ same-length-2 c = (c .before .before .before .before .before .loop) .inv .1
 returns-3 : tie.Need-returns-3 Inv-loop μ-loop
 returns-3 c = (c .before .before .before .before .before .loop) .inv .1
 
-refused-requires-4 : tie.Need-refused-requires-4 Inv-loop μ-loop
-refused-requires-4 c κs = search needs
+skip-white-requires : tie.Need-skip-white-requires Inv-loop μ-loop
+skip-white-requires c κs = let t = subst (TagIs _ _ _) (c .before .next3 .given .1) (c .before .before .before .row-ends .ensures) in t .within .1
+
+answer-requires-4 : tie.Need-answer-requires-4 Inv-loop μ-loop
+answer-requires-4 c κs = search needs
 
 same-length-3 : tie.Need-same-length-3 Inv-loop μ-loop
-same-length-3 c = (c .before .before .before .before .before .before .loop) .inv .1
+same-length-3 c = (c .before .before .before .before .before .before .before .loop) .inv .1
 
 returns-4 : tie.Need-returns-4 Inv-loop μ-loop
-returns-4 c = (c .before .before .before .before .before .before .loop) .inv .1
+returns-4 c = (c .before .before .before .before .before .before .before .loop) .inv .1
 
 pub row-spec : {M : Type 1} → statement M
 row-spec =
@@ -112,13 +114,13 @@ row-spec =
     row-begins-requires
     enum-known-first
     enum-told
-    refused-requires
+    answer-requires
     returns
     loop-holds
-    night-column-requires
+    row-column-requires
     read-text-requires
     enum-known-n
-    refused-requires-2
+    answer-requires-2
     same-length
     returns-2
     enum-known-next
@@ -132,9 +134,10 @@ row-spec =
     row-ends-requires
     enum-known-next-3
     enum-told-2
-    refused-requires-3
+    answer-requires-3
     same-length-2
     returns-3
-    refused-requires-4
+    skip-white-requires
+    answer-requires-4
     same-length-3
     returns-4)
