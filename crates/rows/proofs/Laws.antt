@@ -5,20 +5,25 @@ use native.Mathlib.Nat.{le-refl, not-suc-le-zero}
 use native.Mathlib.Omega.{arith}
 use mathlib.Core.Bool.{Bool, cond, false, true}
 use mathlib.Core.List.{List, [], _++_, _∷_, append-assoc, map}
-use mathlib.Core.Path.{_∙_, _≡_, ap, refl, sym}
+use mathlib.Core.Option.{Option·none-ne-some, none, some}
+use mathlib.Core.Path.{_∙_, _≡_, ap, refl, subst, sym}
 use lib.Dec.{lit<, lit≤}
+use lib.IntN.{pos, ℤ}
 use lib.ListN.{length, length-map}
 use mir.Val.{bits}
 use Rattle.binary.proofs.Laws.{binary-cell-back, binary-fails, binary-less, binary2-cell-back, binary2-fails, binary2-fits, front-back, front-fails, front-is, front-less, length-pack, unpack-fails, unpack-pack, write-binary-fails}
-use Rattle.binary.specs.Binary.{bitBytes, pack, readBinary, unpack}
+use Rattle.binary.specs.Binary.{bitBytes, content, contentBytes, countIn, front, pack, readBinary, readBinary2, shows, unpack}
+use Rattle.rows.specs.Contracts.{Bounded, Within}
 use Rattle.rows.specs.Stream.{Table, atEnd, bit, finished, flag, flagsLeft, isEmpty, isOne, read, readCell, readCells, readEnd, readF, readRow, readStart, row, rowThen, stopped, writeCell, writeCells, writeEnd, writeRow, writeStart}
-use Rattle.table.proofs.Laws.{Numbered, cond-cases, each-length, empty-fits, fails-as, fails-bind, fails-weaken, holds-any, holds-as, holds-at, holds-bind, holds-weaken, skip-le, tag-fails, tag-le}
+use Rattle.table.proofs.Laws.{Numbered, all-weaken, bad-good, cond-cases, each-length, empty-fits, fails-as, fails-bind, fails-weaken, holds-any, holds-as, holds-at, holds-bind, holds-weaken, skip-le, tag-fails, tag-le}
 use Rattle.table.specs.All.{All, AreBytes}
 use Rattle.table.specs.Bytes.{after, ends, isWhite, skipWhite, tag}
-use Rattle.table.specs.Cell.{AreColumns, Cell, Each, Fits, IsColumn, isNull}
+use Rattle.table.specs.Cell.{AreColumns, Cell, Each, Fits, IsColumn, below, isElement, isNull, isScalar, nullElement, nullOfKind, show}
 use Rattle.table.specs.Outcome.{Refusal, at}
-use Rattle.table.specs.Result.{Fails, Holds, Result, bad, fails, gives, good, holds, refuses}
+use Rattle.table.specs.Result.{Fails, Holds, Result, _>>=_, bad, fails, gives, good, holds, refuses}
+use Rattle.table.specs.Shape.{Bits, Shape, Text, Truths, Whole, shape}
 use Rattle.table.specs.declared.Column.{Column}
+use Rattle.table.specs.declared.Null.the-variants.{Undeclared}
 use Rattle.table.specs.declared.Rows.{Rows}
 use Rattle.table.specs.declared.Rows.the-variants.{Binary, Binary2, TableData}
 use Rattle.tabledata.proofs.Laws.{TextFits, text-cell-back, text-fails, text-fits, text-less, write-text-fails}
@@ -47,13 +52,64 @@ cells-back TableData c x i f = text-cell-back c x f
 cells-back Binary c x i f = binary-cell-back c x i f
 cells-back Binary2 c x i f = holds (λ rest. binary2-cell-back c x rest i f)
 
+-- the column without its declared null
+abbrev bare : Column → Column
+bare c = record { kind = c .kind; len = c .len; null = Undeclared }
+
+bare-null : (k : Shape) (scalar : Bool) (z : ℤ) → cond scalar (nullOfKind k Undeclared) none ≡ some z → isElement k z ≡ true
+unfolding nullOfKind isElement below
+bare-null Truths true z q = let e : z ≡ pos 2 = cc in rw e
+bare-null Truths false z q = absurd (Option·none-ne-some z q)
+bare-null Bits true z q = absurd (Option·none-ne-some z q)
+bare-null Bits false z q = absurd (Option·none-ne-some z q)
+bare-null (Whole g v) true z q = absurd (Option·none-ne-some z q)
+bare-null (Whole g v) false z q = absurd (Option·none-ne-some z q)
+bare-null Text true z q = absurd (Option·none-ne-some z q)
+bare-null Text false z q = absurd (Option·none-ne-some z q)
+
+bare-is : (c : Column) → Bounded c → IsColumn (bare c)
+unfolding nullElement
+bare-is c b = record { some-room = b .0; most-room = b .1; null-is = bare-null (shape (c .kind)) (isScalar (c .len)) }
+
+-- what follows a cell
+abbrev following : Result ℕ (Cell × List ℕ) → Result ℕ (List ℕ)
+following r = r >>= λ p. good (p .1)
+
+-- where a cell ends does not hang on its declared null
+ends-alike : (c : Column) (flagged : Bool) (s : List ℕ) → following (readBinary2 c flagged s) ≡ following (readBinary2 (bare c) flagged s)
+unfolding readBinary2
+ends-alike c flagged s = counted (countIn (c .len) s)
+  where
+    shown-alike : (t : List ℕ) (r : Result ℕ (List ℤ)) → following ((r >>= λ es. good (show c es)) >>= λ x. good (x, t)) ≡ following ((r >>= λ es. good (show (bare c) es)) >>= λ x. good (x, t))
+    shown-alike t (good es) = refl
+    shown-alike t (bad n) = refl
+
+    filled : (n : ℕ) (f : Bool) (r : Result ℕ (List ℕ × List ℕ)) → following (r >>= λ p. shows c f n (p .0) >>= λ x. good (x, p .1)) ≡ following (r >>= λ p. shows (bare c) f n (p .0) >>= λ x. good (x, p .1))
+    filled n f (bad k) = refl
+    filled n true (good p) = unfold shows in refl
+    filled n false (good p) = unfold shows in shown-alike (p .1) (content (shape (c .kind)) n (p .0))
+
+    counted : (r : Result ℕ (ℕ × List ℕ))
+        → following (r >>= λ n. front (contentBytes (shape (c .kind)) (n .0)) (n .1) >>= λ p. shows c flagged (n .0) (p .0) >>= λ x. good (x, p .1))
+        ≡ following (r >>= λ n. front (contentBytes (shape (c .kind)) (n .0)) (n .1) >>= λ p. shows (bare c) flagged (n .0) (p .0) >>= λ x. good (x, p .1))
+    counted (bad k) = refl
+    counted (good n) = filled (n .0) flagged (front (contentBytes (shape (c .kind)) (n .0)) (n .1))
+
+holds-following : (P : List ℕ → Type 0) (r q : Result ℕ (Cell × List ℕ)) → following r ≡ following q → Holds (λ (p : Cell × List ℕ). P (p .1)) q → Holds (λ (p : Cell × List ℕ). P (p .1)) r
+holds-following P (bad n) q e h = refuses
+holds-following P (good p) (bad n) e h = absurd (bad-good (sym e))
+holds-following P (good p) (good q) e (holds h) = let k : p .1 ≡ q .1 = cc in holds (subst P (sym k) h)
+
+binary2-less : (c : Column) (flagged : Bool) (s : List ℕ) → Bounded c → Holds (λ (p : Cell × List ℕ). length (p .1) < length s) (readBinary2 c flagged s)
+binary2-less c flagged s b = holds-following (λ (t : List ℕ). length t < length s) _ _ (ends-alike c flagged s) (binary-less (bare c) flagged s (bare-is c b))
+
 -- a cell takes at least a byte
-pub cells-less : (from : Rows) (c : Column) (flagged : Bool) (s : List ℕ) → IsColumn c
+pub cells-less : (from : Rows) (c : Column) (flagged : Bool) (s : List ℕ) → Bounded c
     → Holds (λ (p : Cell × List ℕ). length (p .1) < length s) (readCell from c flagged s)
 unfolding readCell readBinary
-cells-less TableData c flagged s i = text-less c s
-cells-less Binary c flagged s i = holds-bind (binary-less c false s i) (λ p h. holds h)
-cells-less Binary2 c flagged s i = binary-less c flagged s i
+cells-less TableData c flagged s b = text-less c s
+cells-less Binary c flagged s b = holds-bind (binary2-less c false s b) (λ p h. holds h)
+cells-less Binary2 c flagged s b = binary2-less c flagged s b
 
 -- ---- a row that is written is read back
 
@@ -143,7 +199,7 @@ end-le TableData s = tag-skip close-TR s
 end-le Binary s = holds (le-refl (length s))
 end-le Binary2 s = holds (le-refl (length s))
 
-row-cells-le : (from : Rows) (cs : List Column) (fs : List Bool) (k : ℕ) (s : List ℕ) → All IsColumn cs
+row-cells-le : (from : Rows) (cs : List Column) (fs : List Bool) (k : ℕ) (s : List ℕ) → All Bounded cs
     → Holds (λ (p : List Cell × List ℕ). length (p .1) + length cs ≤ length s) (readCells from cs fs k s)
 unfolding readCells
 row-cells-le from [] fs k s i = holds {a = ([], s)} (omega arith)
@@ -151,13 +207,21 @@ row-cells-le from (c ∷ cs) fs k s i =
     holds-bind (holds-as (at k) (cells-less from c (flag fs) s (i .0))) (λ x h.
     holds-bind (row-cells-le from cs (flagsLeft fs) (k + 1) (x .1) (i .1)) (λ xs g. holds (omega arith)))
 
-pub row-less : (from : Rows) (cs : List Column) (s : List ℕ) → AreColumns cs
+pub within-less : (from : Rows) (cs : List Column) (s : List ℕ) → Within cs
     → Holds (λ (p : List Cell × List ℕ). length (p .1) < length s) (readRow from cs s)
 unfolding readRow
-row-less from cs s i =
+within-less from cs s i =
     holds-bind (holds-as (at 0) (start-le from (length cs) s)) (λ p h.
     holds-bind (row-cells-le from cs (p .0) 0 (p .1) (i .each)) (λ x g.
     holds-bind (holds-as (at (length cs)) (end-le from (x .1))) (λ t e. holds (omega (arith, i .some)))))
+
+-- columns that can be declared are within their bounds
+pub columns-within : (cs : List Column) → AreColumns cs → Within cs
+columns-within cs a = record { some = a .some; few = a .few; each = all-weaken IsColumn Bounded cs (λ c i. (i .some-room, i .most-room)) (a .each) }
+
+pub row-less : (from : Rows) (cs : List Column) (s : List ℕ) → AreColumns cs
+    → Holds (λ (p : List Cell × List ℕ). length (p .1) < length s) (readRow from cs s)
+row-less from cs s i = within-less from cs s (columns-within cs i)
 
 -- ---- any bound that is large enough gives the same table
 
@@ -171,25 +235,32 @@ unfolding rowThen
 then-same r m n (holds {a = p} h) = ap (row (p .0)) h
 then-same r m n refuses = refl
 
-module _ (from : Rows) (cs : List Column) (i : AreColumns cs) where
-  pub fuel : (f g : ℕ) (s : List ℕ) → length s ≤ f → length s ≤ g → readF f from cs s ≡ readF g from cs s
+module _ (from : Rows) (cs : List Column) (i : Within cs) where
+  within-fuel : (f g : ℕ) (s : List ℕ) → length s ≤ f → length s ≤ g → readF f from cs s ≡ readF g from cs s
   unfolding readF
-  fuel zero zero s a b = refl
-  fuel zero (suc g) s a b = rw (at-end from s a)
-  fuel (suc f) zero s a b = rw (at-end from s b)
-  fuel (suc f) (suc g) s a b =
+  within-fuel zero zero s a b = refl
+  within-fuel zero (suc g) s a b = rw (at-end from s a)
+  within-fuel (suc f) zero s a b = rw (at-end from s b)
+  within-fuel (suc f) (suc g) s a b =
       ap (cond (atEnd from s) finished)
       (then-same (readRow from cs s) (λ rest. readF f from cs rest) (λ rest. readF g from cs rest)
-      (holds-weaken (row-less from cs s i) (λ p h. fuel f g (p .1) (omega arith) (omega arith))))
+      (holds-weaken (within-less from cs s i) (λ p h. within-fuel f g (p .1) (omega arith) (omega arith))))
 
   -- a stream is its first row and what the rest says
-  pub read-step : (s : List ℕ) → read from cs s ≡ cond (atEnd from s) finished (rowThen (readRow from cs s) (read from cs))
+  pub within-step : (s : List ℕ) → read from cs s ≡ cond (atEnd from s) finished (rowThen (readRow from cs s) (read from cs))
   unfolding readF read
-  read-step s =
-      fuel (length s) (suc (length s)) s (le-refl _) (omega arith)
+  within-step s =
+      within-fuel (length s) (suc (length s)) s (le-refl _) (omega arith)
       ∙ ap (cond (atEnd from s) finished)
       (then-same (readRow from cs s) (λ rest. readF (length s) from cs rest) (read from cs)
-      (holds-weaken (row-less from cs s i) (λ p h. fuel (length s) (length (p .1)) (p .1) (omega arith) (le-refl _))))
+      (holds-weaken (within-less from cs s i) (λ p h. within-fuel (length s) (length (p .1)) (p .1) (omega arith) (le-refl _))))
+
+module _ (from : Rows) (cs : List Column) (i : AreColumns cs) where
+  pub fuel : (f g : ℕ) (s : List ℕ) → length s ≤ f → length s ≤ g → readF f from cs s ≡ readF g from cs s
+  fuel = within-fuel from cs (columns-within cs i)
+
+  pub read-step : (s : List ℕ) → read from cs s ≡ cond (atEnd from s) finished (rowThen (readRow from cs s) (read from cs))
+  read-step = within-step from cs (columns-within cs i)
 
 -- ---- a row is never read at the end
 
@@ -321,7 +392,7 @@ read-row-fails from cs s =
     fails-bind (fails-weaken (read-cells-fails from cs (p .0) 0 (p .1)) (λ e h. (h .0, omega (arith, h .1)))) (λ x.
     fails-bind (fails-as (at (length cs)) (read-end-fails from (x .1)) (λ n h. (h, le-refl (length cs)))) (λ t. gives)))
 
-write-cell-fails : (to : Rows) (c : Column) (x : Cell) → Fails (Numbered 14 16) (writeCell to c x)
+pub write-cell-fails : (to : Rows) (c : Column) (x : Cell) → Fails (Numbered 14 16) (writeCell to c x)
 unfolding writeCell
 write-cell-fails TableData c x = write-text-fails c x
 write-cell-fails Binary c x = write-binary-fails c x

@@ -1,2 +1,3 @@
 pub mod Stream
 pub mod Convert
+pub mod Contracts
