@@ -1,1 +1,85 @@
-// The public face: the functions for C, Rust and Python.
+// The public face: the functions for C, Rust and Python, numbers and slices only. `answer` gets the number, the row, the column, the rows done
+// and the bytes written.
+use table::Answer;
+use table::Rows;
+ghost use mathlib.Core.Path.{_≡_};
+ghost use Rattle.sailmortar.specs.Face.{convertFace, declareFace, decodeFace, encodeFace, five, rowsOf};
+ghost use Rattle.sailmortar.specs.Named.{namedAs};
+
+// 01 has no number for it.
+const NO_SUCH_KIND: [u64; 5] = [255, 0, 0, 0, 0];
+
+fn put_answer(a: Answer, answer: &mut [u64; 5])
+    ensures { λ _. ⌜ now (answer .exit) ≡ five a ⌝ }
+{
+    *answer = [a.number, a.row, a.column, a.rows, a.bytes];
+}
+
+// A kind of rows by its number, or none.
+pub enum Named {
+    Known(Rows),
+    Unknown,
+}
+
+fn rows_of(number: u32) -> Named
+    ensures { λ r. ⌜ namedAs r ≡ rowsOf number ⌝ }
+{
+    match number {
+        0 => Named::Known(Rows::TableData),
+        1 => Named::Known(Rows::Binary),
+        2 => Named::Known(Rows::Binary2),
+        _ => Named::Unknown,
+    }
+}
+
+// Rows of one kind to rows of another. A number that names no kind is answered 255, before anything else is judged.
+#[no_mangle]
+pub extern "C" fn sailmortar_convert(
+    decls: &[u8],
+    from: u32,
+    to: u32,
+    input: &[u8],
+    out: &mut [u8],
+    answer: &mut [u64; 5],
+)
+    ensures numbers { λ _. ⌜ now (answer .exit) ≡ convertFace (now (decls .entry)) from to (now (input .entry)) (now (out .entry)) .numbers ⌝ }
+    ensures buffer { λ _. ⌜ now (out .exit) ≡ convertFace (now (decls .entry)) from to (now (input .entry)) (now (out .entry)) .buffer ⌝ }
+{
+    let Named::Known(source) = rows_of(from) else {
+        *answer = NO_SUCH_KIND;
+        return;
+    };
+    let Named::Known(target) = rows_of(to) else {
+        *answer = NO_SUCH_KIND;
+        return;
+    };
+    put_answer(rows::convert(decls, source, target, input, out), answer);
+}
+
+// Base64 to bytes.
+#[no_mangle]
+pub extern "C" fn sailmortar_base64_decode(input: &[u8], out: &mut [u8], answer: &mut [u64; 5])
+    ensures numbers { λ _. ⌜ now (answer .exit) ≡ decodeFace (now (input .entry)) (now (out .entry)) .numbers ⌝ }
+    ensures buffer { λ _. ⌜ now (out .exit) ≡ decodeFace (now (input .entry)) (now (out .entry)) .buffer ⌝ }
+{
+    put_answer(base64::decode(input, out), answer);
+}
+
+// Bytes to base64, without line breaks.
+#[no_mangle]
+pub extern "C" fn sailmortar_base64_encode(input: &[u8], out: &mut [u8], answer: &mut [u64; 5])
+    ensures numbers { λ _. ⌜ now (answer .exit) ≡ encodeFace (now (input .entry)) (now (out .entry)) .numbers ⌝ }
+    ensures buffer { λ _. ⌜ now (out .exit) ≡ encodeFace (now (input .entry)) (now (out .entry)) .buffer ⌝ }
+{
+    put_answer(base64::encode(input, out), answer);
+}
+
+// Declarations alone: `answer` gets the number, 0, the place, how many columns are declared, and 0.
+#[no_mangle]
+pub extern "C" fn sailmortar_declare(decls: &[u8], answer: &mut [u64; 5])
+    ensures { λ _. ⌜ now (answer .exit) ≡ declareFace (now (decls .entry)) ⌝ }
+{
+    let d = fields::declare(decls);
+    let columns = d.columns;
+    *answer = [d.number, 0, d.place as u64, columns.count as u64, 0];
+}

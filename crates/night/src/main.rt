@@ -1,0 +1,228 @@
+// The sample night in all nine ways and the cases that 01 marks 'run only', through the public face.
+// The cases stand in `stdin`, each a title, a way, the declarations and an input in base64, with `|` behind each. A way is a letter, the two
+// kinds of rows and the room: `c` is one call, `p` a call for every prefix of the input, `r` one for every room up to the one given, `d` the
+// declarations alone, `e` the input encoded. A line has the five numbers of the answer, a sum over every byte of the buffer, which held 238
+// before the call, and the first bytes written.
+ghost use Prim.Native.Nat.{_<_, _≤_};
+ghost use lib.ListN.{length};
+ghost use Rattle.night.specs.Places.{Behind};
+use libc::STDIN_FILENO;
+use libc::STDOUT_FILENO;
+
+// ---- writing
+
+fn say(text: &[u8]) {
+    io::write_all(STDOUT_FILENO, text);
+}
+
+fn say_number(n: u64) {
+    say(b" ");
+    io::print_decimal(STDOUT_FILENO, n);
+}
+
+fn say_answer(answer: &[u64; 5]) {
+    say_number(answer[0]);
+    say_number(answer[1]);
+    say_number(answer[2]);
+    say_number(answer[3]);
+    say_number(answer[4]);
+}
+
+// A sum over all bytes, in which each place counts.
+fn say_sum(out: &[u8]) {
+    let mut sum: u64 = 0;
+    let mut k: usize = 0;
+    while k < out.len() {
+        sum = (sum * 31 + (out[k] as u64)) % 4294967296;
+        k += 1;
+    }
+    say(b" sum");
+    say_number(sum);
+}
+
+// The first n bytes, 80 of them at most.
+fn say_bytes(out: &[u8], n: usize) {
+    let mut k: usize = 0;
+    while k < n {
+        if 80 <= k {
+            say(b" ..");
+            return;
+        }
+        if k < out.len() {
+            say(b" ");
+            io::print_hex(STDOUT_FILENO, out[k] as u64, 2);
+        }
+        k += 1;
+    }
+}
+
+fn fill(out: &mut [u8]) {
+    let mut k: usize = 0;
+    while k < out.len() {
+        out[k] = 238;
+        k += 1;
+    }
+}
+
+// ---- the calls
+
+fn convert(decls: &[u8], from: u32, to: u32, input: &[u8], out: &mut [u8]) {
+    fill(out);
+    let mut answer = [9u64; 5];
+    sailmortar::sailmortar_convert(decls, from, to, input, out, &mut answer);
+    say_answer(&answer);
+    say_sum(out);
+    say_bytes(out, answer[4] as usize);
+}
+
+fn convert_prefixes(decls: &[u8], from: u32, to: u32, input: &[u8], out: &mut [u8]) {
+    let mut n: usize = 0;
+    while n < input.len() {
+        say(b"\n");
+        say_number(n as u64);
+        say(b":");
+        convert(decls, from, to, &input[..n], out);
+        n += 1;
+    }
+}
+
+fn convert_rooms(decls: &[u8], from: u32, to: u32, input: &[u8], out: &mut [u8]) {
+    let mut n: usize = 0;
+    while n < out.len() {
+        say(b"\n");
+        say_number(n as u64);
+        say(b":");
+        convert(decls, from, to, input, &mut out[..n]);
+        n += 1;
+    }
+}
+
+fn declare(decls: &[u8]) {
+    let mut answer = [9u64; 5];
+    sailmortar::sailmortar_declare(decls, &mut answer);
+    say_answer(&answer);
+}
+
+fn encode(input: &[u8], out: &mut [u8]) {
+    fill(out);
+    let mut answer = [9u64; 5];
+    sailmortar::sailmortar_base64_encode(input, out, &mut answer);
+    say_answer(&answer);
+    say_sum(out);
+    say_bytes(out, answer[4] as usize);
+}
+
+fn call(letter: u8, decls: &[u8], from: u32, to: u32, input: &[u8], out: &mut [u8]) {
+    match letter {
+        b'p' => convert_prefixes(decls, from, to, input, out),
+        b'r' => convert_rooms(decls, from, to, input, out),
+        b'd' => declare(decls),
+        b'e' => encode(input, out),
+        _ => convert(decls, from, to, input, out),
+    }
+}
+
+// ---- the cases
+
+// The place of the next `|`, or the end.
+fn bar(s: &[u8], from: usize) -> usize
+    requires { ⌜ from ≤ length (now s) ⌝ }
+    ensures { λ r. ⌜ (from ≤ r) × (r ≤ length (now (s .entry))) ⌝ }
+{
+    let mut i = from;
+    while i < s.len() {
+        if s[i] == b'|' {
+            return i;
+        }
+        i += 1;
+    }
+    i
+}
+
+fn behind(s: &[u8], i: usize) -> usize
+    requires { ⌜ i ≤ length (now s) ⌝ }
+    ensures { λ r. ⌜ Behind (length (now (s .entry))) i r ⌝ }
+{
+    if i < s.len() { i + 1 } else { i }
+}
+
+fn digit(b: u8) -> u32
+    ensures { λ r. ⌜ r < 10 ⌝ }
+{
+    match b {
+        b'0'..=b'9' => (b - 48) as u32,
+        _ => 0,
+    }
+}
+
+// The number that the digits behind the letter and the two kinds spell, below 100,000.
+fn room_in(way: &[u8]) -> usize
+    ensures { λ r. ⌜ r < 100000 ⌝ }
+{
+    let mut n: usize = 0;
+    let mut k: usize = 3;
+    while k < way.len() {
+        n = (n * 10 + (digit(way[k]) as usize)) % 100000;
+        k += 1;
+    }
+    n
+}
+
+// The input is decoded into a buffer that still holds what the case before left there, and so does `out` where the call does not fill it.
+fn run_case(title: &[u8], way: &[u8], decls: &[u8], text: &[u8], space: &mut [u8], out: &mut [u8]) {
+    say(title);
+    say(b":");
+    if way.len() < 3 {
+        return;
+    }
+    let mut answer = [9u64; 5];
+    sailmortar::sailmortar_base64_decode(text, space, &mut answer);
+    let n = answer[4] as usize;
+    let room = room_in(way);
+    if n <= space.len() {
+        if room <= out.len() {
+            call(
+                way[0],
+                decls,
+                digit(way[1]),
+                digit(way[2]),
+                &space[..n],
+                &mut out[..room],
+            );
+        }
+    }
+}
+
+// A title begins with the line's end before it.
+fn run_all(s: &[u8], space: &mut [u8], out: &mut [u8]) {
+    let mut at = 0;
+    while at < s.len() {
+        let title_end = bar(s, at);
+        let way = behind(s, title_end);
+        let way_end = bar(s, way);
+        let decls = behind(s, way_end);
+        let decls_end = bar(s, decls);
+        let text = behind(s, decls_end);
+        let text_end = bar(s, text);
+        run_case(
+            &s[at..title_end],
+            &s[way..way_end],
+            &s[decls..decls_end],
+            &s[text..text_end],
+            space,
+            out,
+        );
+        at = behind(s, text_end);
+    }
+}
+
+fn main() {
+    let mut cases = [0u8; 200000];
+    let mut space = [0u8; 65536];
+    let mut out = [0u8; 99999];
+    let count = io::read_full(STDIN_FILENO, &mut cases);
+    if count <= 200000 {
+        run_all(&cases[..count], &mut space, &mut out);
+    }
+    say(b"\n");
+}

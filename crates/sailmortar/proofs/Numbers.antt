@@ -1,0 +1,45 @@
+-- The numbers of a declaration's answer, and the kinds of rows by number: by cases on the definitions.
+use Prim.Native.Nat.{suc, zero, ℕ}
+use mathlib.Core.Option.{none, some}
+use mathlib.Core.List.{List, [], _∷_}
+use mathlib.Core.Path.{_≡_, refl}
+use Rattle.fields.specs.Contracts.{answered}
+use Rattle.sailmortar.specs.Face.{betweenKinds, convertFace, declaredNumbers, faced, noSuchKind, rowsOf}
+use Rattle.rows.specs.Convert.{convert}
+use Rattle.fields.specs.declared.Declared.{Declared}
+use Rattle.table.specs.Outcome.{Refusal}
+use Rattle.table.specs.Result.{Result, bad, good}
+use Rattle.table.specs.declared.Column.{Column}
+use Rattle.table.specs.declared.Rows.{Rows}
+
+-- number, 0, place, columns, 0
+abbrev pub numbersOf : Declared → List ℕ
+numbersOf d = d .number ∷ 0 ∷ d .place ∷ d .columns .count ∷ 0 ∷ []
+
+pub declared-numbers : (r : Result Refusal (List Column)) → numbersOf (answered r) ≡ declaredNumbers r
+unfolding answered declaredNumbers
+declared-numbers (good cs) = refl
+declared-numbers (bad e) = refl
+
+pub no-rows : (n : ℕ) → (n ≡ 0 → ⊥) → (n ≡ 1 → ⊥) → (n ≡ 2 → ⊥) → rowsOf n ≡ none
+unfolding rowsOf
+no-rows zero a b c = absurd (a refl)
+no-rows (suc zero) a b c = absurd (b refl)
+no-rows (suc (suc zero)) a b c = absurd (c refl)
+no-rows (suc (suc (suc n))) a b c = refl
+
+-- ---- a call, by what its two numbers name
+
+module _ (decls : List ℕ) (from to : ℕ) (input out : List ℕ) where
+  pub no-source : rowsOf from ≡ none → convertFace decls from to input out ≡ noSuchKind out
+  unfolding convertFace betweenKinds
+  no-source e = rw e
+
+  module _ (source : Rows) (e : rowsOf from ≡ some source) where
+    pub no-target : rowsOf to ≡ none → convertFace decls from to input out ≡ noSuchKind out
+    unfolding convertFace betweenKinds
+    no-target f = rw (e, f)
+
+    pub known : (target : Rows) → rowsOf to ≡ some target → convertFace decls from to input out ≡ faced (convert decls source target input out)
+    unfolding convertFace betweenKinds
+    known target f = rw (e, f)

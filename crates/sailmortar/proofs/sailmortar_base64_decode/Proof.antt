@@ -1,0 +1,26 @@
+-- The step's answer goes out as five numbers; its buffer is the one lent.
+use Rattle.sailmortar.specs.Face.{decodeFace, faced, five}
+use borrow.Author.Needs.{needs}
+use mathlib.Core.Path.{_∙_, ap}
+use Rattle.sailmortar.proofs.sailmortar_base64_decode.Statement.{statement}
+use Rattle.sailmortar.proofs.sailmortar_base64_decode.Tie as tie
+
+decode-requires : tie.Need-decode-requires
+decode-requires c κs = search needs
+
+put-answer-requires : tie.Need-put-answer-requires
+put-answer-requires c κs = search needs
+
+same-length : tie.Need-same-length
+same-length c = search needs
+
+returns : tie.Need-returns
+unfolding decodeFace faced
+returns c = (
+  c .put-answer .ensures ∙ ap five (c .before .before .before .before .decode .ensures .0),
+  c .before .before .before .before .decode .ensures .1,
+)
+
+pub sailmortar-base64-decode-spec : {M : Type 1} → statement M
+sailmortar-base64-decode-spec =
+    tie.close (tie.spec decode-requires put-answer-requires same-length returns)

@@ -1,0 +1,77 @@
+-- Each number names a kind or none; where both do, the converter's answer goes out as five numbers and its buffer is the one lent.
+use Rattle.sailmortar.proofs.Numbers.{known, no-source, no-target}
+use Rattle.sailmortar.specs.Face.{Faced, faced, five, noSuchKind}
+use Rattle.sailmortar.specs.Named.{namedAs}
+use borrow.Author.Needs.{needs}
+use mathlib.Core.Path.{_∙_, ap, sym}
+use Rattle.sailmortar.proofs.sailmortar_convert.Statement.{statement}
+use Rattle.sailmortar.proofs.sailmortar_convert.Tie as tie
+
+rows-of-requires : tie.Need-rows-of-requires
+rows-of-requires c κs = search needs
+
+enum-known-source : tie.Need-enum-known-source
+enum-known-source c = search needs
+
+enum-told : tie.Need-enum-told
+enum-told c = search needs
+
+returns : tie.Need-returns
+unfolding noSuchKind
+returns c =
+    let e = no-source _ _ _ _ _ (sym (c .before .before .rows-of .ensures) ∙ ap namedAs (c .enum-told .given .1)) in
+    (ap (λ (f : Faced). f .numbers) (sym e), ap (λ (f : Faced). f .buffer) (sym e))
+
+rows-of-requires-2 : tie.Need-rows-of-requires-2
+rows-of-requires-2 c κs = search needs
+
+enum-known-target : tie.Need-enum-known-target
+enum-known-target c = search needs
+
+enum-told-2 : tie.Need-enum-told-2
+enum-told-2 c = search needs
+
+returns-2 : tie.Need-returns-2
+unfolding noSuchKind
+returns-2 c =
+    let e = no-target _ _ _ _ _ _
+    (sym (c .before .before .before .before .before .before .rows-of .ensures) ∙ ap namedAs (c .before .before .before .before .source .given .1))
+    (sym (c .before .before .rows-of2 .ensures) ∙ ap namedAs (c .enum-told2 .given .1)) in
+    (ap (λ (f : Faced). f .numbers) (sym e), ap (λ (f : Faced). f .buffer) (sym e))
+
+convert-requires : tie.Need-convert-requires
+convert-requires c κs = search needs
+
+put-answer-requires : tie.Need-put-answer-requires
+put-answer-requires c κs = search needs
+
+same-length : tie.Need-same-length
+same-length c = search needs
+
+returns-3 : tie.Need-returns-3
+unfolding faced
+returns-3 c =
+    let k = c .before .before .before .before in
+    let e = known _ _ _ _ _ _
+    (sym (k .before .before .before .before .before .before .before .before .before .rows-of .ensures) ∙ ap namedAs (k .before .before .before .before .before .before .before .source .given .1)) _
+    (sym (k .before .before .before .before .before .rows-of2 .ensures) ∙ ap namedAs (k .before .before .before .target .given .1)) in (
+      c .put-answer .ensures ∙ ap five (k .convert .ensures .answers) ∙ ap (λ (f : Faced). f .numbers) (sym e),
+      k .convert .ensures .leaves ∙ ap (λ (f : Faced). f .buffer) (sym e),
+    )
+
+pub sailmortar-convert-spec : {M : Type 1} → statement M
+sailmortar-convert-spec =
+    tie.close
+    (tie.spec
+    rows-of-requires
+    enum-known-source
+    enum-told
+    returns
+    rows-of-requires-2
+    enum-known-target
+    enum-told-2
+    returns-2
+    convert-requires
+    put-answer-requires
+    same-length
+    returns-3)
