@@ -1,6 +1,6 @@
 -- A cell that was read can be written: it fits its column, so it has no more elements than the bound. A form is as long as its size.
 use Prim.Native.Nat.{ℕ}
-use Rattle.binary.proofs.Sizes.{fits-count}
+use Rattle.binary_writing.proofs.Sizes.{fits-count}
 use Rattle.binary_vectors.specs.Held.{Writable}
 use Rattle.table.specs.Cell.{Cell, Fits}
 use Rattle.table.specs.Contracts.{FoundWithin, formBytes, foundAs, sizeOf}

@@ -1,7 +1,7 @@
 // The edge cases of a binary cell and of a row's flags, run. First cells of 4095, 4096 and 4097 elements; then the cases in `stdin`, a line
 // each: a name of twenty letters, then the kind, the shape of the length, its n, the declared null and the input. For a cell a line says what
 // BINARY2 reads and how that is written; then again with the input one byte short, flagged, and as BINARY reads it.
-use binary::Flags;
+use flags::Flags;
 use table::Column;
 use table::Found;
 use table::Kind;
@@ -37,12 +37,12 @@ fn put_bytes(out: &[u8], n: usize) {
 fn put_binary2(column: Column, null: bool, count: usize, scratch: &[i64])
     requires { ⌜ (bound (column .len) ≤ 4096) × (count ≤ bound (column .len)) × (count ≤ length (now scratch)) ⌝ }
 {
-    let size = binary::size_binary2(column, null, count, scratch);
+    let size = binary_writing::size_binary2(column, null, count, scratch);
     io::write_all(1, b" BINARY2");
     put_number(size as u64);
     if size <= 64 {
         let mut out = [0u8; 64];
-        let end = binary::write_binary2(column, null, count, scratch, &mut out, 0);
+        let end = binary_writing::write_binary2(column, null, count, scratch, &mut out, 0);
         put_bytes(&out, end);
     }
 }
@@ -51,13 +51,13 @@ fn put_binary(column: Column, null: bool, count: usize, scratch: &[i64])
     requires { ⌜ (bound (column .len) ≤ 4096) × (count ≤ bound (column .len)) × (count ≤ length (now scratch)) ⌝ }
 {
     io::write_all(1, b" BINARY");
-    let size = binary::size_binary(column, null, count, scratch);
+    let size = binary_writing::size_binary(column, null, count, scratch);
     match size {
         Size::Bytes(n) => {
             put_number(n as u64);
             if n <= 64 {
                 let mut out = [0u8; 64];
-                let end = binary::write_binary(column, null, count, scratch, &mut out, 0);
+                let end = binary_writing::write_binary(column, null, count, scratch, &mut out, 0);
                 put_bytes(&out, end);
             }
         }
@@ -98,14 +98,14 @@ fn in_binary2(column: Column, flagged: bool, s: &[u8], scratch: &mut [i64]) -> F
     requires { ⌜ (bound (column .len) ≤ 4096) × (4096 ≤ length (now scratch)) ⌝ }
     ensures { λ r. ⌜ Writable column (now (scratch .exit)) r × (length (now (scratch .exit)) ≡ length (now (scratch .entry))) ⌝ }
 {
-    binary::read_binary2(s, 0, column, flagged, scratch)
+    binary_reading::read_binary2(s, 0, column, flagged, scratch)
 }
 
 fn in_binary(column: Column, s: &[u8], scratch: &mut [i64]) -> Found
     requires { ⌜ (bound (column .len) ≤ 4096) × (4096 ≤ length (now scratch)) ⌝ }
     ensures { λ r. ⌜ Writable column (now (scratch .exit)) r × (length (now (scratch .exit)) ≡ length (now (scratch .entry))) ⌝ }
 {
-    binary::read_binary(s, 0, column, scratch)
+    binary_reading::read_binary(s, 0, column, scratch)
 }
 
 fn cell(column: Column, flagged: bool, s: &[u8], scratch: &mut [i64])
@@ -141,13 +141,13 @@ fn again(flags: u64, columns: usize) -> u64
     let mut made: u64 = 0;
     let mut k: usize = 0;
     while k < columns {
-        let null = binary::is_flagged(flags, columns, k);
+        let null = flags::is_flagged(flags, columns, k);
         if null {
             io::write_all(1, b"1");
         } else {
             io::write_all(1, b"0");
         }
-        made = binary::add_flag(made, k, null);
+        made = flags::add_flag(made, k, null);
         k += 1;
     }
     made
@@ -156,7 +156,7 @@ fn again(flags: u64, columns: usize) -> u64
 fn put_flags(s: &[u8], columns: usize)
     requires { ⌜ columns ≤ 64 ⌝ }
 {
-    let read = binary::read_flags(s, 0, columns);
+    let read = flags::read_flags(s, 0, columns);
     match read {
         Flags::Spoiled(n) => {
             io::write_all(1, b" refused");
@@ -168,7 +168,7 @@ fn put_flags(s: &[u8], columns: usize)
             io::write_all(1, b" ");
             let made = again(flags, columns);
             let mut out = [0u8; 8];
-            let end = binary::write_flags(made, columns, &mut out, 0);
+            let end = flags::write_flags(made, columns, &mut out, 0);
             put_bytes(&out, end);
         }
     }

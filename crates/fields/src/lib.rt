@@ -15,12 +15,12 @@ ghost use Rattle.fields.specs.Fields.{beforeStar, boundedLen, declare, f
 ghost use Rattle.fields.specs.Contracts.{answered, holding};
 ghost use Rattle.fields.specs.Readers.{AttributesIs, BodyIs, ElementIn, FoundIs, PlaceIs, QuotedIs, RunEnd, ValueIn, againIf, assembled, assigned, closed, elementOf, fieldEnd, fixedLen, heldBy, inClass, isQuote, judged, kindRead, lenRead, lengthRead, noteOf, nullOfScalar, nullRead, starts, valueOf, valuesBehind};
 use number::Integer;
-use number::Reading;
 use table::Column;
 use table::Columns;
 use table::Kind;
 use table::Len;
 use table::Null;
+use words::Reading;
 
 // Bytes that stand together: white space, a name, what a quote holds, a word.
 enum Class {
@@ -544,7 +544,7 @@ fn is_scalar(len: Len) -> bool
 fn null_word(word: &[u8], kind: Integer) -> NullRead
     ensures { λ r. ⌜ nullValue (isSigned kind) (widthOf kind) (now (word .entry) ∷ []) ≡ nullRead r ⌝ }
 {
-    match number::read_word(word, kind) {
+    match words::read_word(word, kind) {
         Reading::Value(z) => NullRead::Counts(Null::Declared(z)),
         Reading::Outside => NullRead::NoValue,
         Reading::Unwritten => NullRead::NoValue,

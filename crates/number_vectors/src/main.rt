@@ -2,9 +2,9 @@
 // front, with the place after; an integer's has the bytes that it became, the place after them, and what they read as. What is not written holds.
 use libc::STDOUT_FILENO;
 use number::Integer;
-use number::Quick;
-use number::Reading;
-use number::Word;
+use words::Quick;
+use words::Reading;
+use words::Word;
 
 fn say(text: &[u8]) {
     io::write_all(STDOUT_FILENO, text);
@@ -52,20 +52,20 @@ fn quickly(text: &[u8]) {
         return;
     }
     say(b" |");
-    say_quick(number::quick_integer(text, 0, Integer::UnsignedByte));
-    say_quick(number::quick_integer(text, 0, Integer::Short));
-    say_quick(number::quick_integer(text, 0, Integer::Int));
-    say_quick(number::quick_integer(text, 0, Integer::Long));
+    say_quick(words::quick_integer(text, 0, Integer::UnsignedByte));
+    say_quick(words::quick_integer(text, 0, Integer::Short));
+    say_quick(words::quick_integer(text, 0, Integer::Int));
+    say_quick(words::quick_integer(text, 0, Integer::Long));
 }
 
 fn word(text: &[u8]) {
     say(b"`");
     say(text);
     say(b"`");
-    say_reading(number::read_word(text, Integer::UnsignedByte));
-    say_reading(number::read_word(text, Integer::Short));
-    say_reading(number::read_word(text, Integer::Int));
-    say_reading(number::read_word(text, Integer::Long));
+    say_reading(words::read_word(text, Integer::UnsignedByte));
+    say_reading(words::read_word(text, Integer::Short));
+    say_reading(words::read_word(text, Integer::Int));
+    say_reading(words::read_word(text, Integer::Long));
     quickly(text);
     say(b"\n");
 }

@@ -9,9 +9,9 @@ use lib.IntN.{ℤ}
 use lib.ListN.{drop, drop-of-length-le, getD, length, length-append, take}
 use lib.Seq.{sets}
 use Rattle.binary.proofs.Laws.{binary2-fits}
-use Rattle.binary.proofs.Sizes.{fits-count}
+use Rattle.binary_writing.proofs.Sizes.{fits-count}
 use Rattle.binary.specs.Binary.{readBinary}
-use Rattle.binary.specs.Contracts.{flagBit}
+use Rattle.flags.specs.Contracts.{flagBit}
 use Rattle.number.specs.Number.{toDigits}
 use Rattle.rows.proofs.Laws.{write-cell-fails}
 use Rattle.rows.specs.Contracts.{Grown, GrownBy, Rewritten, Says, cellBytes, cellForm, join, restOf}

@@ -6,7 +6,7 @@ use mathlib.Core.Path.{_∙_, _≡_, ap}
 use lib.Dec.{eqb, lit≤}
 use lib.IntN.{negsuc, pos, ℤ}
 use lib.ListN.{length, length-append, length-map}
-use Rattle.binary.proofs.Sizes.{Few, binary-size, binary2-size}
+use Rattle.binary_writing.proofs.Sizes.{Few, binary-size, binary2-size}
 use Rattle.binary.specs.Binary.{writeBinary, writeBinary2}
 use Rattle.number.proofs.Decimal.{shortest-most}
 use Rattle.number.specs.Number.{shortest}
@@ -21,7 +21,7 @@ use Rattle.table.specs.Shape.{Bits, Shape, Text, Truths, Whole, shape}
 use Rattle.table.specs.declared.Column.{Column}
 use Rattle.table.specs.declared.Rows.{Rows}
 use Rattle.table.specs.declared.Rows.the-variants.{Binary, Binary2, TableData}
-use Rattle.tabledata.proofs.Writing.{truth-long}
+use Rattle.tabledata_writing.proofs.Writing.{truth-long}
 use Rattle.tabledata.specs.TableData.{bitText, close-TD, elementBytes, elementText, escaped, formOf, forms, isText, open-TD, spaced, tagged, truthText, writeText}
 
 -- ---- TABLEDATA

@@ -9,10 +9,10 @@ use lib.Dec.{eqb, lit<}
 use lib.ListN.{drop, getD, length}
 use borrow.Author.Tests.{eq-eqb, eqb-false, eqb-true, ne-eqb}
 use Rattle.binary.proofs.Laws.{length-pack}
-use Rattle.binary.proofs.Sizes.{Few}
+use Rattle.binary_writing.proofs.Sizes.{Few}
 use Rattle.binary.specs.Binary.{bitBytes, front, unpack}
-use Rattle.binary.specs.Contracts.{FlagsWithin, ReadsFlags, flagsAs, readFlags}
-use Rattle.binary.specs.declared.Flags.{Flags}
+use Rattle.flags.specs.Contracts.{FlagsWithin, ReadsFlags, flagsAs, readFlags}
+use Rattle.flags.specs.declared.Flags.{Flags}
 use Rattle.number.proofs.Laws.{all-to, length-to}
 use Rattle.number.specs.Number.{toDigits}
 use Rattle.rows.proofs.Sizes.{cell-small}
@@ -31,9 +31,9 @@ use Rattle.table.specs.declared.Rows.{Rows}
 use Rattle.table.specs.declared.Rows.the-variants.{Binary, Binary2, TableData}
 use Rattle.table.specs.declared.Size.{Size}
 use Rattle.table.specs.declared.Size.the-variants.{Bytes, NoForm}
-use Rattle.tabledata.specs.Contracts.{TagIs, TagWithin, tagAs}
+use Rattle.tabledata_reading.specs.Tags.{TagIs, TagWithin, tagAs}
 use Rattle.tabledata.specs.TableData.{close-TR, open-TR}
-use Rattle.tabledata.specs.declared.Tag.{Tag}
+use Rattle.tabledata_reading.specs.declared.Tag.{Tag}
 
 -- ---- the end of the input
 

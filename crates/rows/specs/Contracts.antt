@@ -9,7 +9,7 @@ use lib.IntN.{negsuc, pos, ℤ}
 use lib.ListN.{drop, length, take}
 use lib.Seq.{sets}
 use Rattle.binary.specs.Binary.{pack, writeBinary, writeBinary2}
-use Rattle.binary.specs.Contracts.{flagBit}
+use Rattle.flags.specs.Contracts.{flagBit}
 use Rattle.fields.specs.Contracts.{listed}
 use Rattle.number.specs.Number.{toDigits}
 use Rattle.rows.specs.Stream.{bit, flag, flagsLeft, isOne, readCell, readEnd, readStart, writeCell, writeEnd}

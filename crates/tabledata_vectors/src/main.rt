@@ -9,7 +9,7 @@ use table::Kind;
 use table::Len;
 use table::Null;
 use table::Size;
-use tabledata::Tag;
+use tabledata_reading::Tag;
 ghost use Prim.Native.Nat.{_+_, _≤_};
 ghost use mathlib.Core.Path.{_≡_};
 ghost use lib.ListN.{length};
@@ -48,7 +48,7 @@ fn written(column: Column, null: bool, count: usize, scratch: &[i64], size: usiz
         return;
     }
     let mut out = [10u8; 129];
-    let end = tabledata::write_text(column, null, count, scratch, &mut out, 0);
+    let end = tabledata_writing::write_text(column, null, count, scratch, &mut out, 0);
     if end < 129 {
         say(&out[..end + 1]);
     }
@@ -58,7 +58,7 @@ fn written(column: Column, null: bool, count: usize, scratch: &[i64], size: usiz
 fn form(column: Column, null: bool, count: usize, scratch: &[i64])
     requires { ⌜ (count ≤ 4096) × (length (now scratch) ≡ 4096) ⌝ }
 {
-    match tabledata::size_text(column, null, count, scratch) {
+    match tabledata_writing::size_text(column, null, count, scratch) {
         Size::Bytes(n) => {
             say(b" in ");
             number_of(n as u64);
@@ -78,7 +78,7 @@ fn cell(text: &[u8], column: Column, scratch: &mut [i64])
     requires { ⌜ (length (now scratch) ≡ 4096) × (bound (column .len) ≤ 4096) ⌝ }
     ensures { λ _. ⌜ length (now (scratch .exit)) ≡ length (now (scratch .entry)) ⌝ }
 {
-    match tabledata::read_text(text, 0, column, scratch) {
+    match tabledata_reading::read_text(text, 0, column, scratch) {
         Found::Refused(n) => {
             say(b" refused ");
             number_of(n);
@@ -101,7 +101,7 @@ fn elements(text: &[u8], kind: Kind, scratch: &mut [i64])
     requires { ⌜ length (now scratch) ≡ 4096 ⌝ }
     ensures { λ _. ⌜ length (now (scratch .exit)) ≡ length (now (scratch .entry)) ⌝ }
 {
-    match tabledata::read_text(text, 0, free(Kind::Long), scratch) {
+    match tabledata_reading::read_text(text, 0, free(Kind::Long), scratch) {
         Found::Refused(_) => say(b" no list\n"),
         Found::Null(_) => form(free(kind), false, 0, scratch),
         Found::Shown(count, _) => form(free(kind), false, count, scratch),
@@ -186,14 +186,14 @@ fn row(text: &[u8], scratch: &mut [i64])
     requires { ⌜ length (now scratch) ≡ 4096 ⌝ }
     ensures { λ _. ⌜ length (now (scratch .exit)) ≡ length (now (scratch .entry)) ⌝ }
 {
-    let Tag::At(first) = tabledata::row_begins(text, 0) else {
+    let Tag::At(first) = tabledata_reading::row_begins(text, 0) else {
         answer(text.len(), 10, 0);
         return;
     };
     let mut at = first;
     let mut column = 0;
     while column < 3 {
-        match tabledata::read_text(text, at, row_column(column), scratch) {
+        match tabledata_reading::read_text(text, at, row_column(column), scratch) {
             Found::Refused(n) => {
                 answer(text.len(), n, column);
                 return;
@@ -208,11 +208,11 @@ fn row(text: &[u8], scratch: &mut [i64])
             }
         }
     }
-    let Tag::At(next) = tabledata::row_ends(text, at) else {
+    let Tag::At(next) = tabledata_reading::row_ends(text, at) else {
         answer(text.len(), 10, 3);
         return;
     };
-    answer(tabledata::skip_white(text, next), 0, 3);
+    answer(tabledata_reading::skip_white(text, next), 0, 3);
 }
 
 fn prefixes(text: &[u8], scratch: &mut [i64])
@@ -284,9 +284,9 @@ fn records(text: &[u8], scratch: &mut [i64])
 // A row that has no cells, as it is written.
 fn written_row() {
     let mut out = [32u8; 16];
-    let next = tabledata::write_row_start(&mut out, 0);
+    let next = tabledata_writing::write_row_start(&mut out, 0);
     if next <= 10 {
-        let end = tabledata::write_row_end(&mut out, next);
+        let end = tabledata_writing::write_row_end(&mut out, next);
         if end <= 16 {
             say(&out[..end]);
         }

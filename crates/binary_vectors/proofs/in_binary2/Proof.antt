@@ -1,5 +1,5 @@
 -- `binary_vectors::in_binary2` meets its contract: what is read fits its column.
-use Rattle.binary.proofs.FlagLaws.{are-bytes}
+use Rattle.flags.proofs.FlagLaws.{are-bytes}
 use Rattle.binary.proofs.Laws.{read2-fits}
 use Rattle.binary_vectors.proofs.Reading.{writable}
 use borrow.Author.Needs.{needs}

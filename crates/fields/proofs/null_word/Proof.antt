@@ -1,6 +1,6 @@
 -- A null value of one word: what the word reads as.
 use Rattle.fields.specs.Fields.{nullValue}
-use Rattle.number.specs.Contracts.{readingOf}
+use Rattle.words.specs.Contracts.{readingOf}
 use Rattle.table.specs.Result.{good}
 use Rattle.table.specs.declared.Null.the-variants.{Declared}
 use borrow.Author.Needs.{needs}

@@ -1,5 +1,5 @@
 -- `number_vectors::bytes` is safe: no kind is over 8 bytes.
-use Rattle.number.proofs.WordLaws.{size-le}
+use Rattle.number.proofs.Laws.{size-le}
 use native.Mathlib.Omega.{arith}
 use borrow.Author.Needs.{needs}
 use Rattle.number_vectors.proofs.bytes.Statement.{statement}

@@ -6,8 +6,8 @@ use Rattle.rows.proofs.begin_row.Statement.{statement}
 use Rattle.rows.proofs.begin_row.Tie as tie
 use Rattle.rows.proofs.begin_row.Reads as reads
 use Rattle.rows.proofs.begin_row.Lts as lts
-use Rattle.binary.proofs.read_flags.Reads as read-flags-reads
-use Rattle.tabledata.proofs.row_begins.Reads as row-begins-reads
+use Rattle.flags.proofs.read_flags.Reads as read-flags-reads
+use Rattle.tabledata_reading.proofs.row_begins.Reads as row-begins-reads
 
 enum-told : tie.Need-enum-told
 enum-told c = search needs

@@ -7,7 +7,7 @@ use Rattle.rows.proofs.flag_of.Statement.{statement}
 use Rattle.rows.proofs.flag_of.Tie as tie
 use Rattle.rows.proofs.flag_of.Reads as reads
 use Rattle.rows.proofs.flag_of.Lts as lts
-use Rattle.binary.proofs.is_flagged.Reads as is-flagged-reads
+use Rattle.flags.proofs.is_flagged.Reads as is-flagged-reads
 
 enum-told : tie.Need-enum-told
 enum-told c = search needs

@@ -10,7 +10,7 @@ use Rattle.table.specs.Result.{good}
 use Rattle.table.specs.Contracts.{held, sizeAs, sizeOf}
 use Rattle.rows.specs.Contracts.{SizeWithin}
 use Rattle.rows.specs.Stream.{writeCell}
-use Rattle.binary.proofs.Sizes.{held-few}
+use Rattle.binary_writing.proofs.Sizes.{held-few}
 use Rattle.rows.proofs.Ways.{sized}
 use native.Mathlib.Omega.{arith}
 use borrow.Author.Needs.{needs}
@@ -18,9 +18,9 @@ use Rattle.rows.proofs.size_cell.Statement.{statement}
 use Rattle.rows.proofs.size_cell.Tie as tie
 use Rattle.rows.proofs.size_cell.Reads as reads
 use Rattle.rows.proofs.size_cell.Lts as lts
-use Rattle.binary.proofs.size_binary.Reads as size-binary-reads
-use Rattle.binary.proofs.size_binary2.Reads as size-binary2-reads
-use Rattle.tabledata.proofs.size_text.Reads as size-text-reads
+use Rattle.binary_writing.proofs.size_binary.Reads as size-binary-reads
+use Rattle.binary_writing.proofs.size_binary2.Reads as size-binary2-reads
+use Rattle.tabledata_writing.proofs.size_text.Reads as size-text-reads
 
 enum-told : tie.Need-enum-told
 enum-told c = search needs

@@ -11,9 +11,9 @@ use Rattle.rows.proofs.write_cell.Statement.{statement}
 use Rattle.rows.proofs.write_cell.Tie as tie
 use Rattle.rows.proofs.write_cell.Reads as reads
 use Rattle.rows.proofs.write_cell.Lts as lts
-use Rattle.binary.proofs.write_binary.Reads as write-binary-reads
-use Rattle.binary.proofs.write_binary2.Reads as write-binary2-reads
-use Rattle.tabledata.proofs.write_text.Reads as write-text-reads
+use Rattle.binary_writing.proofs.write_binary.Reads as write-binary-reads
+use Rattle.binary_writing.proofs.write_binary2.Reads as write-binary2-reads
+use Rattle.tabledata_writing.proofs.write_text.Reads as write-text-reads
 
 enum-told : tie.Need-enum-told
 enum-told c = search needs

@@ -4,14 +4,14 @@ use lib.ListN.{length}
 use Rattle.table.specs.declared.Rows.{Rows}
 use Rattle.rows.specs.Stream.{writeEnd}
 use Rattle.tabledata.specs.TableData.{close-TR}
-use Rattle.tabledata.proofs.Writing.{wrote-none}
+use Rattle.tabledata_writing.proofs.Writing.{wrote-none}
 use native.Mathlib.Omega.{arith}
 use borrow.Author.Needs.{needs}
 use Rattle.rows.proofs.write_end.Statement.{statement}
 use Rattle.rows.proofs.write_end.Tie as tie
 use Rattle.rows.proofs.write_end.Reads as reads
 use Rattle.rows.proofs.write_end.Lts as lts
-use Rattle.tabledata.proofs.write_row_end.Reads as write-row-end-reads
+use Rattle.tabledata_writing.proofs.write_row_end.Reads as write-row-end-reads
 
 enum-told : tie.Need-enum-told
 enum-told c = search needs

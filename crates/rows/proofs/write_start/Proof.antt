@@ -6,15 +6,15 @@ use Rattle.binary.specs.Binary.{bitBytes}
 use Rattle.rows.specs.Contracts.{startBytes}
 use Rattle.tabledata.specs.TableData.{open-TR}
 use Rattle.rows.proofs.Ways.{start-length-binary2}
-use Rattle.tabledata.proofs.Writing.{wrote-none}
+use Rattle.tabledata_writing.proofs.Writing.{wrote-none}
 use native.Mathlib.Omega.{arith}
 use borrow.Author.Needs.{needs}
 use Rattle.rows.proofs.write_start.Statement.{statement}
 use Rattle.rows.proofs.write_start.Tie as tie
 use Rattle.rows.proofs.write_start.Reads as reads
 use Rattle.rows.proofs.write_start.Lts as lts
-use Rattle.binary.proofs.write_flags.Reads as write-flags-reads
-use Rattle.tabledata.proofs.write_row_start.Reads as write-row-start-reads
+use Rattle.flags.proofs.write_flags.Reads as write-flags-reads
+use Rattle.tabledata_writing.proofs.write_row_start.Reads as write-row-start-reads
 
 enum-told : tie.Need-enum-told
 enum-told c = search needs

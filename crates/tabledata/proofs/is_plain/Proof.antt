@@ -2,7 +2,7 @@
 use native.Mathlib.Omega.{arith}
 use mathlib.Core.Logic.{inl, inr, ⊎-elim}
 use mathlib.Core.Path.{ap, sym}
-use Rattle.tabledata.proofs.Machine.{plain-high, plain-low, plain-yes}
+use Rattle.tabledata.proofs.Characters.{plain-high, plain-low, plain-yes}
 use Rattle.tabledata.specs.Contracts.{isPlain}
 use Rattle.tabledata.proofs.is_plain.Statement.{statement}
 use Rattle.tabledata.proofs.is_plain.Tie as tie

@@ -1,7 +1,7 @@
 -- `tabledata::is_text` meets its contract: 9 and 10, 32 to 127 are ranges of `match`, 13 a key.
 use native.Mathlib.Omega.{arith}
 use mathlib.Core.Path.{ap, sym}
-use Rattle.tabledata.proofs.Scan.{text-low, text-not, text-yes}
+use Rattle.tabledata.proofs.Characters.{text-low, text-not, text-yes}
 use Rattle.tabledata.specs.TableData.{isText}
 use Rattle.tabledata.proofs.is_text.Statement.{statement}
 use Rattle.tabledata.proofs.is_text.Tie as tie

@@ -8,7 +8,7 @@ use Rattle.rows.proofs.Reading.grown.Statement.{statement}
 use Rattle.rows.proofs.Reading.grown.Tie as tie
 use Rattle.rows.proofs.Reading.grown.Reads as reads
 use Rattle.rows.proofs.Reading.grown.Lts as lts
-use Rattle.binary.proofs.add_flag.Reads as add-flag-reads
+use Rattle.flags.proofs.add_flag.Reads as add-flag-reads
 
 add-flag-requires : tie.Need-add-flag-requires
 add-flag-requires c κs = c .pre .1

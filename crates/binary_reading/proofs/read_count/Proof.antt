@@ -1,0 +1,48 @@
+-- `binary::read_count` meets its contract: in each arm the length is known.
+use Rattle.binary.specs.Binary.{countIn}
+use Rattle.table.specs.Cell.{bound}
+use borrow.Author.Needs.{needs}
+use mathlib.Core.Path.{refl}
+use native.Mathlib.Nat.{le-refl}
+use Rattle.binary_reading.proofs.read_count.Statement.{statement}
+use Rattle.binary_reading.proofs.read_count.Tie as tie
+
+enum-known-len : tie.Need-enum-known-len
+enum-known-len c = search needs
+
+enum-known-len-2 : tie.Need-enum-known-len-2
+enum-known-len-2 c = search needs
+
+count-up-to-requires : tie.Need-count-up-to-requires
+count-up-to-requires c κs = search needs
+
+enum-told : tie.Need-enum-told
+enum-told c = search needs
+
+count-up-to-requires-2 : tie.Need-count-up-to-requires-2
+count-up-to-requires-2 c κs = search needs
+
+returns : tie.Need-returns
+unfolding countIn bound
+returns c = rw (c .before .len .given .1) (record { found = refl; within = (le-refl _, c .before .before .before .before .pre, le-refl _) })
+
+returns-2 : tie.Need-returns-2
+unfolding countIn bound
+returns-2 c = rw (c .before .before .len2 .given .1) (c .count-up-to .ensures)
+
+returns-3 : tie.Need-returns-3
+unfolding countIn bound
+returns-3 c = rw (c .before .enum-told .given .1) (c .count-up-to2 .ensures)
+
+pub read-count-spec : {M : Type 1} → statement M
+read-count-spec =
+    tie.close
+    (tie.spec
+    enum-known-len
+    enum-known-len-2
+    count-up-to-requires
+    enum-told
+    count-up-to-requires-2
+    returns
+    returns-2
+    returns-3)

@@ -1,0 +1,67 @@
+-- `binary_writing::elements_size` meets its contract: in each arm the length is known, and a count takes four bytes.
+use Prim.Native.Nat.{_+_, ℕ}
+use Rattle.binary_writing.proofs.Sizes.{elements-bounded, elements-fixed, elements-free, filled-char, filled-other}
+use borrow.Author.Needs.{needs}
+use mathlib.Core.Path.{_∙_, ap, sym}
+use native.Mathlib.Omega.{arith}
+use Rattle.binary_writing.proofs.elements_size.Statement.{statement}
+use Rattle.binary_writing.proofs.elements_size.Tie as tie
+
+enum-known-len : tie.Need-enum-known-len
+enum-known-len c = search needs
+
+is-char-requires : tie.Need-is-char-requires
+is-char-requires c κs = search needs
+
+content-bytes-requires : tie.Need-content-bytes-requires
+content-bytes-requires c κs = omega arith
+
+enum-told : tie.Need-enum-told
+enum-told c = search needs
+
+content-bytes-requires-2 : tie.Need-content-bytes-requires-2
+content-bytes-requires-2 c κs = omega arith
+
+add-result : tie.Need-add-result
+add-result c = search needs
+
+enum-told-2 : tie.Need-enum-told-2
+enum-told-2 c = search needs
+
+content-bytes-requires-3 : tie.Need-content-bytes-requires-3
+content-bytes-requires-3 c κs = omega arith
+
+add-result-2 : tie.Need-add-result-2
+add-result-2 c = search needs
+
+returns : tie.Need-returns
+returns c = sym (elements-fixed _ _ _ (c .before .before .before .len .given .1) ∙ filled-char _ _ _ (sym (c .before .is-char .ensures) ∙ c .if1 .taken))
+
+returns-2 : tie.Need-returns-2
+returns-2 c =
+    c .content-bytes .ensures .0
+    ∙ sym (elements-fixed _ _ _ (c .before .before .before .before .len .given .1) ∙ filled-other _ _ _ (sym (c .before .before .is-char .ensures) ∙ c .before .if1 .left))
+
+returns-3 : tie.Need-returns-3
+returns-3 c = ap (λ (k : ℕ). 4 + k) (c .content-bytes2 .ensures .0) ∙ sym (elements-bounded _ _ _ (c .before .enum-told .given .1))
+
+returns-4 : tie.Need-returns-4
+returns-4 c = ap (λ (k : ℕ). 4 + k) (c .content-bytes3 .ensures .0) ∙ sym (elements-free _ _ (c .before .enum-told2 .given .1))
+
+pub elements-size-spec : {M : Type 1} → statement M
+elements-size-spec =
+    tie.close
+    (tie.spec
+    enum-known-len
+    is-char-requires
+    content-bytes-requires
+    enum-told
+    content-bytes-requires-2
+    add-result
+    enum-told-2
+    content-bytes-requires-3
+    add-result-2
+    returns
+    returns-2
+    returns-3
+    returns-4)

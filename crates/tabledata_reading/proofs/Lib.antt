@@ -1,0 +1,5 @@
+mod Scan
+mod Machine
+mod Words
+mod OneWord
+mod WholeWords

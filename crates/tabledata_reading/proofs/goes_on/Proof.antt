@@ -1,0 +1,74 @@
+-- `tabledata::goes_on` meets its contract. The invariant: the text from here on goes on with the rest of the word.
+use Prim.Native.Nat.{_+_, _-_, _≤_, ℕ}
+use native.Mathlib.Omega.{arith}
+use mathlib.Core.Path.{_∙_, _≡_, ap}
+use lib.ListN.{drop, length}
+use borrow.Author.Needs.{needs}
+use denote.Ref.{now}
+use Rattle.table.specs.Bytes.{after}
+use Rattle.tabledata_reading.proofs.Scan.{after-all, after-end, after-more, after-no}
+use Rattle.tabledata_reading.proofs.goes_on.Statement.{statement}
+use Rattle.tabledata_reading.proofs.goes_on.Tie as tie
+
+abbrev Inv-loop : tie.InvT-loop
+Inv-loop s at word k₀ k = (k ≤ length word) × (at + k ≤ length s) × (after 10 word (drop at s) ≡ after 10 (drop k word) (drop (at + k) s))
+
+abbrev μ-loop : tie.MeasureT-loop
+μ-loop s at word k₀ k = length word - k
+
+loop-holds : tie.Need-loop-holds Inv-loop μ-loop
+loop-holds c = let e : (c) .args .at ≡ (c) .args .at + 0 = omega arith in (search needs, omega arith, ap (λ (n : ℕ). after 10 (now ((c) .args .word)) (drop n (now ((c) .args .s)))) e)
+
+sub-if1 : tie.Need-sub-if1 Inv-loop μ-loop
+sub-if1 c = search needs
+
+returns : tie.Need-returns Inv-loop μ-loop
+returns c = record { found = (c .before .before .loop) .inv .2 ∙ after-end (now ((c .before .before .before) .args .word)) (now ((c .before .before .before) .args .s)) ((c .before .before .loop) .k) (((c .before .before .before) .args .at) + ((c .before .before .loop) .k)) ((c .before .loop-test) .taken) (omega arith); within = tt }
+
+shared-slice-read-if2 : tie.Need-shared-slice-read-if2 Inv-loop μ-loop
+shared-slice-read-if2 c = search needs
+
+add-if2 : tie.Need-add-if2 Inv-loop μ-loop
+add-if2 c = search needs
+
+shared-slice-read-if2-2 : tie.Need-shared-slice-read-if2-2 Inv-loop μ-loop
+shared-slice-read-if2-2 c = search needs
+
+returns-2 : tie.Need-returns-2 Inv-loop μ-loop
+returns-2 c = record { found = (c .before .before .before .before .before .loop) .inv .2 ∙ after-no (now ((c .before .before .before .before .before .before) .args .word)) (now ((c .before .before .before .before .before .before) .args .s)) ((c .before .before .before .before .before .loop) .k) (((c .before .before .before .before .before .before) .args .at) + ((c .before .before .before .before .before .loop) .k)) ((c .before .before .before .before .loop-test) .taken) (omega arith) ((c .if2) .taken); within = tt }
+
+add-k : tie.Need-add-k Inv-loop μ-loop
+add-k c = search needs
+
+loop-less : tie.Need-loop-less Inv-loop μ-loop
+loop-less c = search needs
+
+loop-again : tie.Need-loop-again Inv-loop μ-loop
+loop-again c =
+    let e : ((c .before .before .before .before .before .before) .args .at) + ((c .before .before .before .before .before .loop) .k) + 1 ≡ ((c .before .before .before .before .before .before) .args .at) + (((c .before .before .before .before .before .loop) .k) + 1) = omega arith in
+    (search needs, omega arith, (c .before .before .before .before .before .loop) .inv .2 ∙ after-more (now ((c .before .before .before .before .before .before) .args .word)) (now ((c .before .before .before .before .before .before) .args .s)) ((c .before .before .before .before .before .loop) .k) (((c .before .before .before .before .before .before) .args .at) + ((c .before .before .before .before .before .loop) .k)) ((c .before .before .before .before .loop-test) .taken) (omega arith) ((c .if2) .left) ∙ ap (λ (n : ℕ). after 10 (drop (((c .before .before .before .before .before .loop) .k) + 1) (now ((c .before .before .before .before .before .before) .args .word))) (drop n (now ((c .before .before .before .before .before .before) .args .s)))) e)
+
+add-t12 : tie.Need-add-t12 Inv-loop μ-loop
+add-t12 c = search needs
+
+returns-3 : tie.Need-returns-3 Inv-loop μ-loop
+returns-3 c = record { found = (c .before .loop) .inv .2 ∙ after-all (now ((c .before .before) .args .word)) (now ((c .before .before) .args .s)) ((c .before .loop) .k) (((c .before .before) .args .at) + ((c .before .loop) .k)) ((c .loop-test) .left); within = (omega arith, (c .before .loop) .inv .1) }
+
+pub goes-on-spec : {M : Type 1} → statement M
+goes-on-spec =
+    tie.close
+    (tie.spec
+    Inv-loop
+    μ-loop
+    loop-holds
+    sub-if1
+    returns
+    shared-slice-read-if2
+    add-if2
+    shared-slice-read-if2-2
+    returns-2
+    add-k
+    loop-less
+    loop-again
+    add-t12
+    returns-3)

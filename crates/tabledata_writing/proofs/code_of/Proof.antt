@@ -1,0 +1,26 @@
+-- `tabledata_writing::code_of` meets its contract: a code is not negative.
+use mathlib.Core.Path.{_∙_, ap, sym}
+use lib.Dec.{lit≤}
+use lib.IntN.{natAbs, pos, ℤ}
+use borrow.Author.Needs.{needs}
+use mir.Syntax.{w64}
+use Rattle.number.proofs.Signed.{down, up, up-cast, up-held}
+use Rattle.tabledata_writing.proofs.Writing.{form-negative}
+use Rattle.tabledata.specs.TableData.{formOf}
+use Rattle.tabledata_writing.proofs.code_of.Statement.{statement}
+use Rattle.tabledata_writing.proofs.code_of.Tie as tie
+
+cast-small-code : tie.Need-cast-small-code
+cast-small-code c = up-cast w64 ((c .before) .args .z) ((c .before) .fits .z) ((c .if1) .taken)
+
+small-code-requires : tie.Need-small-code-requires
+small-code-requires c κs = search needs
+
+returns : tie.Need-returns
+returns c = (ap formOf (up w64 ((c .before .before) .args .z) ((c .before .before) .fits .z) ((c .before .if1) .taken)) ∙ ap (λ (y : ℤ). formOf (pos (natAbs y))) (sym (up-held w64 ((c .before .before) .args .z) ((c .before .before) .fits .z) ((c .before .if1) .taken))) ∙ (c .small-code) .ensures .0, (c .small-code) .ensures .1)
+
+returns-2 : tie.Need-returns-2
+returns-2 c = (form-negative ((c .before) .args .z) _ (down w64 ((c .before) .args .z) ((c .before) .fits .z) ((c .if1) .left)), lit≤ tt)
+
+pub code-of-spec : {M : Type 1} → statement M
+code-of-spec = tie.close (tie.spec cast-small-code small-code-requires returns returns-2)

@@ -1,0 +1,94 @@
+-- `tabledata_writing::more_truths` meets its contract. The invariant: what is left of the words, each behind a space, is still to be written here.
+use Prim.Native.Nat.{_+_, _-_, _≤_, ℕ}
+use native.Mathlib.Omega.{arith}
+use mathlib.Core.List.{List, _++_, _∷_}
+use mathlib.Core.Path.{_∙_, _≡_, ap, sym}
+use lib.IntN.{pos}
+use lib.ListN.{drop, getD, length, length-set, take}
+use borrow.Author.Needs.{needs, sfits-of}
+use denote.Ref.{now}
+use mir.Facts.{toZ-ofZ}
+use mir.Syntax.{w64}
+use Rattle.tabledata_writing.proofs.Writing.{Left, left-all, left-none, left-room, left-step, taken-end, taken-more, truth-long, wrote-two}
+use Rattle.tabledata.specs.TableData.{joined, truthText}
+use Rattle.tabledata_writing.proofs.more_truths.Statement.{statement}
+use Rattle.tabledata_writing.proofs.more_truths.Tie as tie
+
+abbrev Inv-loop : tie.InvT-loop
+Inv-loop count scratch out₀ at i₀ k₀ out i k = Left out₀ at (joined (λ z. 32 ∷ truthText z) (drop 1 (take count scratch))) out i (joined (λ z. 32 ∷ truthText z) (drop k (take count scratch)))
+
+abbrev μ-loop : tie.MeasureT-loop
+μ-loop count scratch out₀ at i₀ k₀ out i k = count - k
+
+loop-holds : tie.Need-loop-holds Inv-loop μ-loop
+loop-holds c = left-all (now (c .before .args .out)) (c .before .args .at) _
+
+-- the next word
+more : (c : tie.In-loop Inv-loop μ-loop) → let a = c .before .before .before .args in let k = c .before .loop .k in
+    joined (λ z. 32 ∷ truthText z) (drop k (take (a .count) (now (a .scratch)))) ≡ (32 ∷ truthText (getD (now (a .scratch)) k (pos 0))) ++ joined (λ z. 32 ∷ truthText z) (drop (k + 1) (take (a .count) (now (a .scratch))))
+more c = taken-more (λ z. 32 ∷ truthText z) (now (c .before .before .before .args .scratch)) (c .before .before .before .args .count) (c .before .loop .k) (c .before .before .before .pre .0) (c .loop-test .taken)
+
+room : (c : tie.In-loop Inv-loop μ-loop) → c .before .loop .i + 2 ≤ length (c .before .loop .out)
+room c =
+    let word = truthText (getD (now (c .before .before .before .args .scratch)) (c .before .loop .k) (pos 0)) in
+    omega (arith, left-room (c .before .loop .inv) (32 ∷ word) _ (more c) (c .before .before .before .pre .1), truth-long (getD (now (c .before .before .before .args .scratch)) (c .before .loop .k) (pos 0)))
+
+slice-write-out : tie.Need-slice-write-out Inv-loop μ-loop
+slice-write-out c = omega (arith, room c)
+
+mul-truth-byte : tie.Need-mul-truth-byte Inv-loop μ-loop
+mul-truth-byte c = search needs
+
+shared-slice-copy-out-truth-byte : tie.Need-shared-slice-copy-out-truth-byte Inv-loop μ-loop
+shared-slice-copy-out-truth-byte c = search needs
+
+truth-byte-requires : tie.Need-truth-byte-requires Inv-loop μ-loop
+truth-byte-requires c κs = search needs
+
+add-out : tie.Need-add-out Inv-loop μ-loop
+add-out c = omega (arith, room (c .before .before))
+
+slice-write-out-2 : tie.Need-slice-write-out-2 Inv-loop μ-loop
+slice-write-out-2 c = simp length-set (omega (arith, room (c .before .before)))
+
+add-i : tie.Need-add-i Inv-loop μ-loop
+add-i c = omega (arith, room (c .before .before))
+
+add-k : tie.Need-add-k Inv-loop μ-loop
+add-k c = search needs
+
+loop-less : tie.Need-loop-less Inv-loop μ-loop
+loop-less c = search needs
+
+loop-again : tie.Need-loop-again Inv-loop μ-loop
+loop-again c =
+    let a = c .before .before .before .before .before .args in let l = c .before .before .before .loop in
+    let rest = joined (λ z. 32 ∷ truthText z) (drop (l .k + 1) (take (a .count) (now (a .scratch)))) in
+    let word = sym (ap truthText (toZ-ofZ {w = w64} (sfits-of (c .before .truth-byte-arg .given)))) ∙ c .truth-byte .ensures in
+    left-step (l .inv) (more (c .before .before) ∙ ap (λ (b : List ℕ). 32 ∷ (b ++ rest)) word) (wrote-two (l .out) (l .i) 32 (c .truth-byte .result))
+
+same-length : tie.Need-same-length Inv-loop μ-loop
+same-length c = c .before .loop .inv .same-long
+
+returns : tie.Need-returns Inv-loop μ-loop
+returns c = left-none (c .before .loop .inv) (taken-end _ (now (c .before .before .before .args .scratch)) (c .before .before .before .args .count) (c .before .loop .k) (c .before .before .before .pre .0) (c .loop-test .left))
+
+pub more-truths-spec : {M : Type 1} → statement M
+more-truths-spec =
+    tie.close
+    (tie.spec
+    Inv-loop
+    μ-loop
+    loop-holds
+    slice-write-out
+    mul-truth-byte
+    shared-slice-copy-out-truth-byte
+    truth-byte-requires
+    add-out
+    slice-write-out-2
+    add-i
+    add-k
+    loop-less
+    loop-again
+    same-length
+    returns)

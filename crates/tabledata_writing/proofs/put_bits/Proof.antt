@@ -1,0 +1,87 @@
+-- `tabledata_writing::put_bits` meets its contract. The invariant: what is left of the bits is still to be written here.
+use Prim.Native.Nat.{_+_, _-_, _≤_, ℕ}
+use native.Mathlib.Omega.{arith}
+use mathlib.Core.List.{[], _++_, _∷_}
+use mathlib.Core.Path.{_∙_, _≡_, ap, sym}
+use lib.ListN.{drop, length, take}
+use borrow.Author.Needs.{needs, sfits-of}
+use denote.Ref.{now}
+use mir.Facts.{toZ-ofZ}
+use mir.Syntax.{w64}
+use Rattle.table.specs.Shape.{Bits}
+use Rattle.tabledata_writing.proofs.Writing.{Left, bits-joined, bits-long, left-all, left-none, left-step, taken-end, taken-more, wrote-one}
+use Rattle.tabledata.specs.TableData.{bitText, elementBytes, joined}
+use Rattle.tabledata_writing.proofs.put_bits.Statement.{statement}
+use Rattle.tabledata_writing.proofs.put_bits.Tie as tie
+
+abbrev Inv-loop : tie.InvT-loop
+Inv-loop count scratch out₀ at k₀ out k = (k ≤ count) × Left out₀ at (elementBytes Bits (take count scratch)) out (at + k) (joined (λ z. bitText z ∷ []) (drop k (take count scratch)))
+
+abbrev μ-loop : tie.MeasureT-loop
+μ-loop count scratch out₀ at k₀ out k = count - k
+
+loop-holds : tie.Need-loop-holds Inv-loop μ-loop
+loop-holds c =
+    let a = c .before .args in
+    let e : a .at + 0 ≡ a .at = omega arith in
+    (search needs, rw (e, ← bits-joined) (left-all (now (a .out)) (a .at) (elementBytes Bits (take (a .count) (now (a .scratch))))))
+
+mul-bit-byte : tie.Need-mul-bit-byte Inv-loop μ-loop
+mul-bit-byte c = search needs
+
+shared-slice-copy-out-bit-byte : tie.Need-shared-slice-copy-out-bit-byte Inv-loop μ-loop
+shared-slice-copy-out-bit-byte c = search needs
+
+bit-byte-requires : tie.Need-bit-byte-requires Inv-loop μ-loop
+bit-byte-requires c κs = search needs
+
+room : (c : tie.After-bit-byte Inv-loop μ-loop) → let a = c .before .before .before .before .before .args in a .at + a .count ≤ length (now (a .out))
+room c = let a = c .before .before .before .before .before .args in omega (arith, c .before .before .before .before .before .pre .1, bits-long (now (a .scratch)) (a .count) (c .before .before .before .before .before .pre .0))
+
+add-out : tie.Need-add-out Inv-loop μ-loop
+add-out c = omega (arith, room c)
+
+slice-write-out : tie.Need-slice-write-out Inv-loop μ-loop
+slice-write-out c = omega (arith, room c, c .before .before .before .loop .inv .1 .same-long)
+
+add-k : tie.Need-add-k Inv-loop μ-loop
+add-k c = search needs
+
+loop-less : tie.Need-loop-less Inv-loop μ-loop
+loop-less c = search needs
+
+loop-again : tie.Need-loop-again Inv-loop μ-loop
+loop-again c =
+    let a = c .before .before .before .before .before .args in let l = c .before .before .before .loop in
+    let e : a .at + (l .k + 1) ≡ a .at + l .k + 1 = omega arith in
+    let next = taken-more (λ z. bitText z ∷ []) (now (a .scratch)) (a .count) (l .k) (c .before .before .before .before .before .pre .0) (c .before .before .loop-test .taken)
+    ∙ ap (λ (b : ℕ). (b ∷ []) ++ joined (λ z. bitText z ∷ []) (drop (l .k + 1) (take (a .count) (now (a .scratch))))) (sym (c .bit-byte .ensures ∙ ap bitText (toZ-ofZ {w = w64} (sfits-of (c .before .bit-byte-arg .given))))) in
+    (search needs, rw e (left-step (l .inv .1) next (wrote-one (l .out) (a .at + l .k) (c .bit-byte .result))))
+
+add-result : tie.Need-add-result Inv-loop μ-loop
+add-result c = let a = c .before .before .before .args in omega (arith, c .before .before .before .pre .1, bits-long (now (a .scratch)) (a .count) (c .before .before .before .pre .0), c .before .loop .inv .0)
+
+same-length : tie.Need-same-length Inv-loop μ-loop
+same-length c = c .before .loop .inv .1 .same-long
+
+returns : tie.Need-returns Inv-loop μ-loop
+returns c = left-none (c .before .loop .inv .1) (taken-end _ (now (c .before .before .before .args .scratch)) (c .before .before .before .args .count) (c .before .loop .k) (c .before .before .before .pre .0) (c .loop-test .left))
+
+pub put-bits-spec : {M : Type 1} → statement M
+put-bits-spec =
+    tie.close
+    (tie.spec
+    Inv-loop
+    μ-loop
+    loop-holds
+    mul-bit-byte
+    shared-slice-copy-out-bit-byte
+    bit-byte-requires
+    add-out
+    slice-write-out
+    add-k
+    loop-less
+    loop-again
+    add-result
+    same-length
+    returns)

@@ -1,0 +1,62 @@
+-- `tabledata_writing::put_integers` meets its contract: nothing, or the first word and then each behind a space.
+use Prim.Native.Nat.{_+_, _≤_, ℕ}
+use native.Mathlib.Omega.{arith}
+use mathlib.Core.List.{List, _++_, _∷_, map}
+use mathlib.Core.Path.{_∙_, _≡_, ap, sym}
+use lib.IntN.{pos, ℤ}
+use lib.ListN.{drop, getD, length, length-append, take}
+use borrow.Author.Needs.{needs, sfits-of}
+use denote.Ref.{now}
+use mir.Facts.{toZ-ofZ}
+use mir.Syntax.{w64}
+use Rattle.number.specs.Number.{shortest}
+use Rattle.tabledata_writing.proofs.Writing.{spaced-none, spaced-taken, wrote-as, wrote-long, wrote-none, wrote-then}
+use Rattle.tabledata.specs.TableData.{joined, spaced}
+use Rattle.tabledata_writing.proofs.put_integers.Statement.{statement}
+use Rattle.tabledata_writing.proofs.put_integers.Tie as tie
+
+returns : tie.Need-returns
+returns c =
+    let a = c .before .before .args in
+    wrote-as (sym (spaced-none shortest (now (a .scratch)) (a .count) (c .if1 .taken))) (wrote-none (now (a .out)) (a .at))
+
+shared-slice-copy-out-write-shortest : tie.Need-shared-slice-copy-out-write-shortest
+shared-slice-copy-out-write-shortest c = search needs
+
+-- the first word, and those behind it
+whole : (c : tie.After-write-shortest-arg2) → let a = c .before .before .before .before .args in
+    spaced (map shortest (take (a .count) (now (a .scratch)))) ≡ shortest (getD (now (a .scratch)) 0 (pos 0)) ++ (joined (λ z. 32 ∷ shortest z) (drop 1 (take (a .count) (now (a .scratch)))))
+whole c = let a = c .before .before .before .before .args in spaced-taken shortest (now (a .scratch)) (a .count) (c .before .before .before .before .pre .0) (c .before .before .if1 .left)
+
+long : (c : tie.After-write-shortest-arg2) → let a = c .before .before .before .before .args in
+    a .at + length (shortest (getD (now (a .scratch)) 0 (pos 0))) + length (joined (λ z. 32 ∷ shortest z) (drop 1 (take (a .count) (now (a .scratch))))) ≤ length (now (a .out))
+long c =
+    let a = c .before .before .before .before .args in
+    omega (arith, c .before .before .before .before .pre .1, ap length (whole c), length-append (shortest (getD (now (a .scratch)) 0 (pos 0))) (joined (λ z. 32 ∷ shortest z) (drop 1 (take (a .count) (now (a .scratch))))))
+
+write-shortest-requires : tie.Need-write-shortest-requires
+write-shortest-requires c κs = omega (arith, long c, ap (λ (z : ℤ). length (shortest z)) {y = getD (now (c .before .before .before .before .args .scratch)) 0 (pos 0)} (toZ-ofZ {w = w64} (sfits-of (c .write-shortest-arg2 .given))))
+
+more-integers-requires : tie.Need-more-integers-requires
+more-integers-requires c κs =
+    (c .before .before .before .before .before .before .before .before .pre .0, omega (arith, long (c .before .before .before .before), ap (λ (z : ℤ). length (shortest z)) {y = getD (now (c .before .before .before .before .before .before .before .before .args .scratch)) 0 (pos 0)} (toZ-ofZ {w = w64} (sfits-of (c .before .before .before .before .write-shortest-arg2 .given))), c .before .before .before .write-shortest .ensures .next-is, wrote-long (c .before .before .before .write-shortest .ensures)))
+
+same-length : tie.Need-same-length
+same-length c = wrote-long (c .before .before .more-integers .ensures) ∙ wrote-long (c .before .before .before .before .before .before .write-shortest .ensures)
+
+returns-2 : tie.Need-returns-2
+returns-2 c =
+    let a = c .before .before .before .before .before .before .before .before .before .before .before .args in
+    let word = sym (ap shortest (toZ-ofZ {w = w64} (sfits-of (c .before .before .before .before .before .before .before .write-shortest-arg2 .given)))) in
+    wrote-as (sym (whole (c .before .before .before .before .before .before .before) ∙ ap (λ (b : List ℕ). b ++ (joined (λ z. 32 ∷ shortest z) (drop 1 (take (a .count) (now (a .scratch)))))) word)) (wrote-then (c .before .before .before .before .before .before .write-shortest .ensures) (c .before .before .more-integers .ensures))
+
+pub put-integers-spec : {M : Type 1} → statement M
+put-integers-spec =
+    tie.close
+    (tie.spec
+    returns
+    shared-slice-copy-out-write-shortest
+    write-shortest-requires
+    more-integers-requires
+    same-length
+    returns-2)

@@ -1,0 +1,42 @@
+-- `words::most_hexadigits` meets its contract: in each arm the kind is known.
+use Prim.Native.Nat.{_*_}
+use mathlib.Core.Path.{ap, sym}
+use Rattle.number.specs.Contracts.{size}
+use Rattle.number.specs.declared.Integer.{Integer}
+use Rattle.table.specs.Shape.{last}
+use borrow.Author.Needs.{needs}
+use Rattle.words.proofs.most_hexadigits.Statement.{statement}
+use Rattle.words.proofs.most_hexadigits.Tie as tie
+
+enum-told : tie.Need-enum-told
+enum-told c = search needs
+
+enum-told-2 : tie.Need-enum-told-2
+enum-told-2 c = search needs
+
+enum-told-3 : tie.Need-enum-told-3
+enum-told-3 c = search needs
+
+enum-told-4 : tie.Need-enum-told-4
+enum-told-4 c = search needs
+
+returns : tie.Need-returns
+unfolding last
+returns c = sym (ap (λ (k : Integer). 2 * size k) (c .enum-told .given .1))
+
+returns-2 : tie.Need-returns-2
+unfolding last
+returns-2 c = sym (ap (λ (k : Integer). 2 * size k) (c .enum-told2 .given .1))
+
+returns-3 : tie.Need-returns-3
+unfolding last
+returns-3 c = sym (ap (λ (k : Integer). 2 * size k) (c .enum-told3 .given .1))
+
+returns-4 : tie.Need-returns-4
+unfolding last
+returns-4 c = sym (ap (λ (k : Integer). 2 * size k) (c .enum-told4 .given .1))
+
+pub most-hexadigits-spec : {M : Type 1} → statement M
+most-hexadigits-spec =
+    tie.close
+    (tie.spec enum-told enum-told-2 enum-told-3 enum-told-4 returns returns-2 returns-3 returns-4)
