@@ -1,0 +1,45 @@
+/*
+ * The sample night from C: text to BINARY2, BINARY2 to base64, and a cut file.
+ *
+ *     cc -I include examples/night.c target/staticlib/libsailmortar.a -o night && ./night
+ */
+#include <inttypes.h>
+#include <stdio.h>
+#include <string.h>
+
+#include "sailmortar.h"
+
+static const char fields[] =
+    "<FIELD name='sky' datatype='short'><VALUES null='-99'/></FIELD>"
+    "<FIELD name='note' datatype='char' arraysize='4'/>"
+    "<FIELD name='clear' datatype='boolean'/>";
+
+static const char night[] =
+    "<TR><TD>7</TD><TD>a&amp;b</TD><TD>T</TD></TR>\n"
+    "<TR><TD/><TD>dusk</TD><TD/></TR>\n";
+
+static void convert(uint32_t from, uint32_t to, const void *rows, size_t length, uint8_t *out, size_t room, uint64_t answer[5]) {
+    sailmortar_convert((const uint8_t *)fields, strlen(fields), from, to, rows, length, out, room, answer);
+    printf("number %" PRIu64 ", row %" PRIu64 ", column %" PRIu64 ", rows %" PRIu64 ", bytes %" PRIu64 "\n", answer[SAILMORTAR_NUMBER],
+           answer[SAILMORTAR_ROW], answer[SAILMORTAR_COLUMN], answer[SAILMORTAR_ROWS], answer[SAILMORTAR_BYTES]);
+}
+
+int main(void) {
+    uint8_t binary2[64], letters[64], text[256];
+    uint64_t answer[5], encoded[5];
+
+    sailmortar_declare((const uint8_t *)fields, strlen(fields), answer);
+    printf("columns %" PRIu64 "\n", answer[SAILMORTAR_COLUMNS]);
+
+    convert(SAILMORTAR_TABLEDATA, SAILMORTAR_BINARY2, night, strlen(night), binary2, sizeof binary2, answer);
+    sailmortar_base64_encode(binary2, answer[SAILMORTAR_BYTES], letters, sizeof letters, encoded);
+    printf("%.*s\n", (int)encoded[SAILMORTAR_BYTES], (const char *)letters);
+
+    convert(SAILMORTAR_BINARY2, SAILMORTAR_TABLEDATA, binary2, answer[SAILMORTAR_BYTES], text, sizeof text, answer);
+    printf("%.*s", (int)answer[SAILMORTAR_BYTES], (const char *)text);
+
+    /* The last byte is missing: the first row stands, and the answer says where it went wrong. */
+    convert(SAILMORTAR_BINARY2, SAILMORTAR_TABLEDATA, binary2, 15, text, sizeof text, answer);
+    printf("%.*s", (int)answer[SAILMORTAR_BYTES], (const char *)text);
+    return answer[SAILMORTAR_NUMBER] == SAILMORTAR_STREAM_ENDS ? 0 : 1;
+}

@@ -1,0 +1,28 @@
+"""The sample night from Python: text to BINARY2, BINARY2 to base64, and a cut file.
+
+    python3 examples/night.py
+"""
+
+import pathlib
+import sys
+
+HERE = pathlib.Path(__file__).resolve().parent
+sys.path.insert(0, str(HERE.parent / "python"))
+
+import sailmortar  # noqa: E402
+
+fields = (HERE / "night.fields").read_bytes()
+text = (HERE / "night.tabledata").read_bytes()
+print("columns", sailmortar.declare(fields))
+
+binary2 = sailmortar.convert(fields, "tabledata", "binary2", text)
+print(binary2.hex(" "))
+print(sailmortar.base64_encode(binary2).decode())
+print(sailmortar.convert(fields, "binary2", "tabledata", binary2).decode(), end="")
+
+# The last byte is missing: the first row stands, and the refusal says where it went wrong.
+try:
+    sailmortar.convert(fields, "binary2", "tabledata", binary2[:-1])
+except sailmortar.Refused as refused:
+    print(refused)
+    print(refused.output.decode(), end="")

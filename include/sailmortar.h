@@ -1,0 +1,86 @@
+/*
+ * Sailmortar: rows of VOTable tables between TABLEDATA, BINARY and BINARY2, any to any, and base64.
+ *
+ * Link target/staticlib/libsailmortar.a, or libsailmortar.so beside it. The functions are proved: whatever bytes come in, the answer is rows or
+ * one numbered refusal with its row and column, the good rows before it stand whole in the output, and every byte of the output after them is as
+ * it was. They allocate nothing, keep nothing between calls, may be called from several threads at once, and use less than 100 KB of stack.
+ *
+ * What the caller sees to: a length is the number of bytes behind its pointer; no pointer is null, even where the length is 0; `out` and `answer`
+ * overlap nothing else; no length is over PTRDIFF_MAX.
+ */
+#ifndef SAILMORTAR_H
+#define SAILMORTAR_H
+
+#include <stddef.h>
+#include <stdint.h>
+
+#ifdef __cplusplus
+extern "C" {
+#endif
+
+/* Kinds of rows. */
+enum {
+    SAILMORTAR_TABLEDATA = 0,
+    SAILMORTAR_BINARY = 1,
+    SAILMORTAR_BINARY2 = 2
+};
+
+/* Places in the answer of a conversion or a base64 step. */
+enum {
+    SAILMORTAR_NUMBER = 0, /* 0 accepted, else the refusal's number */
+    SAILMORTAR_ROW = 1,    /* the refused row, from 0 */
+    SAILMORTAR_COLUMN = 2, /* the refused column, from 0; for 1 to 5 the whole FIELDs before the refused element */
+    SAILMORTAR_ROWS = 3,   /* how many rows stand whole in the output; 0 for base64 */
+    SAILMORTAR_BYTES = 4   /* how many bytes were written */
+};
+
+/* Places in the answer of sailmortar_declare; the number is at SAILMORTAR_NUMBER, the other two are 0. */
+enum {
+    SAILMORTAR_PLACE = 2,  /* the whole FIELDs before the refused element */
+    SAILMORTAR_COLUMNS = 3 /* how many columns are declared; 0 where the declarations are refused */
+};
+
+/* Refusal numbers. */
+enum {
+    SAILMORTAR_ACCEPTED = 0,
+    SAILMORTAR_DECLARATIONS_BROKEN = 1,    /* declarations not of the shape that is carried */
+    SAILMORTAR_DATATYPE_NOT_CARRIED = 2,   /* none of boolean, bit, unsignedByte, short, int, long, char */
+    SAILMORTAR_ARRAYSIZE_NOT_CARRIED = 3,  /* none of n, n* and *, n from 1 to 4096 */
+    SAILMORTAR_NULL_NO_VALUE = 4,          /* a declared null that is not a value of its column */
+    SAILMORTAR_COLUMNS_OUT_OF_RANGE = 5,   /* no column, or a 65th */
+    SAILMORTAR_INPUT_OVER_SIZE = 6,        /* declarations over 65,536 bytes, or another input over 1,073,741,824 */
+    SAILMORTAR_BASE64_NOT_VALID = 7,       /* base64 not valid */
+    SAILMORTAR_STREAM_ENDS = 8,            /* a BINARY or BINARY2 stream ends inside a row */
+    SAILMORTAR_COUNT_OVER_BOUND = 9,       /* an element count over the column's bound */
+    SAILMORTAR_TABLEDATA_BROKEN = 10,      /* tags or references broken, or the wrong number of cells */
+    SAILMORTAR_NO_VALUE = 11,              /* a byte or text that is no value of its kind */
+    SAILMORTAR_WRONG_LENGTH = 12,          /* a text cell with the wrong number of elements for its column */
+    SAILMORTAR_PADDING_NOT_ZERO = 13,      /* a padding bit that is 1 */
+    SAILMORTAR_EMPTY_HAS_NO_FORM = 14,     /* empty but not null, and the target has no form for it */
+    SAILMORTAR_NULL_HAS_NO_FORM = 15,      /* null, and the target has no form for it */
+    SAILMORTAR_CHARACTER_HAS_NO_FORM = 16, /* a character that has no XML form */
+    SAILMORTAR_NO_ROOM = 17,               /* the row, or the base64 result, is longer than the room left */
+    SAILMORTAR_NO_SUCH_KIND = 255          /* `from` or `to` is none of 0, 1 and 2; nothing else is judged */
+};
+
+/*
+ * Converts the rows of `input`, of the kind `from`, to rows of the kind `to`, into `out`. `decls` is the text of the FIELD elements.
+ * At SAILMORTAR_NO_ROOM the rows before are written; call again with more room.
+ */
+void sailmortar_convert(const uint8_t *decls, size_t decls_length, uint32_t from, uint32_t to, const uint8_t *input, size_t input_length,
+                        uint8_t *out, size_t out_length, uint64_t answer[5]);
+
+/* Decodes base64 (RFC 4648, white space skipped anywhere). A refusal, 6, 7 or 17, writes nothing. (n / 4 + 1) * 3 bytes are room enough. */
+void sailmortar_base64_decode(const uint8_t *input, size_t input_length, uint8_t *out, size_t out_length, uint64_t answer[5]);
+
+/* Encodes base64, without line breaks and without a NUL at the end. A refusal, 6 or 17, writes nothing. (n + 2) / 3 * 4 bytes are room enough. */
+void sailmortar_base64_encode(const uint8_t *input, size_t input_length, uint8_t *out, size_t out_length, uint64_t answer[5]);
+
+/* Judges declarations alone, and counts their columns. */
+void sailmortar_declare(const uint8_t *decls, size_t decls_length, uint64_t answer[5]);
+
+#ifdef __cplusplus
+}
+#endif
+
+#endif

@@ -1,0 +1,229 @@
+//! How fast, and with how much memory: the nine ways and base64 on a generated night, beside a plain converter in the
+//! same run. Prints Markdown for docs/SPEED.md.
+//!
+//!     cargo bench                                  # a night of 100 MB of text
+//!     SAILMORTAR_BENCH_MB=5 cargo bench            # a shorter one
+//!     RUSTFLAGS=-Ctarget-cpu=native cargo bench    # the plain converter compiled for this very machine
+//!
+//! The plain converter is compiled as cargo bench compiles everything here (opt-level 3, any x86-64). The last of the
+//! three lines above makes it faster on most machines, and nothing else: the proved archive is the same in all three.
+//! Unlike Sailmortar the plain one trusts its input and its room, so the ratio is also the price of every check.
+
+mod plain;
+mod table;
+
+use sailmortar::Rows;
+use std::process::{Command, Stdio};
+use std::time::Instant;
+use table::Night;
+
+/// Each figure is the best of at least so many runs, and of more where they are short.
+const RUNS: usize = 3;
+const SECONDS: f64 = 0.3;
+
+const EVERY_KIND: [Rows; 3] = [Rows::TableData, Rows::Binary, Rows::Binary2];
+
+fn main() {
+    let megabytes = std::env::var("SAILMORTAR_BENCH_MB").ok();
+    let megabytes: f64 = megabytes.map_or(100.0, |value| value.parse().expect("SAILMORTAR_BENCH_MB: a number of megabytes"));
+    let size = (megabytes * 1e6) as usize;
+    let night = table::night(size);
+    heading(&night);
+    // First, while the stack has not been used yet; it is told last.
+    let memory = memory(&night);
+    nine_ways(&night);
+    base64(&night);
+    growth(&night, size);
+    println!("{memory}");
+}
+
+fn heading(night: &Night) {
+    let processor = std::fs::read_to_string("/proc/cpuinfo").unwrap_or_default();
+    let processor = processor.lines().find_map(|line| line.strip_prefix("model name")).unwrap_or("unknown").trim_matches(['\t', ':', ' ']);
+    let [text, binary, binary2] = [&night.text, &night.binary, &night.binary2].map(|rows| mega(rows.len()));
+    println!("A night of {} rows and 20 columns: TABLEDATA {text:.1} MB, BINARY {binary:.1} MB, BINARY2 {binary2:.1} MB.", night.rows);
+    println!("Processor: {processor}; one thread; the best of {RUNS} runs or more; MB are 10^6 bytes of input.\n");
+}
+
+fn mega(bytes: usize) -> f64 {
+    bytes as f64 / 1e6
+}
+
+/// The least time of a few runs, in seconds.
+fn best(run: impl FnMut()) -> f64 {
+    best_of_both(run, || ()).0
+}
+
+/// The least times of two that take turns, so that a slow spell of the machine falls on both.
+fn best_of_both(mut one: impl FnMut(), mut other: impl FnMut()) -> (f64, f64) {
+    let (mut least, mut least_other, mut all, mut runs) = (f64::INFINITY, f64::INFINITY, 0.0, 0);
+    while runs < RUNS || all < SECONDS {
+        let start = Instant::now();
+        one();
+        let between = Instant::now();
+        other();
+        let (seconds, other_seconds) = ((between - start).as_secs_f64(), between.elapsed().as_secs_f64());
+        (least, least_other) = (least.min(seconds), least_other.min(other_seconds));
+        (all, runs) = (all + seconds + other_seconds, runs + 1);
+    }
+    (least, least_other)
+}
+
+fn name(rows: Rows) -> &'static str {
+    match rows {
+        Rows::TableData => "TABLEDATA",
+        Rows::Binary => "BINARY",
+        Rows::Binary2 => "BINARY2",
+    }
+}
+
+fn form(night: &Night, rows: Rows) -> &[u8] {
+    match rows {
+        Rows::TableData => &night.text,
+        Rows::Binary => &night.binary,
+        Rows::Binary2 => &night.binary2,
+    }
+}
+
+fn plainly(rows: Rows) -> plain::Rows {
+    match rows {
+        Rows::TableData => plain::Rows::TableData,
+        Rows::Binary => plain::Rows::Binary,
+        Rows::Binary2 => plain::Rows::Binary2,
+    }
+}
+
+fn nine_ways(night: &Night) {
+    println!("| from | to | MB | Sailmortar MB/s | plain MB/s | Sailmortar / plain | Sailmortar, thousand rows/s |");
+    println!("|---|---|--:|--:|--:|--:|--:|");
+    for from in EVERY_KIND {
+        for to in EVERY_KIND {
+            let size = mega(form(night, from).len());
+            let (ours, plain) = convert_both(night, from, to);
+            let (speed, plain_speed, ratio) = (size / ours, size / plain, plain / ours);
+            let rows = night.rows as f64 / ours / 1e3;
+            println!("| {} | {} | {size:.1} | {speed:.0} | {plain_speed:.0} | {ratio:.2} | {rows:.0} |", name(from), name(to));
+        }
+    }
+    println!();
+}
+
+/// Seconds of Sailmortar and of the plain converter for one way; what both have written is looked at.
+fn convert_both(night: &Night, from: Rows, to: Rows) -> (f64, f64) {
+    let (input, expected) = (form(night, from), form(night, to));
+    let columns = plain::columns(std::str::from_utf8(&night.declarations).expect("ASCII"));
+    let (mut out, mut plain_out) = (vec![0xff; expected.len()], vec![0xff; expected.len()]);
+    let seconds = best_of_both(
+        || convert(night, from, to, &mut out),
+        || {
+            // Sound here: the night is valid, and the room is that of its other form.
+            let (rows, bytes) = unsafe { plain::convert(&columns, plainly(from), plainly(to), input, &mut plain_out) };
+            assert_eq!((rows, bytes), (night.rows, expected.len()));
+        },
+    );
+    assert!(out == expected, "Sailmortar from {} to {}", name(from), name(to));
+    assert!(plain_out == expected, "plain from {} to {}", name(from), name(to));
+    seconds
+}
+
+fn convert(night: &Night, from: Rows, to: Rows, out: &mut [u8]) {
+    let answer = sailmortar::convert(&night.declarations, from, to, form(night, from), out);
+    assert_eq!((answer.number, answer.rows), (0, night.rows as u64));
+}
+
+fn base64(night: &Night) {
+    println!("| base64 of BINARY2 | MB | Sailmortar MB/s | plain MB/s | Sailmortar / plain | coreutils MB/s |");
+    println!("|---|--:|--:|--:|--:|--:|");
+    let bytes = &night.binary2;
+    let mut letters = vec![0; bytes.len().div_ceil(3) * 4];
+    let mut plain_letters = letters.clone();
+    let seconds = best_of_both(
+        || assert_eq!(sailmortar::base64_encode(bytes, &mut letters).number, 0),
+        || assert_eq!(plain::base64_encode(bytes, &mut plain_letters), bytes.len().div_ceil(3) * 4),
+    );
+    assert!(letters == plain_letters, "the two encodings");
+    base64_line("encode", bytes, seconds, &["-w0"]);
+    base64_decoding("decode, one line", &letters, bytes);
+    let lines: Vec<u8> = letters.chunks(76).flat_map(|line| [line, b"\n"].concat()).collect();
+    base64_decoding("decode, lines of 76", &lines, bytes);
+    println!();
+}
+
+fn base64_decoding(what: &str, letters: &[u8], bytes: &[u8]) {
+    let mut out = vec![0; bytes.len()];
+    let mut plain_out = out.clone();
+    let seconds = best_of_both(
+        || assert_eq!(sailmortar::base64_decode(letters, &mut out).number, 0),
+        || assert_eq!(plain::base64_decode(letters, &mut plain_out), Some(bytes.len())),
+    );
+    assert!(out == bytes && plain_out == bytes, "{what}");
+    base64_line(what, letters, seconds, &["-d"]);
+}
+
+fn base64_line(what: &str, input: &[u8], (ours, plain): (f64, f64), arguments: &[&str]) {
+    let size = mega(input.len());
+    let coreutils = coreutils(arguments, input).map_or("not here".to_string(), |seconds| format!("{:.0}", size / seconds));
+    println!("| {what} | {size:.1} | {:.0} | {:.0} | {:.2} | {coreutils} |", size / ours, size / plain, plain / ours);
+}
+
+/// Seconds of coreutils' base64 on a file, to nowhere; nothing where there is no such program.
+fn coreutils(arguments: &[&str], input: &[u8]) -> Option<f64> {
+    let path = std::env::temp_dir().join(format!("sailmortar-bench-{}", std::process::id()));
+    std::fs::write(&path, input).ok()?;
+    let mut done = true;
+    let seconds = best(|| {
+        let status = Command::new("base64").args(arguments).arg(&path).stdout(Stdio::null()).status();
+        done &= status.is_ok_and(|status| status.success());
+    });
+    let _ = std::fs::remove_file(&path);
+    done.then_some(seconds)
+}
+
+/// The same two ways on a hundredth, a tenth and all of the size: in a straight line the last column stays the same.
+fn growth(night: &Night, size: usize) {
+    println!("| from | to | MB | seconds | ns for each byte |");
+    println!("|---|---|--:|--:|--:|");
+    let [short, middling] = [100, 10].map(|part| table::night(size / part));
+    for (from, to) in [(Rows::TableData, Rows::Binary2), (Rows::Binary2, Rows::TableData)] {
+        for night in [&short, &middling, night] {
+            let bytes = form(night, from).len();
+            let mut out = vec![0xff; form(night, to).len()];
+            let seconds = best(|| convert(night, from, to, &mut out));
+            let each = seconds * 1e9 / bytes as f64;
+            println!("| {} | {} | {:.2} | {seconds:.4} | {each:.2} |", name(from), name(to), mega(bytes));
+        }
+    }
+    println!();
+}
+
+/// A figure of /proc/self/status, in bytes.
+fn status(figure: &str) -> Option<usize> {
+    let status = std::fs::read_to_string("/proc/self/status").ok()?;
+    let line = status.lines().find_map(|line| line.strip_prefix(figure))?;
+    let kilobytes: usize = line.trim_start_matches(':').split_whitespace().next()?.parse().ok()?;
+    Some(kilobytes * 1024)
+}
+
+/// What a call takes for itself: the peak while it runs against what the process held before, lent buffers included.
+fn memory(night: &Night) -> String {
+    let mut lines = vec![
+        "| from | to | lent MB (input and room) | process before MB | peak in the call MB | the call's own MB |".to_string(),
+        "|---|---|--:|--:|--:|--:|".to_string(),
+    ];
+    for (from, to) in [(Rows::TableData, Rows::Binary2), (Rows::Binary2, Rows::TableData)] {
+        let mut out = vec![0xff; form(night, to).len()];
+        // Writing 5 there sets the peak (VmHWM) back to what is held now.
+        let is_reset = std::fs::write("/proc/self/clear_refs", "5").is_ok();
+        let before = status("VmRSS");
+        convert(night, from, to, &mut out);
+        lines.push(match (before, status("VmHWM"), is_reset) {
+            (Some(before), Some(peak), true) => {
+                let lent = mega(form(night, from).len() + out.len());
+                let (held, highest, own) = (mega(before), mega(peak), mega(peak.saturating_sub(before)));
+                format!("| {} | {} | {lent:.1} | {held:.1} | {highest:.1} | {own:.2} |", name(from), name(to))
+            }
+            _ => format!("| {} | {} | not told by this system | | | |", name(from), name(to)),
+        });
+    }
+    lines.join("\n")
+}

@@ -1,0 +1,84 @@
+//! What standard error says of a refusal: the file, the place, the number and its meaning, and what stands.
+
+use sailmortar::{Column, Converted, Refusal, Rows};
+
+/// A refusal of the declarations.
+pub fn declarations(file: &str, refusal: &Refusal) -> String {
+    let Refusal { number, column: place, .. } = *refusal;
+    let said = match number {
+        6 => "refusal 6: the declarations are over 65536 bytes".to_string(),
+        _ => {
+            format!("refusal {number} at the element after {place} whole FIELD{}: {}", if place == 1 { "" } else { "s" }, refusal.meaning())
+        }
+    };
+    format!("sailmortar: {file}: {said}\n{}", nothing(number))
+}
+
+/// A refusal of an input that is too long; `step` says which step was to read it.
+pub fn too_long(file: &str, step: &str) -> String {
+    format!("sailmortar: {file}: refusal 6{step}: the input is over 1073741824 bytes (1 GiB)\n{}", nothing(6))
+}
+
+/// A refusal of base64.
+pub fn base64(file: &str, refusal: &Refusal) -> String {
+    let step = " in the base64 step";
+    match refusal.number {
+        6 => too_long(file, step),
+        number => format!("sailmortar: {file}: refusal {number}{step}: {}\n{}", refusal.meaning(), nothing(number)),
+    }
+}
+
+fn nothing(number: u64) -> String {
+    format!("sailmortar: no row was read and nothing is written; 'sailmortar explain {number}' says more\n")
+}
+
+/// Where rows come from and go to, for a message about them.
+pub struct Stream<'a> {
+    pub input_name: &'a str,
+    pub output_name: &'a str,
+    pub columns: &'a [Column],
+    pub from: Rows,
+    pub decoded: bool,
+    pub input: &'a [u8],
+}
+
+/// A refusal of a row.
+pub fn row(stream: &Stream, converted: &Converted, refusal: &Refusal) -> String {
+    let Refusal { number, row, column } = *refusal;
+    let title = title(stream.columns, column);
+    let stand = match converted.answer.rows {
+        0 => "no row stands before it".to_string(),
+        1 => format!("the 1 row before it is written to {}", stream.output_name),
+        rows => format!("the {rows} rows before it are written to {}", stream.output_name),
+    };
+    format!(
+        "sailmortar: {}: refusal {number} at row {row}, column {column}{title}: {}\n\
+         sailmortar: {stand}\n\
+         sailmortar: rows and columns count from 0; {}; 'sailmortar explain {number}' says more\n",
+        stream.input_name,
+        refusal.meaning(),
+        spot(stream, row, converted.read),
+    )
+}
+
+/// Names come from other people's files: what a terminal would act on is spelt out, and the line is kept short.
+fn title(columns: &[Column], column: u64) -> String {
+    match usize::try_from(column).ok().and_then(|place| columns.get(place)) {
+        Some(Column { name: Some(name), .. }) => {
+            let shown: String = name.escape_debug().take(60).collect();
+            format!(" ({shown}{})", if name.escape_debug().count() > 60 { ".." } else { "" })
+        }
+        Some(_) => String::new(),
+        None => " (after the last cell)".to_string(),
+    }
+}
+
+/// Where in the bytes the refused row begins; the row's number alone is hard to find in a long file.
+fn spot(stream: &Stream, row: u64, start: usize) -> String {
+    if stream.from == Rows::TableData {
+        let line = 1 + stream.input[..start].iter().filter(|byte| **byte == b'\n').count();
+        return format!("row {row} begins in line {line}, at byte {start}");
+    }
+    let of = if stream.decoded { " of the decoded stream" } else { "" };
+    format!("row {row} begins at byte {start}{of}")
+}

@@ -1,0 +1,198 @@
+//! The help, and what each refusal means with what to look for.
+
+use std::fmt::Write;
+
+pub const HELP: &str = "\
+Sailmortar converts VOTable rows: TABLEDATA, BINARY and BINARY2, any to any.
+
+  sailmortar convert --fields FILE --from KIND --to KIND [INPUT] [-o OUTPUT]
+  sailmortar base64 encode|decode [INPUT] [-o OUTPUT]
+  sailmortar explain [N]      what refusal N means, or all of them
+
+  --fields FILE      the table's FIELD elements, and nothing around them
+  --from KIND        what INPUT holds: tabledata, binary or binary2
+  --to KIND          what to write
+  --base64-in        INPUT is base64, as a STREAM element has it
+  --base64-out       write base64, without line breaks
+  -o, --output FILE  write a new file, moved to this name when it is done
+  -h, --help         this text
+  -V, --version      the version
+
+INPUT has the rows and no tags around them. '-' or no name is standard input
+or output. At a refusal the good rows before it are written, and standard
+error says where it stopped and why.
+Exit status: 0 accepted, 1 refused, 2 wrong usage, 3 the system said no.
+
+  sailmortar convert --fields night.fields --from tabledata --to binary2 \\
+                     night.tabledata -o night.binary2
+";
+
+/// Every refusal's number and meaning, a line each.
+pub fn list() -> String {
+    let mut text = String::new();
+    for number in 1..=17 {
+        let _ = writeln!(text, "{number:2}  {}", sailmortar::meaning(number).unwrap_or_default());
+    }
+    text.push_str("'sailmortar explain N' says what to look for.\n");
+    text
+}
+
+/// What a refusal means, and what to look for.
+pub fn explanation(number: u64) -> String {
+    let meaning = sailmortar::meaning(number).unwrap_or_default();
+    format!("refusal {number}: {meaning}\n\n{}\n", look_for(number))
+}
+
+fn look_for(number: u64) -> &'static str {
+    match number {
+        1..=5 => in_declarations(number),
+        6 | 7 | 17 | 255 => in_sizes_and_base64(number),
+        8 | 9 | 13 => in_binary(number),
+        10..=12 => in_cells(number),
+        _ => in_writing(number),
+    }
+}
+
+fn in_declarations(number: u64) -> &'static str {
+    match number {
+        1 => {
+            "\
+The fields file has FIELD elements with only white space around them, such as
+  <FIELD name=\"sky\" datatype=\"short\"/>
+  <FIELD name=\"sky\" datatype=\"short\"><VALUES null=\"-99\"/></FIELD>
+Look at the element after the whole FIELDs that the message counts: a missing
+datatype, an attribute without quotes or without white space before it,
+datatype or arraysize twice, a missing </FIELD> or />, a comment, a
+DESCRIPTION or a second VALUES inside the FIELD, or another element (PARAM,
+GROUP, TABLE) among the FIELDs."
+        }
+        2 => {
+            "\
+Carried are boolean, bit, unsignedByte, short, int, long and char, spelt just
+so: 'Int', ' int' and 'integer' are refused. float, double, unicodeChar and
+the complex kinds are not carried."
+        }
+        3 => {
+            "\
+An arraysize is n, n* or *, with n from 1 to 4096 and no white space: '8',
+'40*', '*'. '0', '08', '5000' and two dimensions such as '3x2' are refused.
+Leave arraysize out for one element."
+        }
+        4 => {
+            "\
+On a column of one integer, the null of its VALUES must be a value of that
+datatype: null=\"40000\" on a short, null=\"-1\" on an unsignedByte, null=\"\"
+and null=\"NaN\" are refused."
+        }
+        _ => {
+            "\
+A table has 1 to 64 columns. Look for an empty fields file (was it written at
+all?), or count the FIELD elements."
+        }
+    }
+}
+
+fn in_sizes_and_base64(number: u64) -> &'static str {
+    match number {
+        6 => {
+            "\
+Declarations may have 65536 bytes, an input of rows or of a base64 step
+1073741824 (1 GiB); the message says which was over. Cut the rows into several
+inputs at row ends and convert each: a row's output depends on no other row."
+        }
+        7 => {
+            "\
+White space apart, base64 is a multiple of four letters A-Z a-z 0-9 + /, with
+= only as the last one or two, and no bit set that stands for nothing: 'Zg=='
+is good, 'Zg=' (cut), 'Zg==Zg==' (two texts in one), 'Zh==' and 'Zm9_' (another
+alphabet) are refused. Look for tags of the VOTable that were left around the
+text, or a file that was cut short."
+        }
+        17 => {
+            "\
+Programs that call the library give it room for its output; this says that the
+next row does not fit. The rows before it are written. This command makes the
+room itself, so that you will not meet it here."
+        }
+        _ => {
+            "\
+Programs that call the C functions name kinds of rows by number: 0 TABLEDATA,
+1 BINARY, 2 BINARY2. This command does not let another through."
+        }
+    }
+}
+
+fn in_binary(number: u64) -> &'static str {
+    match number {
+        8 => {
+            "\
+The bytes end before the row does. Most often the file was cut: a logger that
+died, a copy that was broken off. If it stops at row 0 or 1, the fields may not
+be those of this stream, or BINARY was taken for BINARY2, or base64 was not
+decoded (--base64-in)."
+        }
+        9 => {
+            "\
+A cell of an n* or * column begins with a count of four bytes, and it is more
+than n (or than 4096). Most often the reading is out of step: look whether the
+fields are those of this stream, in this order, and whether BINARY was taken
+for BINARY2. Counts are of elements, not bytes, the highest byte first."
+        }
+        _ => {
+            "\
+A bit column whose length is no multiple of 8, or the flags at the start of a
+BINARY2 row, ends in spare bits, and they must be 0: nine bits FF 80 are good,
+FF 81 are not. At column 0 it may be the flags: was BINARY taken for BINARY2,
+or are there other columns than the fields say?"
+        }
+    }
+}
+
+fn in_cells(number: u64) -> &'static str {
+    match number {
+        10 => {
+            "\
+Rows are <TR> with one <TD> for each column, without attributes, comments or
+CDATA: <TR><TD>7</TD><TD/></TR>. Look for a TD too many or too few, a bare &
+or < in a text (write &amp; and &lt;), &nbsp; or another name that XML does not
+have, a missing </TD>, tags around the rows (TABLEDATA, DATA), or a file that
+was cut. A column number after the last means the end of the row."
+        }
+        11 => {
+            "\
+The cell holds something that its datatype does not have: 32768 in a short, 256
+or -1 in an unsignedByte, 1.5 or NaN in an int, 'yes' in a boolean, 1,2 (write
+1 2), a byte over 127 (an accent, a degree sign) in any cell, or a boolean byte
+that is none of T t 1 F f 0 ? blank and NUL."
+        }
+        _ => {
+            "\
+A column of arraysize n takes n elements in each cell that is not empty (char
+may be shorter), one of n* or * at most n or 4096. Look for a value missing or
+too many, or a text longer than its column: 'dawns' where arraysize is 4."
+        }
+    }
+}
+
+fn in_writing(number: u64) -> &'static str {
+    match number {
+        14 => {
+            "\
+In BINARY2 a char or counted cell can be empty without being null: its flag is
+0, and its count is 0 or its text begins with NUL. TABLEDATA and BINARY write
+an empty cell for null, and would turn the one into the other. Only BINARY2
+takes such a row."
+        }
+        15 => {
+            "\
+BINARY has no flags: a null integer needs a declared null (<VALUES null=\"..\"/>
+in its FIELD), and a null bit, or a null in a fixed array of any kind but char,
+has no form at all. Declare a null that no real value has, or write BINARY2."
+        }
+        _ => {
+            "\
+A text holds a control character (1 to 8, 11, 12, 14 to 31) that XML cannot
+hold, even as a reference. Write BINARY or BINARY2, or mend the text."
+        }
+    }
+}

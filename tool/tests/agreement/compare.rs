@@ -1,0 +1,146 @@
+//! One call of the proved code beside one of the model.
+
+use crate::model::converter::{self, Rows};
+use crate::model::{base64, Answer, Written};
+use std::fmt::Write;
+
+/// How many bytes on each side of the room must stay as they are, too; odd, so that the room begins anywhere.
+const FENCE: usize = 33;
+
+/// The seeds of a test that takes random inputs: `count` of them, times SAILMORTAR_LONG, or SAILMORTAR_SEED alone.
+pub fn seeds(first: u64, count: u64) -> Vec<u64> {
+    let number = |name| std::env::var(name).ok().map(|value| value.parse::<u64>().expect(name));
+    match number("SAILMORTAR_SEED") {
+        Some(seed) => vec![seed],
+        None => (first..first + count * number("SAILMORTAR_LONG").unwrap_or(1)).collect(),
+    }
+}
+
+/// A call of `convert`, the room apart.
+#[derive(Clone, Copy)]
+pub struct Case<'a> {
+    pub declarations: &'a [u8],
+    pub from: Rows,
+    pub to: Rows,
+    pub input: &'a [u8],
+    pub seed: u64,
+}
+
+impl Case<'_> {
+    /// What the model writes where there is room for anything.
+    pub fn with_room_enough(&self) -> Written {
+        converter::convert(self.declarations, self.from, self.to, self.input, usize::MAX)
+    }
+
+    /// Compares one call in each of two fillings of the room; hands out the answer.
+    pub fn agree(&self, room: usize) -> Answer {
+        let model = converter::convert(self.declarations, self.from, self.to, self.input, room);
+        let (from, to) = (proved_rows(self.from), proved_rows(self.to));
+        let call = |out: &mut [u8]| numbers(sailmortar::convert(self.declarations, from, to, self.input, out));
+        if let Err(difference) = compare(&model, room, call) {
+            let texts = [("declarations", self.declarations), ("input", self.input)];
+            let call = format!("convert from {:?} to {:?}, room {room}", self.from, self.to);
+            panic!("{}", report(&call, self.seed, &texts, &difference));
+        }
+        model.answer
+    }
+
+    /// Compares with exactly the room that is needed; hands out the answer.
+    pub fn agree_with_room_enough(&self) -> Answer {
+        self.agree(self.with_room_enough().bytes.len())
+    }
+}
+
+/// Compares what `declare` and a conversion say of these declarations; hands out what `declare` does.
+pub fn agree_on_declarations(declarations: &[u8], seed: u64) -> Answer {
+    let model = converter::declare(declarations);
+    let declared = sailmortar::declare(declarations);
+    let proved = [declared.number, 0, declared.place, declared.columns, 0];
+    if proved != model {
+        let difference = format!("proved {proved:?}, model {model:?}");
+        panic!("{}", report("declare", seed, &[("declarations", declarations)], &difference));
+    }
+    let (from, input) = match seed % 3 {
+        0 => (Rows::TableData, &b" <TR><TD/></TR>"[..]),
+        1 => (Rows::Binary, &b""[..]),
+        _ => (Rows::Binary2, &b"\x80\0\0\0\0\0\0\0\0"[..]),
+    };
+    Case { declarations, from, to: Rows::Binary2, input, seed }.agree(16);
+    model
+}
+
+pub fn agree_on_decoding(input: &[u8], room: usize, seed: u64) -> Answer {
+    let model = base64::decode(input, room);
+    let call = |out: &mut [u8]| numbers(sailmortar::base64_decode(input, out));
+    if let Err(difference) = compare(&model, room, call) {
+        let call = format!("base64_decode, room {room}");
+        panic!("{}", report(&call, seed, &[("input", input)], &difference));
+    }
+    model.answer
+}
+
+pub fn agree_on_encoding(input: &[u8], room: usize, seed: u64) -> Answer {
+    let model = base64::encode(input, room);
+    let call = |out: &mut [u8]| numbers(sailmortar::base64_encode(input, out));
+    if let Err(difference) = compare(&model, room, call) {
+        let call = format!("base64_encode, room {room}");
+        panic!("{}", report(&call, seed, &[("input", input)], &difference));
+    }
+    model.answer
+}
+
+pub fn proved_rows(rows: Rows) -> sailmortar::Rows {
+    match rows {
+        Rows::TableData => sailmortar::Rows::TableData,
+        Rows::Binary => sailmortar::Rows::Binary,
+        Rows::Binary2 => sailmortar::Rows::Binary2,
+    }
+}
+
+pub fn numbers(answer: sailmortar::Answer) -> Answer {
+    [answer.number, answer.row, answer.column, answer.rows, answer.bytes]
+}
+
+/// Two fillings that differ in every byte, so that a byte which is written shows in one of them.
+fn filled(size: usize, filling: u8) -> Vec<u8> {
+    (0..size).map(|place| (place.wrapping_mul(37) >> 1) as u8 ^ filling).collect()
+}
+
+fn compare(model: &Written, room: usize, call: impl Fn(&mut [u8]) -> Answer) -> Result<(), String> {
+    for filling in [0x5a, 0xa5] {
+        let mut proved = filled(room + 2 * FENCE, filling);
+        let mut expected = proved.clone();
+        expected[FENCE..FENCE + model.bytes.len()].copy_from_slice(&model.bytes);
+        let answer = call(&mut proved[FENCE..FENCE + room]);
+        if answer != model.answer {
+            return Err(format!("answer: proved {answer:?}, model {:?}", model.answer));
+        }
+        if proved != expected {
+            let at = proved.iter().zip(&expected).position(|(one, other)| one != other).unwrap_or(0);
+            let place = at as i64 - FENCE as i64;
+            let (one, other) = (proved[at], expected[at]);
+            return Err(format!("byte {place} of the room: proved {one:#04x}, model {other:#04x}"));
+        }
+    }
+    Ok(())
+}
+
+/// All that is needed to make the call again, by seed or by hand.
+fn report(call: &str, seed: u64, texts: &[(&str, &[u8])], difference: &str) -> String {
+    let mut report = format!("the proved code and the model disagree in {call}\n  {difference}\n");
+    for (name, bytes) in texts {
+        let _ = if bytes.len() <= 20_000 {
+            writeln!(report, "  {name}: b\"{}\"", bytes.escape_ascii())
+        } else {
+            let path = std::env::temp_dir().join(format!("sailmortar-{seed}-{name}"));
+            let kept = std::fs::write(&path, bytes);
+            writeln!(report, "  {name}: {} bytes, kept in {} ({kept:?})", bytes.len(), path.display())
+        };
+    }
+    // Tests that go through their inputs in order have no seed.
+    if seed >= 1_000_000 {
+        let test = std::thread::current().name().unwrap_or_default().to_string();
+        let _ = writeln!(report, "  again: SAILMORTAR_SEED={seed} cargo test --test agreement {test}");
+    }
+    report
+}

@@ -1,0 +1,100 @@
+//! Tables of several megabytes, and the greatest input there may be.
+
+use super::compare::{agree_on_decoding, agree_on_encoding, numbers, seeds, Case};
+use crate::generate::columns::{declarations, some};
+use crate::generate::rows::{spelled, table};
+use crate::generate::Random;
+use crate::model::converter::{Rows, EVERY_KIND_OF_ROWS};
+use crate::model::{Answer, Column, MOST_INPUT};
+
+/// Twenty columns whose cells have a form everywhere, so that every way goes through to the end.
+fn wide(random: &mut Random) -> Vec<Column> {
+    let mut columns = some(random, 80, 80);
+    columns.retain(crate::generate::cells::null_has_a_form_in_binary);
+    columns.truncate(20);
+    columns
+}
+
+#[test]
+fn several_megabytes_in_all_nine_ways() {
+    for seed in seeds(50_000_000, 1) {
+        let mut random = Random::new(seed);
+        let columns = wide(&mut random);
+        let text = declarations(&columns);
+        let mut table = table(&mut random, &columns, Rows::TableData, 500);
+        while spelled(&mut Random::new(seed), &columns, Rows::Binary, &table).len() < 3_000_000 {
+            table.extend(table.clone());
+        }
+        for from in EVERY_KIND_OF_ROWS {
+            let input = spelled(&mut random, &columns, from, &table);
+            for to in EVERY_KIND_OF_ROWS {
+                let case = Case { declarations: &text, from, to, input: &input, seed };
+                let needed = case.with_room_enough().bytes.len();
+                assert_eq!(case.agree(needed), [0, 0, 0, table.len() as u64, needed as u64], "{from:?} to {to:?}");
+            }
+        }
+    }
+}
+
+#[test]
+fn megabytes_of_base64() {
+    for size in [3_000_000, 3_000_001, 3_000_002] {
+        let plain = Random::new(size).bytes(size as usize);
+        let letters = crate::model::base64::encode(&plain, usize::MAX).bytes;
+        assert_eq!(agree_on_encoding(&plain, letters.len(), size)[0], 0);
+        assert_eq!(agree_on_decoding(&letters, plain.len(), size)[0], 0);
+        // As it stands in a document: lines of 76 letters.
+        let lines: Vec<u8> = letters.chunks(76).flat_map(|line| [line, b"\n"].concat()).collect();
+        assert_eq!(agree_on_decoding(&lines, plain.len() + 9, size)[0], 0);
+        assert_eq!(agree_on_decoding(&lines[..lines.len() - 2], plain.len(), size)[0], 7);
+    }
+}
+
+/// Zeros that take no memory until they are written to.
+fn zeros(size: usize) -> Vec<u8> {
+    vec![0; size]
+}
+
+/// Calls with a small room; what is not written must stay.
+fn in_room(room: usize, call: impl Fn(&mut [u8]) -> sailmortar::Answer) -> (Answer, Vec<u8>) {
+    let mut out = vec![0xab; room];
+    let answer = numbers(call(&mut out));
+    let written = answer[4] as usize;
+    assert!(out[written..].iter().all(|byte| *byte == 0xab));
+    out.truncate(written);
+    (answer, out)
+}
+
+#[test]
+fn one_byte_over_the_greatest_input_is_refused() {
+    let input = zeros(MOST_INPUT + 1);
+    let six = ([6, 0, 0, 0, 0], Vec::new());
+    let field = b"<FIELD datatype='char' arraysize='4096'/>";
+    for from in [sailmortar::Rows::TableData, sailmortar::Rows::Binary, sailmortar::Rows::Binary2] {
+        for to in [sailmortar::Rows::TableData, sailmortar::Rows::Binary, sailmortar::Rows::Binary2] {
+            assert_eq!(in_room(9_000, |out| sailmortar::convert(field, from, to, &input, out)), six);
+            // The declarations are judged first, whatever the input.
+            let place_one = in_room(9, |out| sailmortar::convert(b"<FIELD", from, to, &input, out));
+            assert_eq!(place_one, ([1, 0, 0, 0, 0], Vec::new()));
+        }
+    }
+    assert_eq!(in_room(100, |out| sailmortar::base64_encode(&input, out)), six);
+    assert_eq!(in_room(100, |out| sailmortar::base64_decode(&input, out)), six);
+}
+
+#[test]
+fn the_greatest_input_is_taken() {
+    let input = zeros(MOST_INPUT);
+    // 262,144 rows, each one fixed text of NULs: null in BINARY.
+    let field = b"<FIELD datatype='char' arraysize='4096'/>";
+    let rows = MOST_INPUT / 4096;
+    let line = b"<TR><TD/></TR>\n";
+    let call = |out: &mut [u8]| sailmortar::convert(field, sailmortar::Rows::Binary, sailmortar::Rows::TableData, &input, out);
+    let (answer, out) = in_room(rows * line.len() + 3, call);
+    assert_eq!(answer, [0, 0, 0, rows as u64, (rows * line.len()) as u64]);
+    assert!(out == line.repeat(rows));
+    let (answer, _) = in_room(10 * line.len() + 3, call);
+    assert_eq!(answer, [17, 10, 0, 10, 150]);
+    assert_eq!(in_room(100, |out| sailmortar::base64_encode(&input, out)).0, [17, 0, 0, 0, 0]);
+    assert_eq!(in_room(100, |out| sailmortar::base64_decode(&input, out)).0, [7, 0, 0, 0, 0]);
+}

@@ -1,0 +1,640 @@
+//! The command as a shell meets it: bytes out, words on standard error, exit statuses, and what is left in the folder.
+
+use std::fs::{self, File};
+use std::io::{Read, Write};
+use std::os::unix::fs::{symlink, FileTypeExt, PermissionsExt};
+use std::path::{Path, PathBuf};
+use std::process::{Child, Command, Output, Stdio};
+use std::thread;
+use std::time::{Duration, Instant};
+
+const PROGRAM: &str = env!("CARGO_BIN_EXE_sailmortar");
+
+const FIELDS: &str = concat!(
+    "<FIELD name='sky' datatype='short'><VALUES null='-99'/></FIELD>\n",
+    "<FIELD name='note' datatype='char' arraysize='4'/>\n",
+    "<FIELD datatype='boolean'/>\n"
+);
+const TABLEDATA: &[u8] = b"<TR><TD>7</TD><TD>a&amp;b</TD><TD>T</TD></TR>\n<TR><TD/><TD>dusk</TD><TD/></TR>\n";
+const BINARY: &[u8] = &[0x00, 0x07, 0x61, 0x26, 0x62, 0x00, 0x54, 0xFF, 0x9D, 0x64, 0x75, 0x73, 0x6B, 0x3F];
+const BINARY2: &[u8] = &[0x00, 0x00, 0x07, 0x61, 0x26, 0x62, 0x00, 0x54, 0xA0, 0x00, 0x00, 0x64, 0x75, 0x73, 0x6B, 0x00];
+const NIGHT: [(&str, &[u8]); 3] = [("tabledata", TABLEDATA), ("binary", BINARY), ("binary2", BINARY2)];
+
+/// A folder of its own for a test, with the sample night in it.
+struct Scratch(PathBuf);
+
+impl Scratch {
+    fn new(test: &str) -> Scratch {
+        let folder = Path::new(env!("CARGO_TARGET_TMPDIR")).join(test);
+        let _ = fs::remove_dir_all(&folder);
+        fs::create_dir_all(&folder).expect("a scratch folder");
+        let scratch = Scratch(folder);
+        scratch.put("fields", FIELDS.as_bytes());
+        for (kind, bytes) in NIGHT {
+            scratch.put(&format!("night.{kind}"), bytes);
+        }
+        scratch
+    }
+
+    fn path(&self, name: &str) -> PathBuf {
+        self.0.join(name)
+    }
+
+    fn put(&self, name: &str, bytes: &[u8]) {
+        fs::write(self.path(name), bytes).expect("a scratch file");
+    }
+
+    fn get(&self, name: &str) -> Vec<u8> {
+        fs::read(self.path(name)).unwrap_or_else(|cause| panic!("{name}: {cause}"))
+    }
+
+    fn has(&self, name: &str) -> bool {
+        self.path(name).exists()
+    }
+
+    /// The temporary files of runs that did not end.
+    fn parts(&self) -> Vec<String> {
+        let names = fs::read_dir(&self.0).expect("the scratch folder").map(|entry| entry.expect("an entry").file_name());
+        names.map(|name| name.to_string_lossy().into_owned()).filter(|name| name.ends_with(".part")).collect()
+    }
+
+    fn command(&self, words: &str) -> Command {
+        let mut command = Command::new(PROGRAM);
+        command.args(words.split_whitespace()).current_dir(&self.0).stdin(Stdio::null());
+        command
+    }
+
+    fn run(&self, words: &str) -> Said {
+        Said::of(self.command(words).output().expect("the program runs"))
+    }
+
+    fn run_with(&self, words: &str, input: &[u8]) -> Said {
+        let mut child = self.spawn(words);
+        let mut stdin = child.stdin.take().expect("a pipe");
+        let input = input.to_vec();
+        let feeder = thread::spawn(move || drop(stdin.write_all(&input)));
+        let output = child.wait_with_output().expect("the program runs");
+        feeder.join().expect("the feeder ends");
+        Said::of(output)
+    }
+
+    fn spawn(&self, words: &str) -> Child {
+        let mut command = self.command(words);
+        command.stdin(Stdio::piped()).stdout(Stdio::piped()).stderr(Stdio::piped());
+        command.spawn().expect("the program runs")
+    }
+}
+
+impl Drop for Scratch {
+    fn drop(&mut self) {
+        if !thread::panicking() {
+            let _ = fs::remove_dir_all(&self.0);
+        }
+    }
+}
+
+/// What a run said.
+#[derive(Debug, PartialEq)]
+struct Said {
+    status: i32,
+    out: Vec<u8>,
+    err: String,
+}
+
+impl Said {
+    fn of(output: Output) -> Said {
+        let status = output.status.code().expect("it was not killed");
+        Said { status, out: output.stdout, err: String::from_utf8(output.stderr).expect("messages are text") }
+    }
+
+    fn good(bytes: &[u8]) -> Said {
+        Said { status: 0, out: bytes.to_vec(), err: String::new() }
+    }
+
+    fn refused(bytes: &[u8], lines: &[&str]) -> Said {
+        Said { status: 1, out: bytes.to_vec(), err: said_lines(lines) }
+    }
+
+    fn trouble(line: &str) -> Said {
+        Said { status: 3, out: Vec::new(), err: said_lines(&[line]) }
+    }
+}
+
+fn said_lines(lines: &[&str]) -> String {
+    lines.iter().map(|line| format!("sailmortar: {line}\n")).collect()
+}
+
+#[test]
+fn the_sample_night_from_file_to_file_in_all_nine_ways() {
+    let scratch = Scratch::new("files");
+    for (from, _) in NIGHT {
+        for (to, bytes) in NIGHT {
+            let words = format!("convert --fields fields --from {from} --to {to} night.{from} -o out");
+            assert_eq!(scratch.run(&words), Said::good(b""), "{words}");
+            assert_eq!(scratch.get("out"), bytes, "{words}");
+        }
+    }
+    assert_eq!(scratch.parts(), [""; 0]);
+}
+
+#[test]
+fn the_sample_night_through_pipes_in_all_nine_ways() {
+    let scratch = Scratch::new("pipes");
+    for (from, input) in NIGHT {
+        for (to, bytes) in NIGHT {
+            let words = format!("convert --fields fields --from {from} --to {to}");
+            assert_eq!(scratch.run_with(&words, input), Said::good(bytes), "{words}");
+            assert_eq!(scratch.run_with(&format!("{words} - -o -"), input), Said::good(bytes), "{words} - -o -");
+        }
+    }
+    let words = "convert --fields - --from binary --to binary2 night.binary";
+    assert_eq!(scratch.run_with(words, FIELDS.as_bytes()), Said::good(BINARY2), "fields from a pipe");
+    assert_eq!(scratch.run_with("convert --fields fields --from binary --to binary2", b""), Said::good(b""), "no rows");
+}
+
+#[test]
+fn options_in_every_spelling() {
+    let scratch = Scratch::new("spellings");
+    scratch.put("-odd", TABLEDATA);
+    let spellings = [
+        "convert night.tabledata --fields fields --from tabledata --to binary2",
+        "convert --to=binary2 night.tabledata --from=tabledata --fields=fields",
+        "convert --to BINARY2 --from TableData --fields fields -- night.tabledata",
+        "convert --to binary2 --from tabledata --fields fields -- -odd",
+        "convert --to binary2 --from tabledata --fields fields ./night.tabledata --output=-",
+    ];
+    for words in spellings {
+        assert_eq!(scratch.run(words), Said::good(BINARY2), "{words}");
+    }
+    let outputs = ["-o out", "-oout", "--output out", "--output=out", "-o ./out"];
+    for output in outputs {
+        let words = format!("convert {output} --fields fields --from tabledata --to binary2 night.tabledata");
+        assert_eq!(scratch.run(&words), Said::good(b""), "{words}");
+        assert_eq!(scratch.get("out"), BINARY2, "{words}");
+        fs::remove_file(scratch.path("out")).expect("it was written");
+    }
+}
+
+#[test]
+fn wrong_usage_is_said_in_a_line() {
+    let scratch = Scratch::new("usage");
+    let all = "convert --fields fields --from binary --to binary2";
+    let wrong = [
+        (String::new(), "say what to do: convert, base64 or explain"),
+        ("--hlep".into(), "unknown option '--hlep'"),
+        ("konvert".into(), "unknown command 'konvert'; there are convert, base64 and explain"),
+        ("convert --fields fields night.binary".into(), "convert needs --from KIND and --to KIND as well"),
+        ("convert --to binary --from binary".into(), "convert needs --fields FILE as well"),
+        ("convert --fields fields --from fits --to binary".into(), "--from takes tabledata, binary or binary2, not 'fits'"),
+        ("convert --fields fields --from binary --to=".into(), "--to needs a value"),
+        (format!("{all} --form binary"), "unknown option '--form' for convert"),
+        (format!("{all} -x"), "unknown option '-x' for convert"),
+        (format!("{all} --to binary"), "--to is given twice"),
+        (format!("{all} --base64-in=yes"), "--base64-in takes no value"),
+        (format!("{all} night.binary -o"), "--output needs a value"),
+        (format!("{all} night.binary --output="), "--output needs a value"),
+        (format!("{all} night.binary other"), "one INPUT at most, and 'other' is a second"),
+        ("convert --fields - --from binary --to binary2".into(), "the fields and the rows cannot both come from standard input"),
+        (
+            "convert --fields fields --from tabledata --to binary --base64-in".into(),
+            "--base64-in is for BINARY and BINARY2: TABLEDATA stands in a VOTable as it is",
+        ),
+        (
+            "convert --fields fields --from binary --to tabledata --base64-out".into(),
+            "--base64-out is for BINARY and BINARY2: TABLEDATA stands in a VOTable as it is",
+        ),
+        ("base64".into(), "say which: base64 encode or base64 decode"),
+        ("base64 recode".into(), "base64 can encode and decode, not 'recode'"),
+        ("base64 encode --from binary".into(), "unknown option '--from' for base64"),
+        ("explain eight".into(), "there is no refusal 'eight': they are 1 to 17"),
+        ("explain 18".into(), "there is no refusal '18': they are 1 to 17"),
+        ("explain 0".into(), "there is no refusal '0': they are 1 to 17"),
+        ("explain 1 2".into(), "explain takes one number at most"),
+    ];
+    for (words, line) in wrong {
+        let err = format!("sailmortar: {line}\nTry 'sailmortar --help'.\n");
+        assert_eq!(scratch.run(&words), Said { status: 2, out: vec![], err }, "{words}");
+    }
+}
+
+#[test]
+fn help_fits_a_screen() {
+    let scratch = Scratch::new("help");
+    let help = scratch.run("--help");
+    let text = String::from_utf8(help.out.clone()).expect("help is text");
+    assert!(help.status == 0 && help.err.is_empty() && text.lines().count() <= 24, "{text}");
+    assert!(text.lines().all(|line| line.chars().count() < 80), "{text}");
+    for word in ["--fields", "--from", "--to", "--base64-in", "--base64-out", "--output", "--version", "explain", "Exit status"] {
+        assert!(text.contains(word), "{word}");
+    }
+    for words in ["-h", "convert --help", "convert --fields x -h", "base64 encode --help", "explain -h"] {
+        assert_eq!(scratch.run(words), help, "{words}");
+    }
+    let version = format!("sailmortar {}\n", env!("CARGO_PKG_VERSION"));
+    for words in ["--version", "-V", "convert -V"] {
+        assert_eq!(scratch.run(words), Said::good(version.as_bytes()), "{words}");
+    }
+}
+
+#[test]
+fn explain_says_what_each_refusal_means() {
+    let scratch = Scratch::new("explain");
+    let list = String::from_utf8(scratch.run("explain").out).expect("text");
+    for number in 1..=17 {
+        let meaning = sailmortar::meaning(number).expect("it has a meaning");
+        assert!(list.contains(&format!("{number:2}  {meaning}\n")), "{list}");
+        let said = scratch.run(&format!("explain {number}"));
+        let text = String::from_utf8(said.out).expect("text");
+        assert_eq!((said.status, said.err.as_str()), (0, ""));
+        assert!(text.starts_with(&format!("refusal {number}: {meaning}\n\n")), "{text}");
+        assert!(text.lines().count() >= 4 && text.lines().skip(1).all(|line| line.chars().count() < 80), "{text}");
+    }
+}
+
+#[test]
+fn the_man_page_has_every_option_and_every_meaning() {
+    let page = include_str!("../../man/sailmortar.1").replace("\\-", "-");
+    for option in ["--fields", "--from", "--to", "--base64-in", "--base64-out", "--output", "--help", "--version"] {
+        assert!(page.contains(option), "{option}");
+    }
+    for number in 1..=17 {
+        assert!(page.contains(&format!("\n{number}\n{}\n", sailmortar::meaning(number).expect("a meaning"))), "{number}");
+    }
+    assert!(page.contains(&format!("\"sailmortar {}\"", env!("CARGO_PKG_VERSION"))));
+}
+
+#[test]
+fn a_refused_row_is_named_and_the_good_rows_are_written() {
+    let scratch = Scratch::new("refused");
+    let first = b"<TR><TD>7</TD><TD>a&amp;b</TD><TD>T</TD></TR>\n";
+    scratch.put("cut", &BINARY2[..13]);
+    let place = |stand: &str| {
+        [
+            "cut: refusal 8 at row 1, column 1 (note): the BINARY or BINARY2 stream ends inside a row".to_string(),
+            stand.to_string(),
+            "rows and columns count from 0; row 1 begins at byte 8; 'sailmortar explain 8' says more".to_string(),
+        ]
+    };
+    let to_file = place("the 1 row before it is written to out");
+    let said = scratch.run("convert --fields fields --from binary2 --to tabledata cut -o out");
+    assert_eq!(said, Said::refused(b"", &to_file.each_ref().map(String::as_str)));
+    assert_eq!(scratch.get("out"), first);
+    let to_standard = place("the 1 row before it is written to standard output");
+    let said = scratch.run("convert --fields fields --from binary2 --to tabledata cut");
+    assert_eq!(said, Said::refused(first, &to_standard.each_ref().map(String::as_str)));
+    assert_eq!(scratch.parts(), [""; 0]);
+}
+
+#[test]
+fn a_refused_row_of_text_is_named_by_its_line() {
+    let scratch = Scratch::new("refused_text");
+    let text = "\n<TR><TD>7</TD><TD>fog</TD><TD>T</TD></TR>\n<TR><TD>8</TD>\n<TD>fog</TD><TD>F</TD></TR>\n\n\
+        \x20 <TR><TD>8</TD><TD>fog</TD><TD>maybe</TD></TR>";
+    let said = scratch.run_with("convert --fields fields --from tabledata --to binary -o out", text.as_bytes());
+    let lines = [
+        "standard input: refusal 11 at row 2, column 2: a byte or a text that is no value of its kind",
+        "the 2 rows before it are written to out",
+        "rows and columns count from 0; row 2 begins in line 6, at byte 89; 'sailmortar explain 11' says more",
+    ];
+    assert_eq!(said, Said::refused(b"", &lines));
+    assert_eq!(scratch.get("out"), b"\x00\x07fog\x00T\x00\x08fog\x00F");
+}
+
+#[test]
+fn a_refused_first_row_leaves_an_empty_output() {
+    let scratch = Scratch::new("refused_first");
+    scratch.put("out", b"yesterday");
+    let said = scratch.run_with("convert --fields fields --from tabledata --to binary -o out", b"<TR><TD>7</TD><TD/><TD/><TD/></TR>");
+    let lines = [
+        "standard input: refusal 10 at row 0, column 3 (after the last cell): \
+         TABLEDATA tags or references are broken, or the number of cells is wrong",
+        "no row stands before it",
+        "rows and columns count from 0; row 0 begins in line 1, at byte 0; 'sailmortar explain 10' says more",
+    ];
+    assert_eq!(said, Said::refused(b"", &lines));
+    assert_eq!(scratch.get("out"), b"");
+}
+
+#[test]
+fn names_that_a_terminal_would_act_on_are_spelt_out() {
+    let scratch = Scratch::new("names");
+    let long = "x".repeat(100);
+    scratch.put("odd", format!("<FIELD datatype='int' name='\x1b[2Jsky'/><FIELD datatype='int' name='{long}'/>").as_bytes());
+    let line = |input: &[u8]| scratch.run_with("convert --fields odd --from binary --to tabledata", input).err;
+    assert!(line(b"abc").contains("column 0 (\\u{1b}[2Jsky): "), "{}", line(b"abc"));
+    assert!(line(b"abcdef").contains(&format!("column 1 ({}..): ", &long[..60])), "{}", line(b"abcdef"));
+}
+
+#[test]
+fn refused_declarations_leave_the_output_as_it_was() {
+    let scratch = Scratch::new("declarations");
+    let columns = |count: usize| "<FIELD datatype='int'/>".repeat(count);
+    let over = format!("{}{}", columns(1), " ".repeat(65_537 - columns(1).len()));
+    let refused = [
+        (
+            "<FIELD/>",
+            "refusal 1 at the element after 0 whole FIELDs: the declarations are not FIELD elements of the shape that is carried",
+            1,
+        ),
+        (
+            "<FIELD datatype='int'/><FIELD datatype='float'/>",
+            "refusal 2 at the element after 1 whole FIELD: a datatype that is not carried",
+            2,
+        ),
+        (
+            "<FIELD datatype='int' arraysize='0'/>",
+            "refusal 3 at the element after 0 whole FIELDs: an arraysize that is not n, n* or * (n from 1 to 4096)",
+            3,
+        ),
+        (
+            "<FIELD datatype='short'><VALUES null='32768'/></FIELD>",
+            "refusal 4 at the element after 0 whole FIELDs: a declared null that is not a value of its column",
+            4,
+        ),
+        ("", "refusal 5 at the element after 0 whole FIELDs: no column at all, or a 65th", 5),
+        (&columns(65), "refusal 5 at the element after 64 whole FIELDs: no column at all, or a 65th", 5),
+        (&over, "refusal 6: the declarations are over 65536 bytes", 6),
+    ];
+    for (decls, line, number) in refused {
+        scratch.put("bad.fields", decls.as_bytes());
+        scratch.put("out", b"yesterday");
+        let said = scratch.run("convert --fields bad.fields --from binary --to tabledata night.binary -o out");
+        let nothing = format!("no row was read and nothing is written; 'sailmortar explain {number}' says more");
+        assert_eq!(said, Said::refused(b"", &[&format!("bad.fields: {line}"), &nothing]));
+        assert_eq!((scratch.get("out"), scratch.parts()), (b"yesterday".to_vec(), vec![]));
+    }
+}
+
+#[test]
+fn declarations_of_just_their_size_are_read() {
+    let scratch = Scratch::new("most_declarations");
+    let field = "<FIELD datatype='int'/>";
+    scratch.put("most.fields", format!("{field}{}", " ".repeat(65_536 - field.len())).as_bytes());
+    assert_eq!(scratch.run_with("convert --fields most.fields --from binary --to binary2", &[1, 2, 3, 4]), Said::good(&[0, 1, 2, 3, 4]));
+}
+
+#[test]
+fn an_input_over_its_size_writes_nothing() {
+    let scratch = Scratch::new("over");
+    // A file with a hole: a byte too many, and next to no disk.
+    File::create(scratch.path("long")).and_then(|file| file.set_len((1 << 30) + 1)).expect("a long file");
+    let nothing = "no row was read and nothing is written; 'sailmortar explain 6' says more";
+    let line = "the input is over 1073741824 bytes (1 GiB)";
+    let runs = [
+        ("convert --fields fields --from binary --to tabledata long -o out", "refusal 6"),
+        ("convert --fields fields --from binary --to tabledata --base64-in long -o out", "refusal 6 in the base64 step"),
+        ("base64 encode long -o out", "refusal 6"),
+        ("base64 decode long -o out", "refusal 6 in the base64 step"),
+    ];
+    for (words, refusal) in runs {
+        assert_eq!(scratch.run(words), Said::refused(b"", &[&format!("long: {refusal}: {line}"), nothing]), "{words}");
+        assert!(!scratch.has("out") && scratch.parts().is_empty());
+    }
+}
+
+#[test]
+fn base64_encodes_and_decodes() {
+    let scratch = Scratch::new("base64");
+    for (bytes, letters) in [("", ""), ("f", "Zg=="), ("fo", "Zm8="), ("foo", "Zm9v"), ("foobar", "Zm9vYmFy")] {
+        assert_eq!(scratch.run_with("base64 encode", bytes.as_bytes()), Said::good(letters.as_bytes()));
+        assert_eq!(scratch.run_with("base64 decode -", letters.as_bytes()), Said::good(bytes.as_bytes()));
+    }
+    assert_eq!(scratch.run_with("base64 decode -o out", b" Z\nm9v\r\n\tYg = =\n"), Said::good(b""));
+    assert_eq!(scratch.get("out"), b"foob");
+    let lines = [
+        "standard input: refusal 7 in the base64 step: the base64 is not valid",
+        "no row was read and nothing is written; 'sailmortar explain 7' says more",
+    ];
+    assert_eq!(scratch.run_with("base64 decode -o out", b"Zg=="), Said::good(b""));
+    assert_eq!(scratch.run_with("base64 decode -o out", b"Zh=="), Said::refused(b"", &lines));
+    assert_eq!((scratch.get("out"), scratch.parts()), (b"f".to_vec(), vec![]));
+}
+
+#[test]
+fn streams_as_they_stand_in_a_votable() {
+    let scratch = Scratch::new("streams");
+    let (binary, binary2) = ("AAdhJmIAVP+dZHVzaz8=", "AAAHYSZiAFSgAABkdXNrAA==");
+    let words = "convert --fields fields --from tabledata --base64-out night.tabledata --to";
+    assert_eq!(scratch.run(&format!("{words} binary")), Said::good(binary.as_bytes()));
+    assert_eq!(scratch.run(&format!("{words} binary2")), Said::good(binary2.as_bytes()));
+    scratch.put("stream", format!("\n  {}\n  {}\n", &binary2[..9], &binary2[9..]).as_bytes());
+    let words = "convert --fields fields --base64-in --from binary2 stream --to";
+    assert_eq!(scratch.run(&format!("{words} tabledata")), Said::good(TABLEDATA));
+    assert_eq!(scratch.run(&format!("{words} binary --base64-out")), Said::good(binary.as_bytes()));
+}
+
+#[test]
+fn refusals_behind_base64_say_which_step() {
+    let scratch = Scratch::new("streams_refused");
+    scratch.put("out", b"yesterday");
+    scratch.put("broken", b"AAAHYSZiAFSgAABkdXNrAA=");
+    let said = scratch.run("convert --fields fields --base64-in --from binary2 --to tabledata broken -o out");
+    let lines = [
+        "broken: refusal 7 in the base64 step: the base64 is not valid",
+        "no row was read and nothing is written; 'sailmortar explain 7' says more",
+    ];
+    assert_eq!(said, Said::refused(b"", &lines));
+    assert_eq!((scratch.get("out"), scratch.parts()), (b"yesterday".to_vec(), vec![]));
+    // Whole base64 of a stream that was cut before it was encoded: the first row, and its base64, stand.
+    scratch.put("cut", b"AAAHYSZiAFSgAABkdXNr");
+    let said = scratch.run("convert --fields fields --base64-in --base64-out --from binary2 --to binary cut");
+    let lines = [
+        "cut: refusal 8 at row 1, column 2: the BINARY or BINARY2 stream ends inside a row",
+        "the 1 row before it is written to standard output",
+        "rows and columns count from 0; row 1 begins at byte 8 of the decoded stream; 'sailmortar explain 8' says more",
+    ];
+    assert_eq!(said, Said::refused(b"AAdhJmIAVA==", &lines));
+}
+
+#[test]
+fn an_output_of_several_pieces_is_whole() {
+    let scratch = Scratch::new("pieces");
+    scratch.put("byte", b"<FIELD datatype='unsignedByte'/>");
+    let count = 20_000_000;
+    let mut input = vec![200; count];
+    input.push(7);
+    scratch.put("long", &input[..count / 4]);
+    assert_eq!(scratch.run("convert --fields byte --from binary --to tabledata long -o out"), Said::good(b""));
+    assert!(scratch.get("out") == b"<TR><TD>200</TD></TR>\n".repeat(count / 4), "text in four pieces");
+    scratch.put("long", &input);
+    assert_eq!(scratch.run("convert --fields byte --from binary --to binary2 --base64-out long -o out"), Said::good(b""));
+    // Three rows are 00 C8 00, C8 00 C8, and so eight letters; the last three rows are 200, 200, 7.
+    let letters = [b"AMgAyADI".repeat(count / 3), b"AMgAyAAH".to_vec()].concat();
+    assert!(scratch.get("out") == letters, "base64 in two pieces");
+}
+
+#[test]
+fn files_that_are_not_there_are_named() {
+    let scratch = Scratch::new("missing");
+    fs::create_dir(scratch.path("folder")).expect("a folder");
+    let words = "convert --from binary --to tabledata";
+    let troubles = [
+        (format!("{words} --fields nowhere night.binary -o out"), "nowhere: No such file or directory"),
+        (format!("{words} --fields folder night.binary -o out"), "folder: Is a directory"),
+        (format!("{words} --fields fields nowhere -o out"), "nowhere: No such file or directory"),
+        (format!("{words} --fields fields folder -o out"), "folder: Is a directory"),
+        (format!("{words} --fields fields night.binary/x -o out"), "night.binary/x: Not a directory"),
+        (format!("{words} --fields fields night.binary -o nowhere/out"), "nowhere/out: No such file or directory"),
+        (format!("{words} --fields fields night.binary -o folder"), "folder: Is a directory"),
+        ("base64 encode nowhere -o out".into(), "nowhere: No such file or directory"),
+        ("base64 decode folder -o out".into(), "folder: Is a directory"),
+    ];
+    for (words, line) in troubles {
+        assert_eq!(scratch.run(&words), Said::trouble(line), "{words}");
+        assert!(!scratch.has("out") && scratch.parts().is_empty(), "{words}");
+    }
+}
+
+#[test]
+fn a_full_device_is_named() {
+    let scratch = Scratch::new("full");
+    // Not by -o: should the program ever move a file over a device, a test run by root must not be what shows it.
+    let words = "convert --fields fields --from binary --to tabledata night.binary";
+    for words in [words, "--help", "explain 3", "base64 encode night.binary"] {
+        let full = File::options().write(true).open("/dev/full").expect("the device");
+        let said = Said::of(scratch.command(words).stdout(full).output().expect("the program runs"));
+        assert_eq!(said, Said::trouble("standard output: No space left on device"), "{words}");
+    }
+}
+
+#[test]
+fn a_reader_that_goes_away_ends_the_run_quietly() {
+    let scratch = Scratch::new("closed_pipe");
+    scratch.put("byte", b"<FIELD datatype='unsignedByte'/>");
+    scratch.put("long", &[1; 1 << 20]);
+    let mut child = scratch.spawn("convert --fields byte --from binary --to tabledata long");
+    let mut start = [0; 20];
+    child.stdout.take().expect("a pipe").read_exact(&mut start).expect("the first row");
+    assert_eq!(&start, b"<TR><TD>1</TD></TR>\n");
+    assert_eq!(Said::of(child.wait_with_output().expect("it ends")), Said { status: 3, out: vec![], err: String::new() });
+}
+
+#[test]
+fn a_killed_run_leaves_the_output_as_it_was() {
+    let scratch = Scratch::new("killed");
+    scratch.put("out", b"yesterday");
+    let mut child = scratch.spawn("convert --fields fields --from binary --to tabledata -o out");
+    let mut stdin = child.stdin.take().expect("a pipe");
+    stdin.write_all(BINARY).expect("it reads");
+    let waited = Instant::now();
+    while scratch.parts().is_empty() {
+        assert!(waited.elapsed() < Duration::from_secs(60), "it opens its output before it has all of its input");
+        thread::sleep(Duration::from_millis(5));
+    }
+    child.kill().expect("it runs");
+    child.wait().expect("it is gone");
+    assert_eq!(scratch.get("out"), b"yesterday");
+    // What the killed run left is in no one's way.
+    assert_eq!(scratch.run("convert --fields fields --from binary --to tabledata night.binary -o out"), Said::good(b""));
+    assert_eq!(scratch.get("out"), TABLEDATA);
+}
+
+#[test]
+fn a_disk_that_is_full_leaves_the_output_as_it_was() {
+    let scratch = Scratch::new("full_disk");
+    scratch.put("byte", b"<FIELD datatype='unsignedByte'/>");
+    scratch.put("long", &[1; 1 << 20]);
+    scratch.put("out", b"yesterday");
+    // A file may have 8 blocks of 512 bytes here, and the signal about it is ignored, so that writing fails as on a full disk.
+    let script = format!("trap '' XFSZ; ulimit -f 8; exec {PROGRAM} convert --fields byte --from binary --to tabledata long -o out");
+    let output = Command::new("sh").args(["-c", &script]).current_dir(&scratch.0).output().expect("sh runs");
+    assert_eq!(Said::of(output), Said::trouble("out: File too large"));
+    assert_eq!((scratch.get("out"), scratch.parts()), (b"yesterday".to_vec(), vec![]));
+}
+
+#[test]
+fn the_output_may_be_the_input() {
+    let scratch = Scratch::new("in_place");
+    assert_eq!(scratch.run("convert --fields fields --from binary --to tabledata night.binary -o night.binary"), Said::good(b""));
+    assert_eq!(scratch.get("night.binary"), TABLEDATA);
+}
+
+#[test]
+fn the_output_has_the_permissions_of_a_plain_file() {
+    let scratch = Scratch::new("permissions");
+    let mode = |name: &str| fs::metadata(scratch.path(name)).expect("it is there").permissions().mode() & 0o7777;
+    let convert = |output: &str| {
+        let words = format!("convert --fields fields --from binary --to tabledata night.binary -o {output}");
+        assert_eq!(scratch.run(&words), Said::good(b""));
+        assert_eq!(scratch.get(output), TABLEDATA);
+    };
+    scratch.put("plain", b"");
+    convert("new");
+    assert_eq!(mode("new"), mode("plain"));
+    scratch.put("old", b"yesterday");
+    fs::set_permissions(scratch.path("old"), fs::Permissions::from_mode(0o640)).expect("it is ours");
+    convert("old");
+    assert_eq!(mode("old"), 0o640);
+    symlink("old", scratch.path("link")).expect("a link");
+    scratch.put("old", b"yesterday");
+    convert("link");
+    assert!(fs::symlink_metadata(scratch.path("link")).expect("it is there").is_symlink(), "the link stays a link");
+    assert_eq!(scratch.get("old"), TABLEDATA);
+}
+
+#[test]
+fn a_pipe_with_a_name_is_written_to_as_it_is() {
+    let scratch = Scratch::new("named_pipe");
+    let made = Command::new("mkfifo").arg(scratch.path("pipe")).status().expect("mkfifo runs");
+    assert!(made.success());
+    let path = scratch.path("pipe");
+    let reader = thread::spawn(move || fs::read(path).expect("a pipe to read"));
+    assert_eq!(scratch.run("convert --fields fields --from binary --to tabledata night.binary -o pipe"), Said::good(b""));
+    assert_eq!(reader.join().expect("the reader ends"), TABLEDATA);
+    assert!(fs::metadata(scratch.path("pipe")).expect("it is there").file_type().is_fifo());
+}
+
+/// Feeds more than a chunk, waits for more than a second, and feeds the rest.
+const SLOW: &str = "
+import os, pty, subprocess, sys, threading, time
+terminal, side = pty.openpty()
+run = subprocess.Popen(sys.argv[1:], stdin=subprocess.PIPE, stdout=subprocess.DEVNULL, stderr=side)
+os.close(side)
+def feed():
+    for _ in range(3):
+        run.stdin.write(bytes(5 << 20))
+        run.stdin.flush()
+        time.sleep(1.1)
+    run.stdin.write(b'cut')
+    run.stdin.close()
+feeder = threading.Thread(target=feed)
+feeder.start()
+said = b''
+while True:
+    try:
+        more = os.read(terminal, 4096)
+    except OSError:
+        break
+    if not more:
+        break
+    said += more
+feeder.join()
+sys.stdout.buffer.write(said)
+sys.exit(run.wait())
+";
+
+#[test]
+fn progress_is_shown_at_a_terminal_and_wiped() {
+    let scratch = Scratch::new("progress");
+    scratch.put("int", b"<FIELD datatype='int' name='n'/>");
+    let mut python = Command::new("python3");
+    python.args(["-c", SLOW, PROGRAM]).args(["convert", "--fields", "int", "--from", "binary", "--to", "binary2"]);
+    let output = python.current_dir(&scratch.0).output().expect("python3 runs");
+    let said = String::from_utf8(output.stdout).expect("text");
+    let (drawn, message) = said.rsplit_once("\r\x1b[K").expect("it is wiped");
+    assert!(drawn.contains("\r\x1b[Ksailmortar: 8 MB read"), "{said:?}");
+    assert!(message.starts_with("sailmortar: standard input: refusal 8 at row 3932160, column 0 (n): "), "{said:?}");
+    assert_eq!(output.status.code(), Some(1));
+}
+
+#[test]
+fn no_progress_is_shown_where_there_is_no_terminal() {
+    let scratch = Scratch::new("no_progress");
+    let mut child = scratch.spawn("base64 encode -o out");
+    let mut stdin = child.stdin.take().expect("a pipe");
+    stdin.write_all(&[0; 5 << 20]).expect("it reads");
+    thread::sleep(Duration::from_millis(1200));
+    stdin.write_all(&[0; 5 << 20]).expect("it reads");
+    drop(stdin);
+    assert_eq!(Said::of(child.wait_with_output().expect("it ends")), Said::good(b""));
+}

@@ -1,0 +1,59 @@
+//! Damage: what loggers, disks and hands do to good input.
+
+use super::Random;
+
+/// Bytes that mean something somewhere in the rules, or nearly do.
+pub const TELLING: &[u8] = b"<>/&;#xX=\"'*+-.?0179TFtfADRS \t\n\r\x00\x01\x0b\x7f\x80\xff";
+
+/// One to three changes, most often one.
+pub fn damaged(random: &mut Random, good: &[u8]) -> Vec<u8> {
+    let mut bytes = good.to_vec();
+    for _ in 0..random.pick(&[1, 1, 1, 2, 3]) {
+        change(random, &mut bytes);
+    }
+    bytes
+}
+
+fn change(random: &mut Random, bytes: &mut Vec<u8>) {
+    if bytes.is_empty() {
+        return bytes.push(random.pick(TELLING));
+    }
+    let at = random.below(bytes.len());
+    let other = random.below(bytes.len());
+    let longest = random.pick(&[4, 12, 40]);
+    match random.below(9) {
+        0 => bytes[at] ^= 1 << random.below(8),
+        1 => bytes[at] = random.pick(TELLING),
+        2 => bytes[at] = random.next() as u8,
+        3 => bytes.insert(at, random.pick(TELLING)),
+        4 => bytes.insert(at, bytes[at]),
+        5 => drop(bytes.remove(at)),
+        6 => bytes.swap(at, other),
+        7 => bytes.truncate(at),
+        _ => {
+            let piece = bytes[at..bytes.len().min(at + 1 + random.below(longest))].to_vec();
+            bytes.splice(other..other, piece);
+        }
+    }
+}
+
+/// Every text that comes of dropping one piece, or of putting one a second time, or instead, in another place.
+pub fn rearranged(pieces: &[&str]) -> Vec<String> {
+    let mut texts = Vec::new();
+    for (from, piece) in pieces.iter().enumerate() {
+        let mut without = pieces.to_vec();
+        without.remove(from);
+        texts.push(without.concat());
+        for to in 0..=pieces.len() {
+            let mut twice = pieces.to_vec();
+            twice.insert(to, piece);
+            texts.push(twice.concat());
+        }
+        for to in 0..without.len() {
+            let mut moved = without.clone();
+            moved.insert(to, piece);
+            texts.push(moved.concat());
+        }
+    }
+    texts
+}

@@ -1,0 +1,105 @@
+//! include/sailmortar.h by C programs: the example, every function and number, and the header as C++.
+
+use std::fs;
+use std::path::{Path, PathBuf};
+use std::process::Command;
+
+const ROOT: &str = env!("CARGO_MANIFEST_DIR");
+
+/// Compiles with every warning an error, against the header and the archive.
+fn compile(compiler: &str, words: &[&str], source: &Path, program: &Path) {
+    let mut command = Command::new(compiler);
+    command.args(words).args(["-Wall", "-Wextra", "-Wpedantic", "-Wconversion", "-Werror", "-I"]).arg(Path::new(ROOT).join("include"));
+    command.arg(source).arg(Path::new(ROOT).join("target/staticlib/libsailmortar.a")).arg("-o").arg(program);
+    let output = command.output().unwrap_or_else(|cause| panic!("{compiler}: {cause}"));
+    assert!(output.status.success(), "{}", String::from_utf8_lossy(&output.stderr));
+}
+
+fn scratch(name: &str) -> PathBuf {
+    let folder = Path::new(env!("CARGO_TARGET_TMPDIR")).join("header");
+    fs::create_dir_all(&folder).expect("a scratch folder");
+    folder.join(name)
+}
+
+#[test]
+fn the_example_runs() {
+    let program = scratch("night");
+    compile("cc", &["-std=c99"], &Path::new(ROOT).join("examples/night.c"), &program);
+    let output = Command::new(&program).output().expect("it runs");
+    let said = "columns 3\n\
+        number 0, row 0, column 0, rows 2, bytes 16\n\
+        AAAHYSZiAFSgAABkdXNrAA==\n\
+        number 0, row 0, column 0, rows 2, bytes 79\n\
+        <TR><TD>7</TD><TD>a&amp;b</TD><TD>T</TD></TR>\n\
+        <TR><TD/><TD>dusk</TD><TD/></TR>\n\
+        number 8, row 1, column 2, rows 1, bytes 46\n\
+        <TR><TD>7</TD><TD>a&amp;b</TD><TD>T</TD></TR>\n";
+    assert_eq!(String::from_utf8_lossy(&output.stdout), said);
+    assert!(output.status.success());
+}
+
+/// Each function once more, where it refuses, and every name of the header; the program's status is the line that is wrong.
+const CASES: &str = r#"
+#include "sailmortar.h"
+#include <string.h>
+#define IS(number, row, column, rows, bytes) \
+    if (answer[0] != (number) || answer[1] != (row) || answer[2] != (column) || answer[3] != (rows) || answer[4] != (bytes)) return __LINE__
+#define TEXT(text) (const uint8_t *)(text), strlen(text)
+int main(void) {
+    uint8_t out[8];
+    uint64_t answer[5];
+    memset(out, 0xEE, sizeof out);
+    sailmortar_convert(TEXT("<FIELD datatype='int'/>"), 3, SAILMORTAR_BINARY, TEXT(""), out, 8, answer);
+    IS(SAILMORTAR_NO_SUCH_KIND, 0, 0, 0, 0);
+    sailmortar_convert(TEXT(""), 0, 4294967295u, TEXT(""), out, 8, answer);
+    IS(255, 0, 0, 0, 0);
+    sailmortar_convert(TEXT("<FIELD datatype='short'/>"), SAILMORTAR_TABLEDATA, SAILMORTAR_BINARY,
+                       TEXT("<TR><TD>7</TD></TR><TR><TD/></TR>"), out, 8, answer);
+    IS(SAILMORTAR_NULL_HAS_NO_FORM, 1, 0, 1, 2);
+    if (out[0] != 0 || out[1] != 7 || out[2] != 0xEE || out[7] != 0xEE) return __LINE__;
+    sailmortar_base64_decode(TEXT("Zh=="), out, 8, answer);
+    IS(SAILMORTAR_BASE64_NOT_VALID, 0, 0, 0, 0);
+    sailmortar_base64_decode(TEXT("Zm9v"), out, 2, answer);
+    IS(SAILMORTAR_NO_ROOM, 0, 0, 0, 0);
+    sailmortar_base64_decode(TEXT("Zm9v"), out, 3, answer);
+    IS(SAILMORTAR_ACCEPTED, 0, 0, 0, 3);
+    if (memcmp(out, "foo\xEE", 4) != 0) return __LINE__;
+    sailmortar_base64_encode(TEXT("fo"), out, 4, answer);
+    IS(0, 0, 0, 0, 4);
+    if (memcmp(out, "Zm8=\xEE", 5) != 0) return __LINE__;
+    sailmortar_declare(TEXT("<FIELD datatype='int'/><FIELD datatype='int'/>"), answer);
+    IS(0, 0, 0, 2, 0);
+    sailmortar_declare(TEXT("<FIELD datatype='int'/><FIELD datatype='real'/>"), answer);
+    IS(SAILMORTAR_DATATYPE_NOT_CARRIED, 0, 1, 0, 0);
+    if (answer[SAILMORTAR_PLACE] != 1 || answer[SAILMORTAR_COLUMNS] != 0) return __LINE__;
+    if (SAILMORTAR_NUMBER != 0 || SAILMORTAR_ROW != 1 || SAILMORTAR_COLUMN != 2 || SAILMORTAR_ROWS != 3 || SAILMORTAR_BYTES != 4) return __LINE__;
+    if (SAILMORTAR_DECLARATIONS_BROKEN != 1 || SAILMORTAR_ARRAYSIZE_NOT_CARRIED != 3 || SAILMORTAR_NULL_NO_VALUE != 4) return __LINE__;
+    if (SAILMORTAR_COLUMNS_OUT_OF_RANGE != 5 || SAILMORTAR_INPUT_OVER_SIZE != 6 || SAILMORTAR_STREAM_ENDS != 8) return __LINE__;
+    if (SAILMORTAR_COUNT_OVER_BOUND != 9 || SAILMORTAR_TABLEDATA_BROKEN != 10 || SAILMORTAR_NO_VALUE != 11) return __LINE__;
+    if (SAILMORTAR_WRONG_LENGTH != 12 || SAILMORTAR_PADDING_NOT_ZERO != 13 || SAILMORTAR_EMPTY_HAS_NO_FORM != 14) return __LINE__;
+    if (SAILMORTAR_CHARACTER_HAS_NO_FORM != 16 || SAILMORTAR_BINARY2 != 2) return __LINE__;
+    return 0;
+}
+"#;
+
+fn run_cases(compiler: &str, words: &[&str], source: &str) {
+    let (source, program) = (scratch(source), scratch(&format!("{source}.program")));
+    fs::write(&source, CASES).expect("a scratch file");
+    compile(compiler, words, &source, &program);
+    let status = Command::new(&program).status().expect("it runs");
+    assert_eq!(status.code(), Some(0), "the status is the line that is wrong");
+}
+
+#[test]
+fn every_function_and_number_from_c() {
+    run_cases("cc", &["-std=c99"], "cases.c");
+}
+
+#[test]
+fn every_function_and_number_from_cplusplus() {
+    if Command::new("c++").arg("--version").output().is_err() {
+        eprintln!("there is no c++ here: not run");
+        return;
+    }
+    run_cases("c++", &[], "cases.cc");
+}
