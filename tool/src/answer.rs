@@ -1,9 +1,14 @@
-//! What comes back: kinds of rows, answers, and refusals with what they mean.
+//! What comes back: kinds of rows, what was done, and refusals with what they mean.
 
+use std::collections::TryReserveError;
 use std::fmt;
+use std::io;
+
+use crate::numbers::meaning;
 
 /// A kind of rows.
 #[derive(Clone, Copy, Debug, PartialEq, Eq)]
+#[non_exhaustive]
 pub enum Rows {
     /// Text: TR and TD elements.
     TableData,
@@ -14,8 +19,8 @@ pub enum Rows {
 }
 
 impl Rows {
-    /// All three, in the order of their numbers.
-    pub const ALL: [Rows; 3] = [Rows::TableData, Rows::Binary, Rows::Binary2];
+    /// All of them, in the order of their numbers.
+    pub const ALL: &'static [Rows] = &[Rows::TableData, Rows::Binary, Rows::Binary2];
 
     pub(crate) fn number(self) -> u32 {
         match self {
@@ -27,7 +32,7 @@ impl Rows {
 
     /// The kind of this name (`tabledata`, `binary` or `binary2`, in any capitals).
     pub fn named(name: &str) -> Option<Rows> {
-        Rows::ALL.into_iter().find(|rows| rows.name().eq_ignore_ascii_case(name))
+        Rows::ALL.iter().copied().find(|rows| rows.name().eq_ignore_ascii_case(name))
     }
 
     /// The name as VOTable writes it.
@@ -46,68 +51,44 @@ impl fmt::Display for Rows {
     }
 }
 
-/// The answer of a conversion or a base64 step.
+/// All that was given is accepted and written.
 #[derive(Clone, Copy, Debug, PartialEq, Eq, Default)]
-pub struct Answer {
-    /// 0 for accepted, else the refusal's number.
+#[non_exhaustive]
+pub struct Done {
+    /// How many rows were read and written; 0 for a base64 step.
+    pub rows: u64,
+    /// How many bytes were written; every byte of a lent buffer after them is as it was.
+    pub bytes: u64,
+}
+
+/// Why and where a call stopped, and what stands before that.
+#[derive(Clone, Copy, Debug, PartialEq, Eq)]
+#[non_exhaustive]
+pub struct Refused {
+    /// The refusal's number; [`NUMBERS`](crate::NUMBERS) has them all.
     pub number: u64,
     /// The refused row, from 0.
     pub row: u64,
     /// The refused column, from 0; for refusals 1 to 5 the number of whole FIELDs before the refused element.
     pub column: u64,
-    /// How many rows stand whole in the output.
+    /// How many rows before the refused one are written whole.
     pub rows: u64,
-    /// How many bytes were written; every byte after them is as it was.
+    /// How many bytes they take; every byte of a lent buffer after them is as it was.
     pub bytes: u64,
+    /// Where in the input those rows end and the refused row begins. White space before a row of TABLEDATA belongs to that row.
+    pub offset: usize,
 }
 
-impl Answer {
-    /// The refusal, or none where all was accepted.
-    pub fn refusal(&self) -> Option<Refusal> {
-        let Answer { number, row, column, .. } = *self;
-        (number != 0).then_some(Refusal { number, row, column })
-    }
-}
-
-/// What declarations alone are judged to be.
-#[derive(Clone, Copy, Debug, PartialEq, Eq, Default)]
-pub struct Declared {
-    /// 0 for good, else the refusal's number, 1 to 6.
-    pub number: u64,
-    /// How many whole FIELDs stand before the refused element.
-    pub place: u64,
-    /// How many columns are declared; 0 where the declarations are refused.
-    pub columns: u64,
-}
-
-impl Declared {
-    /// The refusal, with its place as the column, or none where the declarations are good.
-    pub fn refusal(&self) -> Option<Refusal> {
-        (self.number != 0).then_some(Refusal { number: self.number, row: 0, column: self.place })
-    }
-}
-
-/// Why and where a conversion stopped.
-#[derive(Clone, Copy, Debug, PartialEq, Eq)]
-pub struct Refusal {
-    /// 1 to 17.
-    pub number: u64,
-    /// The row, from 0.
-    pub row: u64,
-    /// The column, from 0; for refusals 1 to 5 the number of whole FIELDs before the refused element.
-    pub column: u64,
-}
-
-impl Refusal {
+impl Refused {
     /// What the number means, in a line.
     pub fn meaning(&self) -> &'static str {
         meaning(self.number).unwrap_or("no refusal of this number is known")
     }
 }
 
-impl fmt::Display for Refusal {
+impl fmt::Display for Refused {
     fn fmt(&self, f: &mut fmt::Formatter) -> fmt::Result {
-        let Refusal { number, row, column } = self;
+        let Refused { number, row, column, .. } = self;
         match number {
             1..=5 => {
                 let whole = if *column == 1 { "FIELD" } else { "FIELDs" };
@@ -119,29 +100,60 @@ impl fmt::Display for Refusal {
     }
 }
 
-impl std::error::Error for Refusal {}
+impl std::error::Error for Refused {}
 
-/// What a refusal's number means, in a line; none for a number that is no refusal's.
-pub fn meaning(number: u64) -> Option<&'static str> {
-    Some(match number {
-        1 => "the declarations are not FIELD elements of the shape that is carried",
-        2 => "a datatype that is not carried",
-        3 => "an arraysize that is not n, n* or * (n from 1 to 4096)",
-        4 => "a declared null that is not a value of its column",
-        5 => "no column at all, or a 65th",
-        6 => "an input over its size",
-        7 => "the base64 is not valid",
-        8 => "the BINARY or BINARY2 stream ends inside a row",
-        9 => "an element count over the column's bound",
-        10 => "TABLEDATA tags or references are broken, or the number of cells is wrong",
-        11 => "a byte or a text that is no value of its kind",
-        12 => "a text cell with the wrong number of elements for its column",
-        13 => "a padding bit that is 1",
-        14 => "a cell that is empty but not null, and the target has no form for that",
-        15 => "a null, and the target has no form for it",
-        16 => "a character that has no XML form",
-        17 => "the row, or the base64 result, is longer than the room left",
-        255 => "the number of a kind of rows that is none of 0, 1 and 2",
-        _ => return None,
-    })
+/// Why a call that makes its own room, or reads and writes by itself, did not end well.
+#[derive(Debug)]
+#[non_exhaustive]
+pub enum Error {
+    /// The input is refused; the rows before the refused one stand in the output.
+    Refused(Refused),
+    /// The system said no: there is no memory, or a reader or a writer failed.
+    System(io::Error),
+}
+
+impl Error {
+    /// The refusal, if it is one.
+    pub fn refused(&self) -> Option<&Refused> {
+        match self {
+            Error::Refused(refused) => Some(refused),
+            Error::System(_) => None,
+        }
+    }
+}
+
+impl fmt::Display for Error {
+    fn fmt(&self, f: &mut fmt::Formatter) -> fmt::Result {
+        match self {
+            Error::Refused(refused) => refused.fmt(f),
+            Error::System(cause) => cause.fmt(f),
+        }
+    }
+}
+
+impl std::error::Error for Error {
+    fn source(&self) -> Option<&(dyn std::error::Error + 'static)> {
+        match self {
+            Error::Refused(refused) => Some(refused),
+            Error::System(cause) => Some(cause),
+        }
+    }
+}
+
+impl From<Refused> for Error {
+    fn from(refused: Refused) -> Error {
+        Error::Refused(refused)
+    }
+}
+
+impl From<io::Error> for Error {
+    fn from(cause: io::Error) -> Error {
+        Error::System(cause)
+    }
+}
+
+impl From<TryReserveError> for Error {
+    fn from(cause: TryReserveError) -> Error {
+        Error::System(cause.into())
+    }
 }

@@ -1,6 +1,7 @@
-//! The four functions of the proved archive, as they stand in include/sailmortar.h. Everything unsafe in the package is in this file.
+//! The functions of the proved archive, as they stand in include/sailmortar.h. Everything unsafe in the library is in this file.
 
-use crate::{Answer, Declared, Rows};
+use crate::walk::Walk;
+use crate::{Done, Refused, Rows};
 
 extern "C" {
     fn sailmortar_convert(
@@ -19,55 +20,92 @@ extern "C" {
     fn sailmortar_declare(decls: *const u8, decls_length: usize, answer: *mut [u64; 5]);
 }
 
-fn answer_of(five: [u64; 5]) -> Answer {
-    let [number, row, column, rows, bytes] = five;
-    Answer { number, row, column, rows, bytes }
+/// Room for an answer's bytes: a pointer and a length that a slice or a Vec has just given.
+type Room = (*mut u8, usize);
+
+fn room_of(out: &mut [u8]) -> Room {
+    (out.as_mut_ptr(), out.len())
+}
+
+/// Calls with the room that a Vec has behind its elements, and counts what is written there among them.
+fn behind(out: &mut Vec<u8>, call: impl FnOnce(Room) -> Result<Done, Refused>) -> Result<Done, Refused> {
+    let spare = out.spare_capacity_mut();
+    let answer = call((spare.as_mut_ptr().cast(), spare.len()));
+    let written = answer.map_or_else(|refused| refused.bytes, |done| done.bytes);
+    // SAFETY: the proved functions answer how many bytes they wrote from the start of the room, and that is no more than the room has.
+    unsafe { out.set_len(out.len() + written as usize) };
+    answer
+}
+
+fn outcome(answer: [u64; 5]) -> Result<Done, Refused> {
+    match answer {
+        [0, _, _, rows, bytes] => Ok(Done { rows, bytes }),
+        [number, row, column, rows, bytes] => Err(Refused { number, row, column, rows, bytes, offset: 0 }),
+    }
+}
+
+/// The answer has no number for the place where the rows done end: it is found by a walk over them.
+fn convert_in(decls: &[u8], from: Rows, to: Rows, input: &[u8], (out, length): Room) -> Result<Done, Refused> {
+    let (from_number, to_number) = (from.number(), to.number());
+    let mut answer = [0; 5];
+    // SAFETY: each pointer and length is a slice's own or a room's, `out` and `answer` are lent to this call alone.
+    unsafe {
+        sailmortar_convert(decls.as_ptr(), decls.len(), from_number, to_number, input.as_ptr(), input.len(), out, length, &mut answer);
+    }
+    outcome(answer).map_err(|refused| Refused { offset: Walk::offset(decls, from, input, refused.rows), ..refused })
+}
+
+fn decode_in(input: &[u8], (out, length): Room) -> Result<Done, Refused> {
+    let mut answer = [0; 5];
+    // SAFETY: as in `convert_in`.
+    unsafe { sailmortar_base64_decode(input.as_ptr(), input.len(), out, length, &mut answer) };
+    outcome(answer)
+}
+
+fn encode_in(input: &[u8], (out, length): Room) -> Result<Done, Refused> {
+    let mut answer = [0; 5];
+    // SAFETY: as in `convert_in`.
+    unsafe { sailmortar_base64_encode(input.as_ptr(), input.len(), out, length, &mut answer) };
+    outcome(answer)
 }
 
 /// Converts rows, from the kind `from` to the kind `to`, into `out`.
 ///
-/// `decls` is the text of the FIELD elements. The answer says how many rows and bytes stand in `out`; every byte of `out` after them is as it was.
+/// `decls` is the text of the FIELD elements. Accepted or refused, the rows done stand whole in `out`, and every byte after them is as it was.
 /// A row that does not fit is refusal 17; [`convert_to_vec`](crate::convert_to_vec) makes the room itself.
-pub fn convert(decls: &[u8], from: Rows, to: Rows, input: &[u8], out: &mut [u8]) -> Answer {
-    let mut answer = [0; 5];
-    // SAFETY: each pointer and length is a slice's own, `out` and `answer` are lent to this call alone, and slices' pointers are never null.
-    unsafe {
-        sailmortar_convert(
-            decls.as_ptr(),
-            decls.len(),
-            from.number(),
-            to.number(),
-            input.as_ptr(),
-            input.len(),
-            out.as_mut_ptr(),
-            out.len(),
-            &mut answer,
-        );
-    }
-    answer_of(answer)
+pub fn convert(decls: &[u8], from: Rows, to: Rows, input: &[u8], out: &mut [u8]) -> Result<Done, Refused> {
+    convert_in(decls, from, to, input, room_of(out))
+}
+
+pub(crate) fn convert_behind(decls: &[u8], from: Rows, to: Rows, input: &[u8], out: &mut Vec<u8>) -> Result<Done, Refused> {
+    behind(out, |room| convert_in(decls, from, to, input, room))
 }
 
 /// Decodes base64 (RFC 4648, white space skipped anywhere) into `out`. A refusal (6, 7 or 17) writes nothing.
-pub fn base64_decode(input: &[u8], out: &mut [u8]) -> Answer {
-    let mut answer = [0; 5];
-    // SAFETY: as in `convert`.
-    unsafe { sailmortar_base64_decode(input.as_ptr(), input.len(), out.as_mut_ptr(), out.len(), &mut answer) };
-    answer_of(answer)
+pub fn base64_decode(input: &[u8], out: &mut [u8]) -> Result<Done, Refused> {
+    decode_in(input, room_of(out))
+}
+
+pub(crate) fn decode_behind(input: &[u8], out: &mut Vec<u8>) -> Result<Done, Refused> {
+    behind(out, |room| decode_in(input, room))
 }
 
 /// Encodes bytes as base64, without line breaks, into `out`. A refusal (6 or 17) writes nothing.
-pub fn base64_encode(input: &[u8], out: &mut [u8]) -> Answer {
-    let mut answer = [0; 5];
-    // SAFETY: as in `convert`.
-    unsafe { sailmortar_base64_encode(input.as_ptr(), input.len(), out.as_mut_ptr(), out.len(), &mut answer) };
-    answer_of(answer)
+pub fn base64_encode(input: &[u8], out: &mut [u8]) -> Result<Done, Refused> {
+    encode_in(input, room_of(out))
 }
 
-/// Judges declarations alone: the refusal's number (0 if they are good) and place, and how many columns they declare.
-pub fn declare(decls: &[u8]) -> Declared {
+pub(crate) fn encode_behind(input: &[u8], out: &mut Vec<u8>) -> Result<Done, Refused> {
+    behind(out, |room| encode_in(input, room))
+}
+
+/// Judges declarations alone: how many columns they declare, or their refusal, with its place as the column.
+pub fn declare(decls: &[u8]) -> Result<u64, Refused> {
     let mut answer = [0; 5];
-    // SAFETY: as in `convert`.
+    // SAFETY: as in `convert_in`.
     unsafe { sailmortar_declare(decls.as_ptr(), decls.len(), &mut answer) };
-    let [number, _, place, columns, _] = answer;
-    Declared { number, place, columns }
+    match answer {
+        [0, _, _, columns, _] => Ok(columns),
+        [number, _, place, _, _] => Err(Refused { number, row: 0, column: place, rows: 0, bytes: 0, offset: 0 }),
+    }
 }

@@ -20,6 +20,10 @@ impl Trouble {
         move |cause| Trouble { what, cause }
     }
 
+    pub fn of(what: &str, cause: io::Error) -> Trouble {
+        Trouble::with(what)(cause)
+    }
+
     /// The reader of a pipe went away, as `head` does when it has enough.
     pub fn is_closed_pipe(&self) -> bool {
         self.cause.kind() == ErrorKind::BrokenPipe
@@ -111,10 +115,6 @@ impl Output {
         Ok(Output { name, file, moving })
     }
 
-    pub fn write(&mut self, bytes: &[u8]) -> io::Result<()> {
-        self.file.write_all(bytes)
-    }
-
     /// The trouble with this output, from its cause.
     pub fn trouble(&self, cause: io::Error) -> Trouble {
         Trouble::with(&self.name)(cause)
@@ -127,6 +127,16 @@ impl Output {
         };
         let moved = self.file.sync_all().and_then(|()| fs::rename(&moving.temporary, &moving.target));
         moved.map_err(|cause| self.trouble(cause))
+    }
+}
+
+impl Write for Output {
+    fn write(&mut self, bytes: &[u8]) -> io::Result<usize> {
+        self.file.write(bytes)
+    }
+
+    fn flush(&mut self) -> io::Result<()> {
+        Ok(())
     }
 }
 

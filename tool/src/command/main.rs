@@ -14,14 +14,11 @@ use std::process::ExitCode;
 use arguments::{Command, Conversion, Files, Usage};
 use files::{Input, Output, Trouble};
 use progress::Progress;
-use sailmortar::{Base64Pieces, Column, Converted, INPUT_LIMIT};
+use sailmortar::{Base64Writer, Column, Error, Refused, INPUT_LIMIT};
 
 const REFUSED: u8 = 1;
 const WRONG_USAGE: u8 = 2;
 const SYSTEM_SAID_NO: u8 = 3;
-
-/// The room for one piece of the output: a row of 64 full columns takes a sixth of it.
-const ROOM: usize = 32 << 20;
 
 /// How a run ends that does not end well.
 enum End {
@@ -64,20 +61,19 @@ fn run(command: Command) -> Result<(), End> {
 
 fn say(text: &str) -> Result<(), End> {
     let mut output = Output::open(&arguments::Place::Standard)?;
-    output.write(text.as_bytes()).map_err(|cause| output.trouble(cause))?;
+    output.write_all(text.as_bytes()).map_err(|cause| output.trouble(cause))?;
     Ok(output.finish()?)
 }
 
 fn encode(files: &Files) -> Result<(), End> {
     let (mut input, mut output) = (Input::open(&files.input)?, Output::open(&files.output)?);
     let bytes = read(&mut input, &mut Progress::new())?;
-    // Asked with no room, the converter says whether the input is over its size.
-    if sailmortar::base64_encode(&bytes, &mut []).number == 6 {
+    if sailmortar::within_limit(&bytes).is_err() {
         return Err(End::Refused(report::too_long(&input.name, "")));
     }
-    let mut pieces = Base64Pieces::default();
-    let letters = bytes.chunks(ROOM).try_for_each(|chunk| output.write(&pieces.push(chunk)));
-    letters.and_then(|()| output.write(&pieces.finish())).map_err(|cause| output.trouble(cause))?;
+    let mut letters = Base64Writer::new(&mut output, 0).map_err(|cause| Trouble::of("standard output", cause))?;
+    let written = letters.write_all(&bytes).and_then(|()| letters.finish().map(|_| ()));
+    written.map_err(|cause| output.trouble(cause))?;
     Ok(output.finish()?)
 }
 
@@ -85,7 +81,7 @@ fn decode(files: &Files) -> Result<(), End> {
     let (mut input, mut output) = (Input::open(&files.input)?, Output::open(&files.output)?);
     let text = read(&mut input, &mut Progress::new())?;
     let bytes = decoded(&input.name, text)?;
-    output.write(&bytes).map_err(|cause| output.trouble(cause))?;
+    output.write_all(&bytes).map_err(|cause| output.trouble(cause))?;
     Ok(output.finish()?)
 }
 
@@ -99,12 +95,15 @@ fn convert(conversion: &Conversion) -> Result<(), End> {
     if conversion.base64_in {
         bytes = decoded(&input.name, bytes)?;
     }
-    let converted = convert_into(&mut output, conversion, &decls, &bytes, &mut progress).map_err(|cause| output.trouble(cause))?;
+    let converted = convert_into(&mut output, conversion, &decls, &bytes, &mut progress);
     drop(progress);
-    let Some(refusal) = converted.answer.refusal() else {
-        return Ok(output.finish()?);
+    let refused = match converted {
+        Ok(()) => return Ok(output.finish()?),
+        Err(Error::Refused(refused)) => refused,
+        Err(Error::System(cause)) => return Err(output.trouble(cause).into()),
+        Err(other) => return Err(output.trouble(io::Error::other(other)).into()),
     };
-    if refusal.number == 6 {
+    if refused.number == 6 {
         return Err(End::Refused(report::too_long(&input.name, "")));
     }
     let output_name = output.name.clone();
@@ -117,12 +116,12 @@ fn convert(conversion: &Conversion) -> Result<(), End> {
         decoded: conversion.base64_in,
         input: &bytes,
     };
-    Err(End::Refused(report::row(&stream, &converted, &refusal)))
+    Err(End::Refused(report::row(&stream, &refused)))
 }
 
 /// The columns that the fields declare, or their refusal in words.
 fn columns(name: &str, decls: &[u8]) -> Result<Vec<Column>, End> {
-    sailmortar::columns(decls).map_err(|refusal| End::Refused(report::declarations(name, &refusal)))
+    sailmortar::columns(decls).map_err(|refused: Refused| End::Refused(report::declarations(name, &refused)))
 }
 
 fn read(input: &mut Input, progress: &mut Progress) -> Result<Vec<u8>, End> {
@@ -132,31 +131,20 @@ fn read(input: &mut Input, progress: &mut Progress) -> Result<Vec<u8>, End> {
 
 /// The bytes that a base64 text stands for. The text is dropped here, so that it takes no memory from then on.
 fn decoded(name: &str, text: Vec<u8>) -> Result<Vec<u8>, End> {
-    let (answer, bytes) = sailmortar::base64_decode_to_vec(&text);
-    match answer.refusal() {
-        None => Ok(bytes),
-        Some(refusal) => Err(End::Refused(report::base64(name, &refusal))),
+    let mut bytes = Vec::new();
+    match sailmortar::base64_decode_to_vec(&text, &mut bytes) {
+        Ok(_) => Ok(bytes),
+        Err(Error::Refused(refused)) => Err(End::Refused(report::base64(name, &refused))),
+        Err(other) => Err(Trouble::of(name, io::Error::other(other)).into()),
     }
 }
 
-fn convert_into(
-    output: &mut Output,
-    conversion: &Conversion,
-    decls: &[u8],
-    input: &[u8],
-    progress: &mut Progress,
-) -> io::Result<Converted> {
-    let mut letters = conversion.base64_out.then(Base64Pieces::default);
-    let converted = sailmortar::convert_pieces(decls, conversion.from, conversion.to, input, ROOM, |piece| {
-        match &mut letters {
-            Some(letters) => output.write(&letters.push(piece.bytes))?,
-            None => output.write(piece.bytes)?,
-        }
+fn convert_into(output: &mut Output, conversion: &Conversion, decls: &[u8], input: &[u8], progress: &mut Progress) -> Result<(), Error> {
+    let mut target: Box<dyn Write> = if conversion.base64_out { Box::new(Base64Writer::new(output, 0)?) } else { Box::new(output) };
+    sailmortar::convert_pieces(decls, conversion.from, conversion.to, input, sailmortar::ROOM, |piece| {
+        target.write_all(piece.bytes)?;
         progress.tick(|| format!("{}% converted, {} rows", piece.read as u64 * 100 / input.len().max(1) as u64, piece.rows));
         Ok(())
     })?;
-    if let Some(letters) = letters {
-        output.write(&letters.finish())?;
-    }
-    Ok(converted)
+    Ok(())
 }

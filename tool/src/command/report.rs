@@ -1,14 +1,14 @@
 //! What standard error says of a refusal: the file, the place, the number and its meaning, and what stands.
 
-use sailmortar::{Column, Converted, Refusal, Rows};
+use sailmortar::{Column, Refused, Rows};
 
 /// A refusal of the declarations.
-pub fn declarations(file: &str, refusal: &Refusal) -> String {
-    let Refusal { number, column: place, .. } = *refusal;
+pub fn declarations(file: &str, refused: &Refused) -> String {
+    let Refused { number, column: place, .. } = *refused;
     let said = match number {
         6 => "refusal 6: the declarations are over 65536 bytes".to_string(),
         _ => {
-            format!("refusal {number} at the element after {place} whole FIELD{}: {}", if place == 1 { "" } else { "s" }, refusal.meaning())
+            format!("refusal {number} at the element after {place} whole FIELD{}: {}", if place == 1 { "" } else { "s" }, refused.meaning())
         }
     };
     format!("sailmortar: {file}: {said}\n{}", nothing(number))
@@ -20,11 +20,11 @@ pub fn too_long(file: &str, step: &str) -> String {
 }
 
 /// A refusal of base64.
-pub fn base64(file: &str, refusal: &Refusal) -> String {
+pub fn base64(file: &str, refused: &Refused) -> String {
     let step = " in the base64 step";
-    match refusal.number {
+    match refused.number {
         6 => too_long(file, step),
-        number => format!("sailmortar: {file}: refusal {number}{step}: {}\n{}", refusal.meaning(), nothing(number)),
+        number => format!("sailmortar: {file}: refusal {number}{step}: {}\n{}", refused.meaning(), nothing(number)),
     }
 }
 
@@ -43,10 +43,10 @@ pub struct Stream<'a> {
 }
 
 /// A refusal of a row.
-pub fn row(stream: &Stream, converted: &Converted, refusal: &Refusal) -> String {
-    let Refusal { number, row, column } = *refusal;
+pub fn row(stream: &Stream, refused: &Refused) -> String {
+    let Refused { number, row, column, .. } = *refused;
     let title = title(stream.columns, column);
-    let stand = match converted.answer.rows {
+    let stand = match refused.rows {
         0 => "no row stands before it".to_string(),
         1 => format!("the 1 row before it is written to {}", stream.output_name),
         rows => format!("the {rows} rows before it are written to {}", stream.output_name),
@@ -56,8 +56,8 @@ pub fn row(stream: &Stream, converted: &Converted, refusal: &Refusal) -> String 
          sailmortar: {stand}\n\
          sailmortar: rows and columns count from 0; {}; 'sailmortar explain {number}' says more\n",
         stream.input_name,
-        refusal.meaning(),
-        spot(stream, row, converted.read),
+        refused.meaning(),
+        spot(stream, row, refused.offset),
     )
 }
 
