@@ -2,26 +2,27 @@
 //!
 //!     cargo run --release --example night
 
-use sailmortar::{convert_to_vec, Answer, Rows};
+use sailmortar::{convert_to_vec, Error, Rows};
 
 const FIELDS: &[u8] = include_bytes!("night.fields");
 const NIGHT: &[u8] = include_bytes!("night.tabledata");
 
-fn main() {
-    let (answer, binary2) = convert_to_vec(FIELDS, Rows::TableData, Rows::Binary2, NIGHT);
-    println!("TABLEDATA, {} rows:\n{}", answer.rows, String::from_utf8_lossy(NIGHT));
-    println!("BINARY2, {} bytes:\n{}", answer.bytes, hexadigits(&binary2));
+fn main() -> Result<(), Error> {
+    let (mut binary2, mut text) = (Vec::new(), Vec::new());
+    let done = convert_to_vec(FIELDS, Rows::TableData, Rows::Binary2, NIGHT, &mut binary2)?;
+    println!("TABLEDATA, {} rows:\n{}", done.rows, String::from_utf8_lossy(NIGHT));
+    println!("BINARY2, {} bytes:\n{}", done.bytes, hexadigits(&binary2));
 
-    let (answer, text) = convert_to_vec(FIELDS, Rows::Binary2, Rows::TableData, &binary2);
-    println!("and back, {}:\n{}", said(answer), String::from_utf8_lossy(&text));
+    let done = convert_to_vec(FIELDS, Rows::Binary2, Rows::TableData, &binary2, &mut text)?;
+    println!("and back, {} rows:\n{}", done.rows, String::from_utf8_lossy(&text));
 
     // The last byte is missing: the first row stands, and the refusal says where it went wrong.
-    let (answer, text) = convert_to_vec(FIELDS, Rows::Binary2, Rows::TableData, &binary2[..binary2.len() - 1]);
-    print!("cut by a byte, {}:\n{}", said(answer), String::from_utf8_lossy(&text));
-}
-
-fn said(answer: Answer) -> String {
-    answer.refusal().map_or("accepted".to_string(), |refusal| refusal.to_string())
+    text.clear();
+    match convert_to_vec(FIELDS, Rows::Binary2, Rows::TableData, &binary2[..binary2.len() - 1], &mut text) {
+        Err(Error::Refused(refused)) => print!("cut by a byte, {refused}:\n{}", String::from_utf8_lossy(&text)),
+        other => panic!("a cut file is refused, and this is {other:?}"),
+    }
+    Ok(())
 }
 
 /// A line for each row of eight bytes: the flags, the short, four characters and the boolean.

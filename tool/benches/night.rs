@@ -128,7 +128,7 @@ fn convert_both(night: &Night, from: Rows, to: Rows) -> (f64, f64) {
 
 fn convert(night: &Night, from: Rows, to: Rows, out: &mut [u8]) {
     let answer = sailmortar::convert(&night.declarations, from, to, form(night, from), out);
-    assert_eq!((answer.number, answer.rows), (0, night.rows as u64));
+    assert_eq!(answer.map(|done| done.rows), Ok(night.rows as u64));
 }
 
 fn base64(night: &Night) {
@@ -138,7 +138,7 @@ fn base64(night: &Night) {
     let mut letters = vec![0; bytes.len().div_ceil(3) * 4];
     let mut plain_letters = letters.clone();
     let seconds = best_of_both(
-        || assert_eq!(sailmortar::base64_encode(bytes, &mut letters).number, 0),
+        || assert!(sailmortar::base64_encode(bytes, &mut letters).is_ok()),
         || assert_eq!(plain::base64_encode(bytes, &mut plain_letters), bytes.len().div_ceil(3) * 4),
     );
     assert!(letters == plain_letters, "the two encodings");
@@ -153,7 +153,7 @@ fn base64_decoding(what: &str, letters: &[u8], bytes: &[u8]) {
     let mut out = vec![0; bytes.len()];
     let mut plain_out = out.clone();
     let seconds = best_of_both(
-        || assert_eq!(sailmortar::base64_decode(letters, &mut out).number, 0),
+        || assert!(sailmortar::base64_decode(letters, &mut out).is_ok()),
         || assert_eq!(plain::base64_decode(letters, &mut plain_out), Some(bytes.len())),
     );
     assert!(out == bytes && plain_out == bytes, "{what}");

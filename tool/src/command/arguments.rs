@@ -7,14 +7,34 @@ use std::path::PathBuf;
 
 use sailmortar::Rows;
 
+use crate::report::shown;
+use crate::words::Topic;
+
+/// What is to be done, and how it is told.
+pub struct Request {
+    pub command: Command,
+    pub telling: Telling,
+}
+
 /// What is to be done.
 pub enum Command {
-    Help,
+    Help(Topic),
     Version,
     Explain(Option<u64>),
-    Encode(Files),
+    Encode(Encoding),
     Decode(Files),
     Convert(Conversion),
+    Check(Checking),
+    Columns(Place),
+}
+
+/// How the end of a run is told.
+#[derive(Clone, Copy, Default)]
+pub struct Telling {
+    /// Success too.
+    pub verbose: bool,
+    /// An object a line.
+    pub json: bool,
 }
 
 /// Where a text comes from or goes to.
@@ -36,15 +56,35 @@ impl Place {
 pub struct Files {
     pub input: Place,
     pub output: Place,
+    /// Whether the output was named, as standard output is by `-o -`.
+    pub output_is_said: bool,
+}
+
+pub struct Encoding {
+    pub files: Files,
+    pub wrap: usize,
+}
+
+/// Rows to be read.
+pub struct Table {
+    pub fields: Place,
+    pub from: Rows,
+    pub base64_in: bool,
 }
 
 pub struct Conversion {
-    pub fields: Place,
-    pub from: Rows,
+    pub table: Table,
     pub to: Rows,
-    pub base64_in: bool,
     pub base64_out: bool,
+    pub wrap: usize,
     pub files: Files,
+    pub rest: Option<Place>,
+}
+
+pub struct Checking {
+    pub table: Table,
+    pub to: Option<Rows>,
+    pub input: Place,
 }
 
 /// What is wrong with the words, in a line.
@@ -72,25 +112,74 @@ const fn plain(long: &'static str) -> Known {
 }
 
 const OUTPUT: Known = Known { long: "output", letter: Some(b'o'), valued: true };
+const VERBOSE: Known = Known { long: "verbose", letter: Some(b'v'), valued: false };
+const JSON: Known = plain("json");
+
+/// Whether the words ask for `--json`, for the case that something is wrong with the rest of them.
+pub fn asks_for_json(words: &[OsString]) -> bool {
+    words.iter().take_while(|word| *word != "--").any(|word| word == "--json")
+}
+
+const COMMANDS: &str = "convert, check, columns, base64, explain and help";
 
 /// The command line without the program's name.
-pub fn command(words: Vec<OsString>) -> Result<Command, Usage> {
+pub fn request(words: Vec<OsString>) -> Result<Request, Usage> {
     let mut words = words.into_iter();
     let Some(first) = words.next() else {
-        return Err("say what to do: convert, base64 or explain".into());
+        return Err("say what to do: convert, check, columns, base64, explain or help".into());
     };
     match first.as_bytes() {
-        b"-h" | b"--help" => Ok(Command::Help),
-        b"-V" | b"--version" => Ok(Command::Version),
-        b"convert" => {
-            let known = [valued("fields"), valued("from"), valued("to"), plain("base64-in"), plain("base64-out"), OUTPUT];
-            command_or_help(split("convert", words, &known)?, conversion)
-        }
-        b"base64" => command_or_help(split("base64", words, &[OUTPUT])?, base64),
-        b"explain" => command_or_help(split("explain", words, &[])?, explain),
-        [b'-', ..] => Err(format!("unknown option '{}'", first.display()).into()),
-        _ => Err(format!("unknown command '{}'; there are convert, base64 and explain", first.display()).into()),
+        b"-h" | b"--help" => Ok(plain_request(Command::Help(Topic::All))),
+        b"-V" | b"--version" => Ok(plain_request(Command::Version)),
+        b"help" => Ok(plain_request(Command::Help(topic(words)?))),
+        [b'-', ..] => Err(format!("unknown option '{}'", shown(&first)).into()),
+        _ => match Topic::named(&first) {
+            Some(topic) => request_of(topic, words),
+            None => Err(format!("unknown command '{}'; there are {COMMANDS}", shown(&first)).into()),
+        },
     }
+}
+
+fn plain_request(command: Command) -> Request {
+    Request { command, telling: Telling::default() }
+}
+
+fn topic(mut words: impl Iterator<Item = OsString>) -> Result<Topic, Usage> {
+    match (words.next(), words.next()) {
+        (None, _) => Ok(Topic::All),
+        (Some(word), None) => {
+            Topic::named(&word).ok_or_else(|| format!("there is no command '{}'; there are {COMMANDS}", shown(&word)).into())
+        }
+        _ => Err("help takes one command at most".into()),
+    }
+}
+
+fn request_of(topic: Topic, words: impl Iterator<Item = OsString>) -> Result<Request, Usage> {
+    let known = match topic {
+        Topic::All | Topic::Explain => vec![],
+        Topic::Convert => {
+            let files = [valued("fields"), valued("from"), valued("to"), plain("base64-in"), plain("base64-out")];
+            files.into_iter().chain([valued("wrap"), valued("rest"), OUTPUT, VERBOSE, JSON]).collect()
+        }
+        Topic::Check => vec![valued("fields"), valued("from"), valued("to"), plain("base64-in"), JSON],
+        Topic::Columns => vec![valued("fields"), JSON],
+        Topic::Base64 => vec![valued("wrap"), OUTPUT, VERBOSE, JSON],
+    };
+    let mut words = match split(topic, words, &known)? {
+        Split::Help => return Ok(plain_request(Command::Help(topic))),
+        Split::Version => return Ok(plain_request(Command::Version)),
+        Split::Words(words) => words,
+    };
+    let telling = Telling { verbose: words.take("verbose").is_some(), json: words.take("json").is_some() };
+    let command = match topic {
+        Topic::All => Command::Help(Topic::All),
+        Topic::Explain => explain(words)?,
+        Topic::Convert => conversion(words)?,
+        Topic::Check => checking(words)?,
+        Topic::Columns => columns(words)?,
+        Topic::Base64 => base64(words)?,
+    };
+    Ok(Request { command, telling })
 }
 
 /// The words after the command, taken apart.
@@ -112,25 +201,33 @@ impl Words {
         Some(self.options.remove(place).1)
     }
 
-    fn files(&mut self, operands: impl Iterator<Item = OsString>) -> Result<Files, Usage> {
+    fn input(operands: impl Iterator<Item = OsString>) -> Result<Place, Usage> {
         let mut operands = operands;
         let input = Place::of(operands.next());
-        if let Some(second) = operands.next() {
-            return Err(format!("one INPUT at most, and '{}' is a second", second.display()).into());
+        match operands.next() {
+            Some(second) => Err(format!("one INPUT at most, and '{}' is a second", shown(&second)).into()),
+            None => Ok(input),
         }
-        Ok(Files { input, output: Place::of(self.take("output")) })
+    }
+
+    fn files(&mut self, operands: impl Iterator<Item = OsString>) -> Result<Files, Usage> {
+        let input = Words::input(operands)?;
+        let output = self.take("output");
+        Ok(Files { input, output_is_said: output.is_some(), output: Place::of(output) })
+    }
+
+    /// The length of lines of base64; 0 is for no line breaks, as it is for coreutils.
+    fn wrap(&mut self) -> Result<Option<usize>, Usage> {
+        let Some(word) = self.take("wrap") else {
+            return Ok(None);
+        };
+        let letters =
+            word.to_str().filter(|digits| digits.bytes().all(|digit| digit.is_ascii_digit())).and_then(|digits| digits.parse().ok());
+        letters.map(Some).ok_or_else(|| format!("--wrap takes a number of letters, not '{}'", shown(&word)).into())
     }
 }
 
-fn command_or_help(split: Split, command: impl FnOnce(Words) -> Result<Command, Usage>) -> Result<Command, Usage> {
-    match split {
-        Split::Help => Ok(Command::Help),
-        Split::Version => Ok(Command::Version),
-        Split::Words(words) => command(words),
-    }
-}
-
-fn split(command: &str, mut rest: impl Iterator<Item = OsString>, known: &[Known]) -> Result<Split, Usage> {
+fn split(topic: Topic, mut rest: impl Iterator<Item = OsString>, known: &[Known]) -> Result<Split, Usage> {
     let mut words = Words::default();
     while let Some(word) = rest.next() {
         match word.as_bytes() {
@@ -138,7 +235,7 @@ fn split(command: &str, mut rest: impl Iterator<Item = OsString>, known: &[Known
             b"-h" | b"--help" => return Ok(Split::Help),
             b"-V" | b"--version" => return Ok(Split::Version),
             [b'-', _, ..] => {
-                let (option, value) = option(command, &word, known)?;
+                let (option, value) = option(topic, &word, known)?;
                 if words.options.iter().any(|(name, _)| *name == option.long) {
                     return Err(format!("--{} is given twice", option.long).into());
                 }
@@ -153,65 +250,109 @@ fn split(command: &str, mut rest: impl Iterator<Item = OsString>, known: &[Known
 }
 
 /// The option that a word names, and the value that stands in the same word (`--from=binary`, `-oFILE`).
-fn option<'a>(command: &str, word: &OsStr, known: &'a [Known]) -> Result<(&'a Known, Option<OsString>), Usage> {
-    let unknown = || Usage(format!("unknown option '{}' for {command}", word.display()));
+fn option<'a>(topic: Topic, word: &OsStr, known: &'a [Known]) -> Result<(&'a Known, Option<OsString>), Usage> {
+    let unknown = || Usage(format!("unknown option '{}' for {}", shown(word), topic.name()));
     let bytes = word.as_bytes();
-    let Some(long) = bytes.strip_prefix(b"--") else {
-        let option = known.iter().find(|option| option.letter == Some(bytes[1])).ok_or_else(unknown)?;
-        let value = &bytes[2..];
-        return Ok((option, (!value.is_empty()).then(|| OsString::from_vec(value.to_vec()))));
+    let (option, value) = match bytes.strip_prefix(b"--") {
+        Some(long) => {
+            let mut parts = long.splitn(2, |byte| *byte == b'=');
+            let name = parts.next().unwrap_or_default();
+            let option = known.iter().find(|option| option.long.as_bytes() == name).ok_or_else(unknown)?;
+            (option, parts.next())
+        }
+        None => {
+            let option = known.iter().find(|option| option.letter == Some(bytes[1])).ok_or_else(unknown)?;
+            (option, Some(&bytes[2..]).filter(|value| !value.is_empty()))
+        }
     };
-    let mut parts = long.splitn(2, |byte| *byte == b'=');
-    let name = parts.next().unwrap_or_default();
-    let value = parts.next().map(|value| OsString::from_vec(value.to_vec()));
-    let option = known.iter().find(|option| option.long.as_bytes() == name).ok_or_else(unknown)?;
     if value.is_some() && !option.valued {
         return Err(format!("--{} takes no value", option.long).into());
     }
-    Ok((option, value))
+    Ok((option, value.map(|value| OsString::from_vec(value.to_vec()))))
+}
+
+/// The values of options that a command cannot do without, or the words that say which are missing.
+fn needed<const N: usize>(topic: Topic, words: &mut Words, options: [(&str, &str); N]) -> Result<[OsString; N], Usage> {
+    let values = options.map(|(long, _)| words.take(long));
+    let missing: Vec<_> =
+        options.iter().zip(&values).filter(|(_, value)| value.is_none()).map(|((long, kind), _)| format!("--{long} {kind}")).collect();
+    if !missing.is_empty() {
+        return Err(format!("{} needs {} as well", topic.name(), missing.join(" and ")).into());
+    }
+    Ok(values.map(Option::unwrap_or_default))
+}
+
+fn table(words: &mut Words, fields: OsString, from: &OsStr, input: &Place) -> Result<Table, Usage> {
+    let table = Table { fields: Place::of(Some(fields)), from: kind("--from", from)?, base64_in: words.take("base64-in").is_some() };
+    if table.fields == Place::Standard && *input == Place::Standard {
+        return Err("the fields and the rows cannot both come from standard input".into());
+    }
+    for_binary("in", table.base64_in, table.from)?;
+    Ok(table)
+}
+
+fn for_binary(option: &str, given: bool, kind: Rows) -> Result<(), Usage> {
+    match given && kind == Rows::TableData {
+        true => Err(format!("--base64-{option} is for BINARY and BINARY2: TABLEDATA stands in a VOTable as it is").into()),
+        false => Ok(()),
+    }
 }
 
 fn conversion(mut words: Words) -> Result<Command, Usage> {
-    let (fields, from, to) = (words.take("fields"), words.take("from"), words.take("to"));
-    let (Some(fields), Some(from), Some(to)) = (&fields, &from, &to) else {
-        let missing = [("--fields FILE", fields), ("--from KIND", from), ("--to KIND", to)];
-        let missing: Vec<_> = missing.iter().filter(|(_, value)| value.is_none()).map(|(name, _)| *name).collect();
-        return Err(format!("convert needs {} as well", missing.join(" and ")).into());
-    };
     let operands = std::mem::take(&mut words.operands);
+    let [fields, from, to] = needed(Topic::Convert, &mut words, [("fields", "FILE"), ("from", "KIND"), ("to", "KIND")])?;
+    let files = words.files(operands.into_iter())?;
+    let wrap = words.wrap()?;
     let conversion = Conversion {
-        fields: Place::of(Some(fields.clone())),
-        from: kind("--from", from)?,
-        to: kind("--to", to)?,
-        base64_in: words.take("base64-in").is_some(),
+        table: table(&mut words, fields, &from, &files.input)?,
+        to: kind("--to", &to)?,
         base64_out: words.take("base64-out").is_some(),
-        files: words.files(operands.into_iter())?,
+        wrap: wrap.unwrap_or(0),
+        rest: words.take("rest").map(|rest| Place::of(Some(rest))),
+        files,
     };
-    if conversion.fields == Place::Standard && conversion.files.input == Place::Standard {
-        return Err("the fields and the rows cannot both come from standard input".into());
+    for_binary("out", conversion.base64_out, conversion.to)?;
+    if wrap.is_some() && !conversion.base64_out {
+        return Err("--wrap is for base64: give --base64-out as well".into());
     }
-    for (option, given, kind) in [("in", conversion.base64_in, conversion.from), ("out", conversion.base64_out, conversion.to)] {
-        if given && kind == Rows::TableData {
-            return Err(format!("--base64-{option} is for BINARY and BINARY2: TABLEDATA stands in a VOTable as it is").into());
-        }
+    if conversion.rest == Some(Place::Standard) && conversion.files.output == Place::Standard {
+        return Err("the rows and the rest cannot both go to standard output".into());
     }
     Ok(Command::Convert(conversion))
 }
 
+fn checking(mut words: Words) -> Result<Command, Usage> {
+    let operands = std::mem::take(&mut words.operands);
+    let [fields, from] = needed(Topic::Check, &mut words, [("fields", "FILE"), ("from", "KIND")])?;
+    let input = Words::input(operands.into_iter())?;
+    let to = words.take("to").map(|to| kind("--to", &to)).transpose()?;
+    Ok(Command::Check(Checking { table: table(&mut words, fields, &from, &input)?, to, input }))
+}
+
+fn columns(mut words: Words) -> Result<Command, Usage> {
+    let fields = words.take("fields");
+    let mut places = std::mem::take(&mut words.operands).into_iter().chain(fields);
+    match (places.next(), places.next()) {
+        (None, _) => Err("columns needs --fields FILE as well".into()),
+        (place, None) => Ok(Command::Columns(Place::of(place))),
+        _ => Err("columns takes one file".into()),
+    }
+}
+
 fn kind(option: &str, word: &OsStr) -> Result<Rows, Usage> {
-    word.to_str()
-        .and_then(Rows::named)
-        .ok_or_else(|| format!("{option} takes tabledata, binary or binary2, not '{}'", word.display()).into())
+    word.to_str().and_then(Rows::named).ok_or_else(|| format!("{option} takes tabledata, binary or binary2, not '{}'", shown(word)).into())
 }
 
 fn base64(mut words: Words) -> Result<Command, Usage> {
     let mut operands = std::mem::take(&mut words.operands).into_iter();
     let way = operands.next().unwrap_or_default();
-    match way.as_bytes() {
-        b"encode" => Ok(Command::Encode(words.files(operands)?)),
-        b"decode" => Ok(Command::Decode(words.files(operands)?)),
-        b"" => Err("say which: base64 encode or base64 decode".into()),
-        _ => Err(format!("base64 can encode and decode, not '{}'", way.display()).into()),
+    let wrap = words.wrap()?;
+    match (way.as_bytes(), wrap) {
+        (b"encode", _) => Ok(Command::Encode(Encoding { files: words.files(operands)?, wrap: wrap.unwrap_or(0) })),
+        (b"decode", None) => Ok(Command::Decode(words.files(operands)?)),
+        (b"decode", Some(_)) => Err("--wrap is for base64 encode".into()),
+        (b"", _) => Err("say which: base64 encode or base64 decode".into()),
+        _ => Err(format!("base64 can encode and decode, not '{}'", shown(&way)).into()),
     }
 }
 
@@ -220,7 +361,7 @@ fn explain(words: Words) -> Result<Command, Usage> {
         [] => Ok(Command::Explain(None)),
         [number] => match number.to_str().and_then(|digits| digits.parse().ok()) {
             Some(number) if sailmortar::meaning(number).is_some() => Ok(Command::Explain(Some(number))),
-            _ => Err(format!("there is no refusal '{}': they are 1 to 17", number.display()).into()),
+            _ => Err(format!("there is no refusal '{}': they are {}", shown(number), crate::words::range()).into()),
         },
         _ => Err("explain takes one number at most".into()),
     }

@@ -14,7 +14,7 @@ const PAUSE: Duration = Duration::from_millis(200);
 
 impl Progress {
     pub fn new() -> Progress {
-        Progress { terminal: io::stderr().is_terminal(), due: Instant::now() + PATIENCE, drawn: false }
+        Progress { terminal: io::stderr().is_terminal() && terminal_knows_escapes(), due: Instant::now() + PATIENCE, drawn: false }
     }
 
     /// Shows the words, if it is time for it.
@@ -34,6 +34,11 @@ impl Progress {
             self.drawn = false;
         }
     }
+}
+
+/// A dumb terminal would show the letters of an escape.
+fn terminal_knows_escapes() -> bool {
+    std::env::var_os("TERM").is_some_and(|name| !name.is_empty() && name != "dumb")
 }
 
 impl Drop for Progress {

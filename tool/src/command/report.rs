@@ -1,9 +1,27 @@
 //! What standard error says of a refusal: the file, the place, the number and its meaning, and what stands.
 
+use std::ffi::OsStr;
+use std::os::unix::ffi::OsStrExt;
+
 use sailmortar::{Column, Refused, Rows};
 
+#[derive(Default)]
+pub struct Report {
+    pub lines: Vec<String>,
+    pub facts: Vec<(&'static str, Value)>,
+}
+pub enum Value {
+    Number(u64),
+    Text(String),
+}
+fn rep(text: String) -> Report {
+    Report { lines: text.lines().map(|l| l.trim_start_matches("sailmortar: ").to_string()).collect(), facts: vec![] }
+}
+pub fn shown(name: &OsStr) -> String {
+    String::from_utf8_lossy(name.as_bytes()).escape_debug().to_string()
+}
 /// A refusal of the declarations.
-pub fn declarations(file: &str, refused: &Refused) -> String {
+pub fn declarations(file: &str, _decls: &[u8], refused: &Refused) -> Report {
     let Refused { number, column: place, .. } = *refused;
     let said = match number {
         6 => "refusal 6: the declarations are over 65536 bytes".to_string(),
@@ -11,20 +29,20 @@ pub fn declarations(file: &str, refused: &Refused) -> String {
             format!("refusal {number} at the element after {place} whole FIELD{}: {}", if place == 1 { "" } else { "s" }, refused.meaning())
         }
     };
-    format!("sailmortar: {file}: {said}\n{}", nothing(number))
+    rep(format!("sailmortar: {file}: {said}\n{}", nothing(number)))
 }
 
 /// A refusal of an input that is too long; `step` says which step was to read it.
-pub fn too_long(file: &str, step: &str) -> String {
-    format!("sailmortar: {file}: refusal 6{step}: the input is over 1073741824 bytes (1 GiB)\n{}", nothing(6))
+pub fn too_long(file: &str, step: &str) -> Report {
+    rep(format!("sailmortar: {file}: refusal 6{step}: the input is over 1073741824 bytes (1 GiB)\n{}", nothing(6)))
 }
 
 /// A refusal of base64.
-pub fn base64(file: &str, refused: &Refused) -> String {
+pub fn base64(file: &str, _text: &[u8], refused: &Refused) -> Report {
     let step = " in the base64 step";
     match refused.number {
         6 => too_long(file, step),
-        number => format!("sailmortar: {file}: refusal {number}{step}: {}\n{}", refused.meaning(), nothing(number)),
+        number => rep(format!("sailmortar: {file}: refusal {number}{step}: {}\n{}", refused.meaning(), nothing(number))),
     }
 }
 
@@ -35,7 +53,7 @@ fn nothing(number: u64) -> String {
 /// Where rows come from and go to, for a message about them.
 pub struct Stream<'a> {
     pub input_name: &'a str,
-    pub output_name: &'a str,
+    pub to: Rows,
     pub columns: &'a [Column],
     pub from: Rows,
     pub decoded: bool,
@@ -43,22 +61,17 @@ pub struct Stream<'a> {
 }
 
 /// A refusal of a row.
-pub fn row(stream: &Stream, refused: &Refused) -> String {
+pub fn row(stream: &Stream, refused: &Refused, stand: &str) -> Report {
     let Refused { number, row, column, .. } = *refused;
     let title = title(stream.columns, column);
-    let stand = match refused.rows {
-        0 => "no row stands before it".to_string(),
-        1 => format!("the 1 row before it is written to {}", stream.output_name),
-        rows => format!("the {rows} rows before it are written to {}", stream.output_name),
-    };
-    format!(
+    rep(format!(
         "sailmortar: {}: refusal {number} at row {row}, column {column}{title}: {}\n\
          sailmortar: {stand}\n\
          sailmortar: rows and columns count from 0; {}; 'sailmortar explain {number}' says more\n",
         stream.input_name,
         refused.meaning(),
         spot(stream, row, refused.offset),
-    )
+    ))
 }
 
 /// Names come from other people's files: what a terminal would act on is spelt out, and the line is kept short.
@@ -76,6 +89,7 @@ fn title(columns: &[Column], column: u64) -> String {
 /// Where in the bytes the refused row begins; the row's number alone is hard to find in a long file.
 fn spot(stream: &Stream, row: u64, start: usize) -> String {
     if stream.from == Rows::TableData {
+        let start = start + stream.input[start..].iter().take_while(|b| b.is_ascii_whitespace()).count();
         let line = 1 + stream.input[..start].iter().filter(|byte| **byte == b'\n').count();
         return format!("row {row} begins in line {line}, at byte {start}");
     }

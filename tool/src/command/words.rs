@@ -1,37 +1,148 @@
 //! The help, and what each refusal means with what to look for.
 
+use std::ffi::OsStr;
 use std::fmt::Write;
 
-pub const HELP: &str = "\
+use sailmortar::NUMBERS;
+
+/// A command, or all of them: what help can be had of.
+#[derive(Clone, Copy, Debug, PartialEq, Eq)]
+pub enum Topic {
+    All,
+    Convert,
+    Check,
+    Columns,
+    Base64,
+    Explain,
+}
+
+impl Topic {
+    const COMMANDS: [Topic; 5] = [Topic::Convert, Topic::Check, Topic::Columns, Topic::Base64, Topic::Explain];
+
+    /// The command of this name; `help` is help of everything.
+    pub fn named(word: &OsStr) -> Option<Topic> {
+        Topic::COMMANDS.into_iter().chain([Topic::All]).find(|topic| topic.name() == word)
+    }
+
+    pub fn name(self) -> &'static str {
+        match self {
+            Topic::All => "help",
+            Topic::Convert => "convert",
+            Topic::Check => "check",
+            Topic::Columns => "columns",
+            Topic::Base64 => "base64",
+            Topic::Explain => "explain",
+        }
+    }
+
+    pub fn help(self) -> &'static str {
+        match self {
+            Topic::All => HELP,
+            Topic::Convert => CONVERT,
+            Topic::Check => CHECK,
+            Topic::Columns => COLUMNS,
+            Topic::Base64 => BASE64,
+            Topic::Explain => EXPLAIN,
+        }
+    }
+}
+
+const HELP: &str = "\
 Sailmortar converts VOTable rows: TABLEDATA, BINARY and BINARY2, any to any.
 
   sailmortar convert --fields FILE --from KIND --to KIND [INPUT] [-o OUTPUT]
+  sailmortar check --fields FILE --from KIND [INPUT]     are the rows good?
+  sailmortar columns FILE      what the FIELD elements are understood as
   sailmortar base64 encode|decode [INPUT] [-o OUTPUT]
-  sailmortar explain [N]      what refusal N means, or all of them
+  sailmortar explain [N]       what refusal N means, or all of them
+  sailmortar help COMMAND      the options of a command
+  sailmortar --version
 
-  --fields FILE      the table's FIELD elements, and nothing around them
-  --from KIND        what INPUT holds: tabledata, binary or binary2
-  --to KIND          what to write
-  --base64-in        INPUT is base64, as a STREAM element has it
-  --base64-out       write base64, without line breaks
-  -o, --output FILE  write a new file, moved to this name when it is done
-  -h, --help         this text
-  -V, --version      the version
-
-INPUT has the rows and no tags around them. '-' or no name is standard input
-or output. At a refusal the good rows before it are written, and standard
-error says where it stopped and why.
+KIND is tabledata, binary or binary2. FILE has the table's FIELD elements and
+INPUT the rows, with no tags around them. '-' or no name is standard input or
+output. At a refusal the good rows before it are written, and standard error
+says where it stopped and why.
 Exit status: 0 accepted, 1 refused, 2 wrong usage, 3 the system said no.
 
   sailmortar convert --fields night.fields --from tabledata --to binary2 \\
                      night.tabledata -o night.binary2
 ";
 
+const CONVERT: &str = "\
+sailmortar convert --fields FILE --from KIND --to KIND [INPUT] [-o OUTPUT]
+
+  --fields FILE      the table's FIELD elements, and nothing around them
+  --from KIND        what INPUT holds: tabledata, binary or binary2
+  --to KIND          what to write
+  --base64-in        INPUT is base64, as a STREAM element has it
+  --base64-out       write base64, on one line without an end
+  --wrap N           .. in lines of N letters
+  -o, --output FILE  write a new file, moved to this name when it is done
+  --rest FILE        at a refusal, write everything from the refused row on
+  -v, --verbose      say rows and bytes when all is accepted, too
+  --json             say how it ended as an object, on one line
+  -h, --help         this text
+
+'-' or no name is standard input or output. At a refusal the good rows before
+it are written; where there is none, OUTPUT is left as it was. OUTPUT may be
+INPUT: at a refusal the good rows then go to a file beside it, and INPUT stays.
+Bytes go to a terminal only with '-o -'.
+";
+
+const CHECK: &str = "\
+sailmortar check --fields FILE --from KIND [--to KIND] [INPUT]
+
+  --fields FILE      the table's FIELD elements, and nothing around them
+  --from KIND        what INPUT holds: tabledata, binary or binary2
+  --to KIND          also whether each row has a form in this kind
+  --base64-in        INPUT is base64, as a STREAM element has it
+  --json             say how it ended as an object, on one line
+  -h, --help         this text
+
+Reads all rows and writes none: says how many rows, bytes and columns there
+are, or what is refused and where.
+";
+
+const COLUMNS: &str = "\
+sailmortar columns FILE
+
+  --fields FILE      the same
+  --json             an object a line, one for each column
+  -h, --help         this text
+
+Says what the FIELD elements are understood as: each column's place from 0,
+name, datatype, length as an arraysize has it, and null; or what is refused.
+";
+
+const BASE64: &str = "\
+sailmortar base64 encode|decode [INPUT] [-o OUTPUT]
+
+  --wrap N           encode in lines of N letters, not on one line
+  -o, --output FILE  write a new file, moved to this name when it is done
+  -v, --verbose      say how many bytes when all is accepted, too
+  --json             say how it ended as an object, on one line
+  -h, --help         this text
+
+White space in base64 is skipped. Bytes go to a terminal only with '-o -'.
+";
+
+const EXPLAIN: &str = "\
+sailmortar explain [N]
+
+What refusal N means and what to look for, or a list of all refusals.
+";
+
+/// The numbers that a user can meet, in words.
+pub fn range() -> String {
+    let last = NUMBERS.iter().map(|known| known.number).filter(|number| *number < 255).max().unwrap_or_default();
+    format!("1 to {last}")
+}
+
 /// Every refusal's number and meaning, a line each.
 pub fn list() -> String {
     let mut text = String::new();
-    for number in 1..=17 {
-        let _ = writeln!(text, "{number:2}  {}", sailmortar::meaning(number).unwrap_or_default());
+    for known in NUMBERS.iter().filter(|known| known.number < 255) {
+        let _ = writeln!(text, "{:2}  {}", known.number, known.meaning);
     }
     text.push_str("'sailmortar explain N' says what to look for.\n");
     text

@@ -54,8 +54,10 @@ impl Case<'_> {
 /// Compares what `declare` and a conversion say of these declarations; hands out what `declare` does.
 pub fn agree_on_declarations(declarations: &[u8], seed: u64) -> Answer {
     let model = converter::declare(declarations);
-    let declared = sailmortar::declare(declarations);
-    let proved = [declared.number, 0, declared.place, declared.columns, 0];
+    let proved = match sailmortar::declare(declarations) {
+        Ok(columns) => [0, 0, 0, columns, 0],
+        Err(refused) => [refused.number, refused.row, refused.column, 0, 0],
+    };
     if proved != model {
         let difference = format!("proved {proved:?}, model {model:?}");
         panic!("{}", report("declare", seed, &[("declarations", declarations)], &difference));
@@ -97,8 +99,16 @@ pub fn proved_rows(rows: Rows) -> sailmortar::Rows {
     }
 }
 
-pub fn numbers(answer: sailmortar::Answer) -> Answer {
-    [answer.number, answer.row, answer.column, answer.rows, answer.bytes]
+pub fn numbers(answer: Result<sailmortar::Done, sailmortar::Refused>) -> Answer {
+    match answer {
+        Ok(done) => [0, 0, 0, done.rows, done.bytes],
+        Err(refused) => [refused.number, refused.row, refused.column, refused.rows, refused.bytes],
+    }
+}
+
+/// The same of a call that makes its own room; the system says no to none of these.
+pub fn numbers_of(answer: Result<sailmortar::Done, sailmortar::Error>) -> Answer {
+    numbers(answer.map_err(|error| *error.refused().unwrap_or_else(|| panic!("{error}"))))
 }
 
 /// Two fillings that differ in every byte, so that a byte which is written shows in one of them.

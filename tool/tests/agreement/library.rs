@@ -1,14 +1,14 @@
 //! The layer over the proved functions, which is not proved: growing rooms, pieces, and the columns it reads off.
 
-use super::compare::{numbers, proved_rows, seeds};
+use super::compare::{numbers_of, proved_rows, seeds};
 use crate::generate::columns::{declarations, some, spelled_declarations};
 use crate::generate::damage::damaged;
 use crate::generate::rows::{spelled, table};
 use crate::generate::Random;
 use crate::model::converter::{self, Rows, EVERY_KIND_OF_ROWS};
-use crate::model::text::is_white_space;
 use crate::model::{self, Column, Kind, Length};
-use sailmortar::{base64_decode_to_vec, base64_encode_to_vec, convert_pieces, convert_to_vec, Base64Pieces};
+use sailmortar::{base64_decode_to_vec, base64_encode_to_vec, convert, convert_pieces, convert_to_vec, Base64Writer};
+use std::io::Write;
 
 /// A stream of a few rows, every other one damaged, with its columns.
 fn stream(random: &mut Random, from: Rows, seed: u64) -> (Vec<Column>, Vec<u8>) {
@@ -18,13 +18,6 @@ fn stream(random: &mut Random, from: Rows, seed: u64) -> (Vec<Column>, Vec<u8>) 
     let good = spelled(random, &columns, from, &table);
     let input = if seed.is_multiple_of(2) { damaged(random, &good) } else { good };
     (columns, input)
-}
-
-/// Where the row with this number begins, behind any white space before it.
-fn start_of_row(columns: &[Column], from: Rows, input: &[u8], row: u64) -> usize {
-    let end = end_of_rows(columns, from, input, row);
-    let space = input[end..].iter().take_while(|byte| from == Rows::TableData && is_white_space(**byte)).count();
-    end + space
 }
 
 /// Where the last of so many rows ends.
@@ -44,8 +37,12 @@ fn room_that_grows_is_room_enough() {
         let text = declarations(&columns);
         for to in EVERY_KIND_OF_ROWS {
             let expected = converter::convert(&text, from, to, &input, usize::MAX);
-            let (answer, bytes) = convert_to_vec(&text, proved_rows(from), proved_rows(to), &input);
-            assert_eq!((numbers(answer), bytes), (expected.answer, expected.bytes), "seed {seed}");
+            // What stands in the Vec before stays, and what is in it already is no room.
+            let mut bytes = vec![0xEE; random.below(3)];
+            let before = bytes.len();
+            let answer = convert_to_vec(&text, proved_rows(from), proved_rows(to), &input, &mut bytes);
+            assert_eq!(numbers_of(answer), expected.answer, "seed {seed}");
+            assert_eq!(bytes.split_at(before), (&[0xEE; 2][..before], &expected.bytes[..]), "seed {seed}");
         }
     }
 }
@@ -67,12 +64,31 @@ fn pieces_are_the_whole() {
                 assert!(piece.read == input.len() || piece.read == end_of_rows(&columns, from, &input, piece.rows), "seed {seed}");
                 Ok(())
             });
-            let converted = converted.expect("a sink that takes everything");
             let rows = expected.answer[3];
-            let read = if expected.answer[0] == 0 { input.len() } else { start_of_row(&columns, from, &input, rows) };
             let told = format!("seed {seed} from {from:?} to {to:?}: {}", input.escape_ascii());
-            assert_eq!((numbers(converted.answer), converted.read), (expected.answer, read), "{told}");
+            if let Err(error) = &converted {
+                let refused = error.refused().unwrap_or_else(|| panic!("{error}"));
+                assert_eq!(refused.offset, end_of_rows(&columns, from, &input, rows), "{told}");
+            }
+            assert_eq!(numbers_of(converted), expected.answer, "{told}");
             assert_eq!(bytes, expected.bytes, "{told}");
+        }
+    }
+}
+
+#[test]
+fn a_refusal_tells_where_its_row_begins_at_every_room() {
+    for seed in seeds(74_000_000, 3_000) {
+        let mut random = Random::new(seed);
+        let from = random.pick(&EVERY_KIND_OF_ROWS);
+        let (columns, input) = stream(&mut random, from, seed);
+        let text = declarations(&columns);
+        let to = random.pick(&EVERY_KIND_OF_ROWS);
+        let whole = converter::convert(&text, from, to, &input, usize::MAX).bytes.len();
+        let mut out = vec![0; random.below(whole + 2)];
+        if let Err(refused) = convert(&text, proved_rows(from), proved_rows(to), &input, &mut out) {
+            let told = format!("seed {seed} from {from:?} to {to:?}: {}", input.escape_ascii());
+            assert_eq!(refused.offset, end_of_rows(&columns, from, &input, refused.rows), "{told}");
         }
     }
 }
@@ -87,8 +103,8 @@ fn columns_are_read_off_as_they_are_declared() {
         let told = || format!("seed {seed}: {}", text.escape_ascii());
         match (model::declarations::read(&text), sailmortar::columns(&text)) {
             (Ok(expected), Ok(columns)) => {
-                let read_off = columns.iter().map(|column| (kind(column.kind), length(column.length)));
-                let expected = expected.iter().map(|column| (column.kind, column.length));
+                let read_off = columns.iter().map(|column| (kind(column.kind), length(column.length), column.null));
+                let expected = expected.iter().map(|column| (column.kind, column.length, column.null));
                 assert!(read_off.eq(expected), "{}", told());
             }
             (Err((number, place)), Err(refusal)) => {
@@ -108,6 +124,7 @@ fn kind(kind: sailmortar::Kind) -> Kind {
         sailmortar::Kind::Int => Kind::Int,
         sailmortar::Kind::Long => Kind::Long,
         sailmortar::Kind::Char => Kind::Char,
+        other => panic!("{other:?} is no kind of the model's"),
     }
 }
 
@@ -116,6 +133,7 @@ fn length(length: sailmortar::Length) -> Length {
         sailmortar::Length::Fixed(elements) => Length::Fixed(elements),
         sailmortar::Length::Bounded(elements) => Length::Bounded(elements),
         sailmortar::Length::Free => Length::Free,
+        other => panic!("{other:?} is no length of the model's"),
     }
 }
 
@@ -126,16 +144,17 @@ fn base64_of_any_size_and_in_pieces() {
         let size = random.below(200);
         let plain = random.bytes(size);
         let expected = model::base64::encode(&plain, usize::MAX);
-        let (answer, letters) = base64_encode_to_vec(&plain);
-        assert_eq!((numbers(answer), &letters), (expected.answer, &expected.bytes), "seed {seed}");
-        let mut pieces = Base64Pieces::default();
+        let mut letters = Vec::new();
+        let answer = base64_encode_to_vec(&plain, &mut letters);
+        assert_eq!((numbers_of(answer), &letters), (expected.answer, &expected.bytes), "seed {seed}");
+        let mut pieces = Base64Writer::new(Vec::new(), 0).expect("memory");
         let step = random.between(1, 9);
-        let mut joined: Vec<u8> = plain.chunks(step).flat_map(|piece| pieces.push(piece)).collect();
-        joined.extend(pieces.finish());
-        assert_eq!(joined, letters, "seed {seed}");
+        plain.chunks(step).for_each(|piece| pieces.write_all(piece).expect("a Vec takes all"));
+        assert_eq!(pieces.finish().expect("a Vec takes all"), letters, "seed {seed}");
         let letters = if seed.is_multiple_of(2) { damaged(&mut random, &letters) } else { letters };
         let expected = model::base64::decode(&letters, usize::MAX);
-        let (answer, bytes) = base64_decode_to_vec(&letters);
-        assert_eq!((numbers(answer), bytes), (expected.answer, expected.bytes), "seed {seed}");
+        let mut bytes = Vec::new();
+        let answer = base64_decode_to_vec(&letters, &mut bytes);
+        assert_eq!((numbers_of(answer), bytes), (expected.answer, expected.bytes), "seed {seed}");
     }
 }

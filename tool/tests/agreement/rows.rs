@@ -286,7 +286,8 @@ fn text_to_binary2_and_back_keeps_every_cell() {
         let convert = |from, to, input: &[u8], room| {
             let mut out = vec![0; room];
             let answer = sailmortar::convert(&text, from, to, input, &mut out);
-            assert_eq!((answer.number, answer.rows), (0, 3), "seed {seed}");
+            let answer = answer.unwrap_or_else(|refused| panic!("seed {seed}: {refused}"));
+            assert_eq!(answer.rows, 3, "seed {seed}");
             out.truncate(answer.bytes as usize);
             out
         };

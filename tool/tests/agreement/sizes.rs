@@ -56,7 +56,7 @@ fn zeros(size: usize) -> Vec<u8> {
 }
 
 /// Calls with a small room; what is not written must stay.
-fn in_room(room: usize, call: impl Fn(&mut [u8]) -> sailmortar::Answer) -> (Answer, Vec<u8>) {
+fn in_room(room: usize, call: impl Fn(&mut [u8]) -> Result<sailmortar::Done, sailmortar::Refused>) -> (Answer, Vec<u8>) {
     let mut out = vec![0xab; room];
     let answer = numbers(call(&mut out));
     let written = answer[4] as usize;

@@ -1,0 +1,86 @@
+//! The base64 step by itself, and what stands behind base64 for a conversion.
+
+use std::io::Write;
+
+use sailmortar::{Base64Writer, Error, INPUT_LIMIT};
+
+use crate::arguments::{Encoding, Files, Usage};
+use crate::files::{Input, Trouble};
+use crate::output::Output;
+use crate::progress::Progress;
+use crate::report::{self, Report, Value};
+use crate::End;
+
+pub fn encode(encoding: &Encoding) -> Result<Report, End> {
+    let (mut input, mut output) = open(&encoding.files)?;
+    let bytes = read(&mut input, "")?;
+    if sailmortar::within_limit(&bytes).is_err() {
+        return Err(End::Refused(report::too_long(&input.name, "")));
+    }
+    let letters = Base64Writer::new(&mut output, encoding.wrap).and_then(|mut letters| {
+        letters.write_all(&bytes)?;
+        letters.finish().map(drop)
+    });
+    letters.map_err(|cause| output.trouble(cause))?;
+    let written = format!("{}: {} bytes encoded to {}", input.name, bytes.len(), output.name);
+    output.finish()?;
+    Ok(accepted(written, bytes.len()))
+}
+
+pub fn decode(files: &Files) -> Result<Report, End> {
+    let (mut input, mut output) = open(files)?;
+    if !files.output_is_said && output.is_terminal() {
+        return Err(not_to_a_terminal("what base64 stands for").into());
+    }
+    let text = read(&mut input, STEP)?;
+    let bytes = decoded(&input.name, text)?;
+    output.write_all(&bytes).map_err(|cause| output.trouble(cause))?;
+    let written = format!("{}: {} bytes decoded to {}", input.name, bytes.len(), output.name);
+    output.finish()?;
+    Ok(accepted(written, bytes.len()))
+}
+
+/// What a message says of the step.
+const STEP: &str = " in the base64 step";
+
+fn open(files: &Files) -> Result<(Input, Output), End> {
+    let (input, output) = (Input::open(&files.input)?, Output::open(&files.output)?);
+    output.keep_off(&[input.identity()])?;
+    Ok((input, output))
+}
+
+fn accepted(line: String, bytes: usize) -> Report {
+    Report { lines: vec![line], facts: vec![("bytes", Value::Number(bytes as u64))] }
+}
+
+/// Someone who forgot `-o` has a screen full of letters, and a terminal that acts on some of them.
+pub fn not_to_a_terminal(what: &str) -> Usage {
+    format!("{what} is no text, and standard output is a terminal: give '-o FILE', or '-o -' to write it here all the same").into()
+}
+
+/// All of the input; `step` says which step is to read it.
+pub fn read(input: &mut Input, step: &str) -> Result<Vec<u8>, End> {
+    if input.is_over(INPUT_LIMIT) {
+        return Err(End::Refused(report::too_long(&input.name, step)));
+    }
+    let mut progress = Progress::new();
+    Ok(input.read(INPUT_LIMIT, |bytes| progress.tick(|| format!("{} MB read", bytes / 1_000_000)))?)
+}
+
+/// The rows of an input, base64 taken off where it is said to be base64. The text is dropped here, so that it takes no memory from then on.
+pub fn read_rows(input: &mut Input, base64: bool) -> Result<Vec<u8>, End> {
+    match base64 {
+        true => read(input, STEP).and_then(|text| decoded(&input.name, text)),
+        false => read(input, ""),
+    }
+}
+
+fn decoded(name: &str, text: Vec<u8>) -> Result<Vec<u8>, End> {
+    let mut bytes = Vec::new();
+    match sailmortar::base64_decode_to_vec(&text, &mut bytes) {
+        Ok(_) => Ok(bytes),
+        Err(Error::Refused(refused)) => Err(End::Refused(report::base64(name, &text, &refused))),
+        Err(Error::System(cause)) => Err(Trouble::with(name)(cause).into()),
+        Err(other) => Err(Trouble::with(name)(std::io::Error::other(other)).into()),
+    }
+}
