@@ -1,128 +1,15 @@
 //! The command as a shell meets it: bytes out, words on standard error, exit statuses, and what is left in the folder.
 
+mod shell;
+
 use std::fs::{self, File};
 use std::io::{Read, Write};
-use std::os::unix::fs::{symlink, FileTypeExt, PermissionsExt};
-use std::path::{Path, PathBuf};
-use std::process::{Child, Command, Output, Stdio};
+use std::process::Command;
 use std::thread;
-use std::time::{Duration, Instant};
+use std::time::Duration;
 
-const PROGRAM: &str = env!("CARGO_BIN_EXE_sailmortar");
-
-const FIELDS: &str = concat!(
-    "<FIELD name='sky' datatype='short'><VALUES null='-99'/></FIELD>\n",
-    "<FIELD name='note' datatype='char' arraysize='4'/>\n",
-    "<FIELD datatype='boolean'/>\n"
-);
-const TABLEDATA: &[u8] = b"<TR><TD>7</TD><TD>a&amp;b</TD><TD>T</TD></TR>\n<TR><TD/><TD>dusk</TD><TD/></TR>\n";
-const BINARY: &[u8] = &[0x00, 0x07, 0x61, 0x26, 0x62, 0x00, 0x54, 0xFF, 0x9D, 0x64, 0x75, 0x73, 0x6B, 0x3F];
-const BINARY2: &[u8] = &[0x00, 0x00, 0x07, 0x61, 0x26, 0x62, 0x00, 0x54, 0xA0, 0x00, 0x00, 0x64, 0x75, 0x73, 0x6B, 0x00];
-const NIGHT: [(&str, &[u8]); 3] = [("tabledata", TABLEDATA), ("binary", BINARY), ("binary2", BINARY2)];
-
-/// A folder of its own for a test, with the sample night in it.
-struct Scratch(PathBuf);
-
-impl Scratch {
-    fn new(test: &str) -> Scratch {
-        let folder = Path::new(env!("CARGO_TARGET_TMPDIR")).join(test);
-        let _ = fs::remove_dir_all(&folder);
-        fs::create_dir_all(&folder).expect("a scratch folder");
-        let scratch = Scratch(folder);
-        scratch.put("fields", FIELDS.as_bytes());
-        for (kind, bytes) in NIGHT {
-            scratch.put(&format!("night.{kind}"), bytes);
-        }
-        scratch
-    }
-
-    fn path(&self, name: &str) -> PathBuf {
-        self.0.join(name)
-    }
-
-    fn put(&self, name: &str, bytes: &[u8]) {
-        fs::write(self.path(name), bytes).expect("a scratch file");
-    }
-
-    fn get(&self, name: &str) -> Vec<u8> {
-        fs::read(self.path(name)).unwrap_or_else(|cause| panic!("{name}: {cause}"))
-    }
-
-    fn has(&self, name: &str) -> bool {
-        self.path(name).exists()
-    }
-
-    /// The temporary files of runs that did not end.
-    fn parts(&self) -> Vec<String> {
-        let names = fs::read_dir(&self.0).expect("the scratch folder").map(|entry| entry.expect("an entry").file_name());
-        names.map(|name| name.to_string_lossy().into_owned()).filter(|name| name.ends_with(".part")).collect()
-    }
-
-    fn command(&self, words: &str) -> Command {
-        let mut command = Command::new(PROGRAM);
-        command.args(words.split_whitespace()).current_dir(&self.0).stdin(Stdio::null());
-        command
-    }
-
-    fn run(&self, words: &str) -> Said {
-        Said::of(self.command(words).output().expect("the program runs"))
-    }
-
-    fn run_with(&self, words: &str, input: &[u8]) -> Said {
-        let mut child = self.spawn(words);
-        let mut stdin = child.stdin.take().expect("a pipe");
-        let input = input.to_vec();
-        let feeder = thread::spawn(move || drop(stdin.write_all(&input)));
-        let output = child.wait_with_output().expect("the program runs");
-        feeder.join().expect("the feeder ends");
-        Said::of(output)
-    }
-
-    fn spawn(&self, words: &str) -> Child {
-        let mut command = self.command(words);
-        command.stdin(Stdio::piped()).stdout(Stdio::piped()).stderr(Stdio::piped());
-        command.spawn().expect("the program runs")
-    }
-}
-
-impl Drop for Scratch {
-    fn drop(&mut self) {
-        if !thread::panicking() {
-            let _ = fs::remove_dir_all(&self.0);
-        }
-    }
-}
-
-/// What a run said.
-#[derive(Debug, PartialEq)]
-struct Said {
-    status: i32,
-    out: Vec<u8>,
-    err: String,
-}
-
-impl Said {
-    fn of(output: Output) -> Said {
-        let status = output.status.code().expect("it was not killed");
-        Said { status, out: output.stdout, err: String::from_utf8(output.stderr).expect("messages are text") }
-    }
-
-    fn good(bytes: &[u8]) -> Said {
-        Said { status: 0, out: bytes.to_vec(), err: String::new() }
-    }
-
-    fn refused(bytes: &[u8], lines: &[&str]) -> Said {
-        Said { status: 1, out: bytes.to_vec(), err: said_lines(lines) }
-    }
-
-    fn trouble(line: &str) -> Said {
-        Said { status: 3, out: Vec::new(), err: said_lines(&[line]) }
-    }
-}
-
-fn said_lines(lines: &[&str]) -> String {
-    lines.iter().map(|line| format!("sailmortar: {line}\n")).collect()
-}
+use sailmortar::{Number, NUMBERS};
+use shell::{Said, Scratch, BINARY2, FIELDS, NIGHT, PROGRAM, TABLEDATA};
 
 #[test]
 fn the_sample_night_from_file_to_file_in_all_nine_ways() {
@@ -180,9 +67,11 @@ fn wrong_usage_is_said_in_a_line() {
     let scratch = Scratch::new("usage");
     let all = "convert --fields fields --from binary --to binary2";
     let wrong = [
-        (String::new(), "say what to do: convert, base64 or explain"),
+        (String::new(), "say what to do: convert, check, columns, base64, explain or help"),
         ("--hlep".into(), "unknown option '--hlep'"),
-        ("konvert".into(), "unknown command 'konvert'; there are convert, base64 and explain"),
+        ("konvert".into(), "unknown command 'konvert'; there are convert, check, columns, base64, explain and help"),
+        ("help konvert".into(), "there is no command 'konvert'; there are convert, check, columns, base64, explain and help"),
+        ("help convert check".into(), "help takes one command at most"),
         ("convert --fields fields night.binary".into(), "convert needs --from KIND and --to KIND as well"),
         ("convert --to binary --from binary".into(), "convert needs --fields FILE as well"),
         ("convert --fields fields --from fits --to binary".into(), "--from takes tabledata, binary or binary2, not 'fits'"),
@@ -203,6 +92,19 @@ fn wrong_usage_is_said_in_a_line() {
             "convert --fields fields --from binary --to tabledata --base64-out".into(),
             "--base64-out is for BINARY and BINARY2: TABLEDATA stands in a VOTable as it is",
         ),
+        (format!("{all} --wrap 76"), "--wrap is for base64: give --base64-out as well"),
+        (format!("{all} --base64-out --wrap 7x"), "--wrap takes a number of letters, not '7x'"),
+        (format!("{all} --base64-out --wrap +7"), "--wrap takes a number of letters, not '+7'"),
+        (format!("{all} -vv"), "--verbose takes no value"),
+        (format!("{all} --rest -"), "the rows and the rest cannot both go to standard output"),
+        (format!("{all} night.binary --rest night.binary"), "--rest wants a file of its own, and night.binary has another use"),
+        (format!("{all} night.binary --rest fields"), "--rest wants a file of its own, and fields has another use"),
+        (format!("{all} night.binary -o new --rest ./new"), "--rest wants a file of its own, and ./new has another use"),
+        ("check --fields fields night.binary".into(), "check needs --from KIND as well"),
+        ("check --fields fields --from binary -o out".into(), "unknown option '-o' for check"),
+        ("columns".into(), "columns needs --fields FILE as well"),
+        ("columns fields --fields fields".into(), "columns takes one file"),
+        ("base64 decode --wrap 76".into(), "--wrap is for base64 encode"),
         ("base64".into(), "say which: base64 encode or base64 decode"),
         ("base64 recode".into(), "base64 can encode and decode, not 'recode'"),
         ("base64 encode --from binary".into(), "unknown option '--from' for base64"),
@@ -220,19 +122,51 @@ fn wrong_usage_is_said_in_a_line() {
 #[test]
 fn help_fits_a_screen() {
     let scratch = Scratch::new("help");
-    let help = scratch.run("--help");
-    let text = String::from_utf8(help.out.clone()).expect("help is text");
-    assert!(help.status == 0 && help.err.is_empty() && text.lines().count() <= 24, "{text}");
-    assert!(text.lines().all(|line| line.chars().count() < 80), "{text}");
-    for word in ["--fields", "--from", "--to", "--base64-in", "--base64-out", "--output", "--version", "explain", "Exit status"] {
+    let commands = ["convert", "check", "columns", "base64", "explain"];
+    for topic in ["", "convert", "check", "columns", "base64", "explain"] {
+        let help = scratch.run(&format!("help {topic}"));
+        let text = String::from_utf8(help.out.clone()).expect("help is text");
+        assert!(help.status == 0 && help.err.is_empty() && text.lines().count() <= 24, "{text}");
+        assert!(text.lines().all(|line| line.chars().count() < 80), "{text}");
+        assert_eq!(scratch.run(&format!("{topic} --help")), help);
+        assert_eq!(scratch.run(&format!("{topic} -h")), help);
+    }
+    let text = String::from_utf8(scratch.run("--help").out).expect("help is text");
+    for word in commands.into_iter().chain(["--fields", "--from", "--to", "--version", "help", "Exit status"]) {
         assert!(text.contains(word), "{word}");
     }
-    for words in ["-h", "convert --help", "convert --fields x -h", "base64 encode --help", "explain -h"] {
-        assert_eq!(scratch.run(words), help, "{words}");
-    }
+    assert_eq!(scratch.run("convert --fields x -h"), scratch.run("help convert"));
+    assert_eq!(scratch.run("help help"), scratch.run("help"));
     let version = format!("sailmortar {}\n", env!("CARGO_PKG_VERSION"));
     for words in ["--version", "-V", "convert -V"] {
         assert_eq!(scratch.run(words), Said::good(version.as_bytes()), "{words}");
+    }
+}
+
+/// The options of each command, as its help lists them.
+const OPTIONS: [(&str, &[&str]); 4] = [
+    (
+        "convert",
+        &["--fields", "--from", "--to", "--base64-in", "--base64-out", "--wrap", "--output", "--rest", "--verbose", "--json", "--help"],
+    ),
+    ("check", &["--fields", "--from", "--to", "--base64-in", "--json", "--help"]),
+    ("columns", &["--fields", "--json", "--help"]),
+    ("base64", &["--wrap", "--output", "--verbose", "--json", "--help"]),
+];
+
+#[test]
+fn help_has_every_option_and_no_other() {
+    let scratch = Scratch::new("options");
+    for (command, options) in OPTIONS {
+        let text = String::from_utf8(scratch.run(&format!("help {command}")).out).expect("help is text");
+        let listed: Vec<&str> = text.lines().filter(|line| line.starts_with("  -")).flat_map(|line| line.split([' ', ','])).collect();
+        let listed: Vec<&str> = listed.into_iter().filter(|word| word.starts_with("--")).collect();
+        assert_eq!(listed, options, "{command}");
+        for option in options {
+            // A word that is no option is an unknown one; an option goes wrong in another way, or not at all.
+            let said = scratch.run(&format!("{command} {option} {option}"));
+            assert!(!said.err.contains("unknown option"), "{command} {option}: {}", said.err);
+        }
     }
 }
 
@@ -240,9 +174,8 @@ fn help_fits_a_screen() {
 fn explain_says_what_each_refusal_means() {
     let scratch = Scratch::new("explain");
     let list = String::from_utf8(scratch.run("explain").out).expect("text");
-    for number in 1..=17 {
-        let meaning = sailmortar::meaning(number).expect("it has a meaning");
-        assert!(list.contains(&format!("{number:2}  {meaning}\n")), "{list}");
+    for Number { number, meaning, .. } in NUMBERS {
+        assert!(*number == 255 || list.contains(&format!("{number:2}  {meaning}\n")), "{list}");
         let said = scratch.run(&format!("explain {number}"));
         let text = String::from_utf8(said.out).expect("text");
         assert_eq!((said.status, said.err.as_str()), (0, ""));
@@ -254,12 +187,18 @@ fn explain_says_what_each_refusal_means() {
 #[test]
 fn the_man_page_has_every_option_and_every_meaning() {
     let page = include_str!("../../man/sailmortar.1").replace("\\-", "-");
-    for option in ["--fields", "--from", "--to", "--base64-in", "--base64-out", "--output", "--help", "--version"] {
+    for option in OPTIONS.iter().flat_map(|(_, options)| *options).chain(&["--version"]) {
         assert!(page.contains(option), "{option}");
     }
-    for number in 1..=17 {
-        assert!(page.contains(&format!("\n{number}\n{}\n", sailmortar::meaning(number).expect("a meaning"))), "{number}");
+    for (command, _) in OPTIONS {
+        assert!(page.contains(&format!("sailmortar {command}")), "{command}");
     }
+    let listed: Vec<&str> =
+        page.split("\n.SH REFUSALS").nth(1).expect("the list").split(".SH").next().expect("its end").split(".TP\n").skip(1).collect();
+    for (known, entry) in NUMBERS.iter().zip(&listed) {
+        assert!(entry.starts_with(&format!("{}\n{}\n", known.number, known.meaning)), "{known:?}: {entry}");
+    }
+    assert_eq!(listed.len(), NUMBERS.len());
     assert!(page.contains(&format!("\"sailmortar {}\"", env!("CARGO_PKG_VERSION"))));
 }
 
@@ -301,18 +240,18 @@ fn a_refused_row_of_text_is_named_by_its_line() {
 }
 
 #[test]
-fn a_refused_first_row_leaves_an_empty_output() {
+fn a_refused_first_row_leaves_the_output_as_it_was() {
     let scratch = Scratch::new("refused_first");
     scratch.put("out", b"yesterday");
     let said = scratch.run_with("convert --fields fields --from tabledata --to binary -o out", b"<TR><TD>7</TD><TD/><TD/><TD/></TR>");
     let lines = [
         "standard input: refusal 10 at row 0, column 3 (after the last cell): \
          TABLEDATA tags or references are broken, or the number of cells is wrong",
-        "no row stands before it",
+        "no row stands before it, and out is left as it was",
         "rows and columns count from 0; row 0 begins in line 1, at byte 0; 'sailmortar explain 10' says more",
     ];
     assert_eq!(said, Said::refused(b"", &lines));
-    assert_eq!(scratch.get("out"), b"");
+    assert_eq!(scratch.get("out"), b"yesterday");
 }
 
 #[test]
@@ -509,81 +448,6 @@ fn a_reader_that_goes_away_ends_the_run_quietly() {
     assert_eq!(Said::of(child.wait_with_output().expect("it ends")), Said { status: 3, out: vec![], err: String::new() });
 }
 
-#[test]
-fn a_killed_run_leaves_the_output_as_it_was() {
-    let scratch = Scratch::new("killed");
-    scratch.put("out", b"yesterday");
-    let mut child = scratch.spawn("convert --fields fields --from binary --to tabledata -o out");
-    let mut stdin = child.stdin.take().expect("a pipe");
-    stdin.write_all(BINARY).expect("it reads");
-    let waited = Instant::now();
-    while scratch.parts().is_empty() {
-        assert!(waited.elapsed() < Duration::from_secs(60), "it opens its output before it has all of its input");
-        thread::sleep(Duration::from_millis(5));
-    }
-    child.kill().expect("it runs");
-    child.wait().expect("it is gone");
-    assert_eq!(scratch.get("out"), b"yesterday");
-    // What the killed run left is in no one's way.
-    assert_eq!(scratch.run("convert --fields fields --from binary --to tabledata night.binary -o out"), Said::good(b""));
-    assert_eq!(scratch.get("out"), TABLEDATA);
-}
-
-#[test]
-fn a_disk_that_is_full_leaves_the_output_as_it_was() {
-    let scratch = Scratch::new("full_disk");
-    scratch.put("byte", b"<FIELD datatype='unsignedByte'/>");
-    scratch.put("long", &[1; 1 << 20]);
-    scratch.put("out", b"yesterday");
-    // A file may have 8 blocks of 512 bytes here, and the signal about it is ignored, so that writing fails as on a full disk.
-    let script = format!("trap '' XFSZ; ulimit -f 8; exec {PROGRAM} convert --fields byte --from binary --to tabledata long -o out");
-    let output = Command::new("sh").args(["-c", &script]).current_dir(&scratch.0).output().expect("sh runs");
-    assert_eq!(Said::of(output), Said::trouble("out: File too large"));
-    assert_eq!((scratch.get("out"), scratch.parts()), (b"yesterday".to_vec(), vec![]));
-}
-
-#[test]
-fn the_output_may_be_the_input() {
-    let scratch = Scratch::new("in_place");
-    assert_eq!(scratch.run("convert --fields fields --from binary --to tabledata night.binary -o night.binary"), Said::good(b""));
-    assert_eq!(scratch.get("night.binary"), TABLEDATA);
-}
-
-#[test]
-fn the_output_has_the_permissions_of_a_plain_file() {
-    let scratch = Scratch::new("permissions");
-    let mode = |name: &str| fs::metadata(scratch.path(name)).expect("it is there").permissions().mode() & 0o7777;
-    let convert = |output: &str| {
-        let words = format!("convert --fields fields --from binary --to tabledata night.binary -o {output}");
-        assert_eq!(scratch.run(&words), Said::good(b""));
-        assert_eq!(scratch.get(output), TABLEDATA);
-    };
-    scratch.put("plain", b"");
-    convert("new");
-    assert_eq!(mode("new"), mode("plain"));
-    scratch.put("old", b"yesterday");
-    fs::set_permissions(scratch.path("old"), fs::Permissions::from_mode(0o640)).expect("it is ours");
-    convert("old");
-    assert_eq!(mode("old"), 0o640);
-    symlink("old", scratch.path("link")).expect("a link");
-    scratch.put("old", b"yesterday");
-    convert("link");
-    assert!(fs::symlink_metadata(scratch.path("link")).expect("it is there").is_symlink(), "the link stays a link");
-    assert_eq!(scratch.get("old"), TABLEDATA);
-}
-
-#[test]
-fn a_pipe_with_a_name_is_written_to_as_it_is() {
-    let scratch = Scratch::new("named_pipe");
-    let made = Command::new("mkfifo").arg(scratch.path("pipe")).status().expect("mkfifo runs");
-    assert!(made.success());
-    let path = scratch.path("pipe");
-    let reader = thread::spawn(move || fs::read(path).expect("a pipe to read"));
-    assert_eq!(scratch.run("convert --fields fields --from binary --to tabledata night.binary -o pipe"), Said::good(b""));
-    assert_eq!(reader.join().expect("the reader ends"), TABLEDATA);
-    assert!(fs::metadata(scratch.path("pipe")).expect("it is there").file_type().is_fifo());
-}
-
 /// Feeds more than a chunk, waits for more than a second, and feeds the rest.
 const SLOW: &str = "
 import os, pty, subprocess, sys, threading, time
@@ -618,11 +482,11 @@ fn progress_is_shown_at_a_terminal_and_wiped() {
     let scratch = Scratch::new("progress");
     scratch.put("int", b"<FIELD datatype='int' name='n'/>");
     let mut python = Command::new("python3");
-    python.args(["-c", SLOW, PROGRAM]).args(["convert", "--fields", "int", "--from", "binary", "--to", "binary2"]);
+    python.env("TERM", "xterm").args(["-c", SLOW, PROGRAM]).args(["convert", "--fields", "int", "--from", "binary", "--to", "binary2"]);
     let output = python.current_dir(&scratch.0).output().expect("python3 runs");
     let said = String::from_utf8(output.stdout).expect("text");
     let (drawn, message) = said.rsplit_once("\r\x1b[K").expect("it is wiped");
-    assert!(drawn.contains("\r\x1b[Ksailmortar: 8 MB read"), "{said:?}");
+    assert!(drawn.contains("\r\x1b[Ksailmortar: 10 MB read"), "{said:?}");
     assert!(message.starts_with("sailmortar: standard input: refusal 8 at row 3932160, column 0 (n): "), "{said:?}");
     assert_eq!(output.status.code(), Some(1));
 }

@@ -15,6 +15,7 @@ use crate::system::{check_open, Doomed, Standard};
 /// An output, opened. A plain file is written beside its name, and moved there by `finish`; dropped before that, nothing is left of it.
 pub struct Output {
     pub name: String,
+    place: Place,
     file: File,
     identity: Option<Identity>,
     moving: Option<Moving>,
@@ -39,7 +40,7 @@ impl Output {
             Place::Standard => check_open(Standard::Output).and_then(|()| descriptor(io::stdout().as_fd())),
             Place::Named(path) => open_named(path),
         };
-        opened.map(|output| Output { name: name.clone(), ..output }).map_err(Trouble::with(&name))
+        opened.map(|output| Output { name: name.clone(), place: place.clone(), ..output }).map_err(Trouble::with(&name))
     }
 
     fn of(file: File, moving: Option<Moving>) -> io::Result<Output> {
@@ -47,7 +48,7 @@ impl Output {
             Some(moving) => fs::metadata(&moving.target).ok(),
             None => Some(file.metadata()?).filter(Metadata::is_file),
         };
-        Ok(Output { name: String::new(), file, identity: identity.map(|metadata| Identity::of(&metadata)), moving })
+        Ok(Output { name: String::new(), place: Place::Standard, file, identity: identity.map(|metadata| Identity::of(&metadata)), moving })
     }
 
     pub fn is_terminal(&self) -> bool {
@@ -104,7 +105,7 @@ impl Output {
             Ok(()) => Ok(beside),
             Err(cause) => fs::remove_file(beside).and(Err(cause)),
         });
-        moved.map(|beside| shown(beside_name(&self.name, &beside).as_os_str())).map_err(|cause| self.trouble(cause))
+        moved.map(|beside| said_beside(&self.place, &beside)).map_err(|cause| self.trouble(cause))
     }
 
     fn move_to(&self, moving: &Moving, target: &Path) -> io::Result<()> {
@@ -116,12 +117,14 @@ impl Output {
     }
 }
 
-/// Said as the output was, a name in this folder is said without its folder.
-fn beside_name(output: &str, beside: &Path) -> PathBuf {
-    match output.contains('/') {
-        true => beside.to_path_buf(),
-        false => beside.file_name().map_or_else(|| beside.to_path_buf(), PathBuf::from),
-    }
+/// The name for people: as the output's own is said, where both stand in one folder.
+fn said_beside(output: &Place, beside: &Path) -> String {
+    let name = beside.file_name().unwrap_or_default();
+    let near = match output {
+        Place::Named(path) if folder(path).canonicalize().is_ok_and(|folder| folder.join(name) == beside) => path.with_file_name(name),
+        _ => beside.to_path_buf(),
+    };
+    shown(near.as_os_str())
 }
 
 impl Write for Output {
@@ -141,7 +144,6 @@ fn descriptor(descriptor: BorrowedFd) -> io::Result<Output> {
 /// A device or a pipe is written to as it is: moving a file over it would take it away.
 fn open_named(path: &Path) -> io::Result<Output> {
     let old = match fs::metadata(path) {
-        Ok(old) if old.is_dir() => return Err(ErrorKind::IsADirectory.into()),
         Ok(old) => old,
         Err(cause) if cause.kind() == ErrorKind::NotFound && !ends_in_slash(path) => return open_new(&followed(path)?),
         Err(cause) => return Err(cause),
@@ -171,16 +173,15 @@ fn standard_descriptor(old: &Metadata) -> io::Result<Option<Output>> {
     Ok(None)
 }
 
-fn open_new(target: &Path) -> io::Result<Output> {
-    if target.file_name().is_none() {
-        return Err(ErrorKind::NotFound.into());
-    }
+fn open_new(path: &Path) -> io::Result<Output> {
+    let name = path.file_name().ok_or(ErrorKind::NotFound)?;
+    let target = folder(path).canonicalize()?.join(name);
     let process = std::process::id();
-    let (file, part) = create_beside(target, |attempt| match attempt {
+    let (file, part) = create_beside(&target, |attempt| match attempt {
         0 => format!(".{process}.part"),
         _ => format!(".{process}.{attempt}.part"),
     })?;
-    let moving = Moving { _doomed: Doomed::new(&part)?, part, target: target.to_path_buf() };
+    let moving = Moving { _doomed: Doomed::new(&part)?, part, target };
     Output::of(file, Some(moving))
 }
 
