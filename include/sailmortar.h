@@ -1,12 +1,13 @@
 /*
  * Sailmortar: rows of VOTable tables between TABLEDATA, BINARY and BINARY2, any to any, and base64.
  *
- * Link target/staticlib/libsailmortar.a, or libsailmortar.so beside it. The functions are proved: whatever bytes come in, the answer is rows or
- * one numbered refusal with its row and column, the good rows before it stand whole in the output, and every byte of the output after them is as
- * it was. They allocate nothing, keep nothing between calls, may be called from several threads at once, and use less than 100 KB of stack.
+ * Link target/library/libsailmortar.a, or libsailmortar.so beside it; once installed, what `pkg-config --cflags --libs sailmortar` says. The
+ * functions that convert are proved: whatever bytes come in, the answer is rows or one numbered refusal with its row and column, the good rows
+ * before it stand whole in the output, and every byte of the output after them is as it was. They allocate nothing, keep nothing between calls,
+ * may be called from several threads at once, and use less than 100 KB of stack.
  *
- * What the caller sees to: a length is the number of bytes behind its pointer; no pointer is null, even where the length is 0; `out` and `answer`
- * overlap nothing else; no length is over PTRDIFF_MAX.
+ * What the caller sees to: a length is the number of bytes behind its pointer; a pointer may be null where its length is 0, `answer` never;
+ * `out` and `answer` overlap nothing else; no length is over PTRDIFF_MAX.
  */
 #ifndef SAILMORTAR_H
 #define SAILMORTAR_H
@@ -17,6 +18,12 @@
 #ifdef __cplusplus
 extern "C" {
 #endif
+
+/* The version of this header. */
+#define SAILMORTAR_VERSION "0.1.0"
+
+/* The version of the library that the program runs with: text that stays, not to be freed. */
+const char *sailmortar_version(void);
 
 /* Kinds of rows. */
 enum {
