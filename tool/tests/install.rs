@@ -1,5 +1,5 @@
 //! tool/install into scratch folders: what it puts where, the command, the library by pkg-config, a second install, DESTDIR, wrong usage; and
-//! that a second build runs nothing.
+//! that a second build, of what tool/build.rs has made, runs nothing.
 
 use std::fs::{self, File};
 use std::io::Read;
@@ -254,4 +254,17 @@ fn a_second_build_runs_nothing() {
     build();
     let second = build();
     assert!(second.contains("Fresh sailmortar ") && !second.contains("Running"), "{second}");
+}
+
+/// Cargo takes a file that is newer than the script's last start for changed, and would run the script that made it once more.
+#[test]
+fn the_library_is_dated_no_later_than_its_newest_source() {
+    let root = Path::new(ROOT);
+    let date = |place: &PathBuf| fs::metadata(place).and_then(|data| data.modified()).expect("a date");
+    let mut sources = files(&root.join("crates"));
+    sources.extend(["crates.txt", "include/sailmortar.h", "tool/build.rs", "tool/version.c"].map(|source| root.join(source)));
+    let newest = sources.iter().map(date).max().expect("a source");
+    for product in ["libsailmortar.a", "libsailmortar.so.0", "libsailmortar.so"] {
+        assert!(date(&root.join("target/library").join(product)) <= newest, "{product}");
+    }
 }
