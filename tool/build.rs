@@ -1,5 +1,5 @@
-//! Makes target/library/ for C and Python, the archive and the shared library of the proved converter, and has cargo link a copy of the archive.
-//! The Rattle toolchain proves and compiles (`rt staticlib sailmortar`), cc adds tool/version.c. Where something is missing it says what.
+//! Makes target/library/ for C and Python, the archive and the shared library of the proved converter, and has cargo link a copy of the
+//! archive. The Rattle toolchain proves and compiles (`rt staticlib sailmortar`), cc adds tool/version.c. It says what is missing.
 
 use std::collections::hash_map::DefaultHasher;
 use std::env;
@@ -131,8 +131,8 @@ fn stands(library: &Path, sources: &Sources) -> bool {
     stamp == sources.fingerprint && PRODUCTS.iter().all(|product| library.join(product).exists())
 }
 
-/// Makes the products in a folder of their own and moves them into place. The stamp goes first and comes last, so that a build that is broken
-/// off leaves none, and a program that has an old product open keeps it whole.
+/// Makes the products in a folder of their own and moves them into place. The stamp goes first and comes last, so that a build that is
+/// broken off leaves none, and a program that has an old product open keeps it whole.
 fn make(root: &Path, library: &Path, sources: &Sources, toolchain: &str) {
     let (stamp, fresh) = (library.join("stamp"), library.join("new"));
     remove(&stamp);
@@ -204,7 +204,7 @@ fn share(fresh: &Path) {
     run(Command::new("ln").args(["-s", SHARED]).arg(fresh.join(LINK)), "make a link");
 }
 
-/// Moves a product to its place and dates it as the newest source: cargo takes a watched file that is newer than the script's start for changed.
+/// Moves a product to its place and dates it as the newest source: cargo takes a file that is newer than the script's start for changed.
 fn put_in_place(made: &Path, place: &Path, date: SystemTime) {
     done(fs::rename(made, place), "moved into place", place);
     done(File::open(place).and_then(|file| file.set_modified(date)), "dated", place);

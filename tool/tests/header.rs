@@ -72,7 +72,8 @@ int main(void) {
     sailmortar_declare(TEXT("<FIELD datatype='int'/><FIELD datatype='real'/>"), answer);
     IS(SAILMORTAR_DATATYPE_NOT_CARRIED, 0, 1, 0, 0);
     if (answer[SAILMORTAR_PLACE] != 1 || answer[SAILMORTAR_COLUMNS] != 0) return __LINE__;
-    if (SAILMORTAR_NUMBER != 0 || SAILMORTAR_ROW != 1 || SAILMORTAR_COLUMN != 2 || SAILMORTAR_ROWS != 3 || SAILMORTAR_BYTES != 4) return __LINE__;
+    if (SAILMORTAR_NUMBER != 0 || SAILMORTAR_ROW != 1 || SAILMORTAR_COLUMN != 2) return __LINE__;
+    if (SAILMORTAR_ROWS != 3 || SAILMORTAR_BYTES != 4) return __LINE__;
     if (SAILMORTAR_DECLARATIONS_BROKEN != 1 || SAILMORTAR_ARRAYSIZE_NOT_CARRIED != 3 || SAILMORTAR_NULL_NO_VALUE != 4) return __LINE__;
     if (SAILMORTAR_COLUMNS_OUT_OF_RANGE != 5 || SAILMORTAR_INPUT_OVER_SIZE != 6 || SAILMORTAR_STREAM_ENDS != 8) return __LINE__;
     if (SAILMORTAR_COUNT_OVER_BOUND != 9 || SAILMORTAR_TABLEDATA_BROKEN != 10 || SAILMORTAR_NO_VALUE != 11) return __LINE__;
@@ -125,7 +126,7 @@ int main(void) {
 "#;
 
 #[test]
-fn the_header_and_the_library_have_the_package_s_version() {
+fn the_header_and_the_library_have_the_version_of_the_package() {
     let output = Command::new(program("cc", &["-std=c99"], "version.c", VERSION)).output().expect("it runs");
     let version = env!("CARGO_PKG_VERSION");
     assert_eq!(String::from_utf8_lossy(&output.stdout), format!("{version} {version}\n"));

@@ -1,5 +1,5 @@
-//! tool/install into scratch folders: what it puts where, the command, the library by pkg-config, a second install, DESTDIR, wrong usage; and
-//! that a second build, of what tool/build.rs has made, runs nothing.
+//! tool/install into scratch folders: what it puts where, the command, the library by pkg-config, a second install, DESTDIR, wrong usage;
+//! and that a second build, of what tool/build.rs has made, runs nothing.
 
 use std::fs::{self, File};
 use std::io::Read;
@@ -154,7 +154,7 @@ fn the_shared_library_has_its_soname() {
 }
 
 #[test]
-fn pkg_config_s_file_has_the_package_s_version() {
+fn the_file_of_pkg_config_has_the_version_of_the_package() {
     let file = installed("the version").join("lib/pkgconfig/sailmortar.pc");
     let file = fs::read_to_string(file).expect("the file of pkg-config");
     assert!(file.lines().any(|line| line == format!("Version: {VERSION}")), "{file}");
