@@ -1,7 +1,7 @@
 /*
  * The sample night from C: text to BINARY2, BINARY2 to base64, and a cut file.
  *
- *     cc -I include examples/night.c target/staticlib/libsailmortar.a -o night && ./night
+ *     cc -I include examples/night.c target/library/libsailmortar.a -o night && ./night
  */
 #include <inttypes.h>
 #include <stdio.h>

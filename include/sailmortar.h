@@ -1,12 +1,13 @@
 /*
  * Sailmortar: rows of VOTable tables between TABLEDATA, BINARY and BINARY2, any to any, and base64.
  *
- * Link target/staticlib/libsailmortar.a, or libsailmortar.so beside it. The functions are proved: whatever bytes come in, the answer is rows or
- * one numbered refusal with its row and column, the good rows before it stand whole in the output, and every byte of the output after them is as
- * it was. They allocate nothing, keep nothing between calls, may be called from several threads at once, and use less than 100 KB of stack.
+ * Link target/library/libsailmortar.a, or libsailmortar.so beside it; once installed, what `pkg-config --cflags --libs sailmortar` says.
+ * All functions but sailmortar_version are proved: whatever bytes come in, the answer is rows or one numbered refusal with its row and
+ * column, the good rows before it stand whole in the output, and every byte of the output after them is as it was. They allocate nothing,
+ * keep nothing between calls, may be called from several threads at once, and use less than 100 KB of stack.
  *
- * What the caller sees to: a length is the number of bytes behind its pointer; no pointer is null, even where the length is 0; `out` and `answer`
- * overlap nothing else; no length is over PTRDIFF_MAX.
+ * What the caller sees to: a length is the number of bytes behind its pointer; a pointer may be null where its length is 0, `answer` never;
+ * `out` and `answer` overlap nothing else; no length is over PTRDIFF_MAX.
  */
 #ifndef SAILMORTAR_H
 #define SAILMORTAR_H
@@ -17,6 +18,12 @@
 #ifdef __cplusplus
 extern "C" {
 #endif
+
+/* The version of this header. */
+#define SAILMORTAR_VERSION "0.1.0"
+
+/* The version of the library that the program runs with: text that stays, not to be freed. */
+const char *sailmortar_version(void);
 
 /* Kinds of rows. */
 enum {
@@ -73,7 +80,7 @@ void sailmortar_convert(const uint8_t *decls, size_t decls_length, uint32_t from
 /* Decodes base64 (RFC 4648, white space skipped anywhere). A refusal, 6, 7 or 17, writes nothing. (n / 4 + 1) * 3 bytes are room enough. */
 void sailmortar_base64_decode(const uint8_t *input, size_t input_length, uint8_t *out, size_t out_length, uint64_t answer[5]);
 
-/* Encodes base64, without line breaks and without a NUL at the end. A refusal, 6 or 17, writes nothing. (n + 2) / 3 * 4 bytes are room enough. */
+/* Encodes base64, without line breaks or a NUL at the end. A refusal, 6 or 17, writes nothing. (n + 2) / 3 * 4 bytes are room enough. */
 void sailmortar_base64_encode(const uint8_t *input, size_t input_length, uint8_t *out, size_t out_length, uint64_t answer[5]);
 
 /* Judges declarations alone, and counts their columns. */

@@ -1,4 +1,4 @@
-//! include/sailmortar.h by C programs: the example, every function and number, and the header as C++.
+//! include/sailmortar.h by C programs: the example, every function and number, the version, null pointers, and the header as C++.
 
 use std::fs;
 use std::path::{Path, PathBuf};
@@ -10,7 +10,7 @@ const ROOT: &str = env!("CARGO_MANIFEST_DIR");
 fn compile(compiler: &str, words: &[&str], source: &Path, program: &Path) {
     let mut command = Command::new(compiler);
     command.args(words).args(["-Wall", "-Wextra", "-Wpedantic", "-Wconversion", "-Werror", "-I"]).arg(Path::new(ROOT).join("include"));
-    command.arg(source).arg(Path::new(ROOT).join("target/staticlib/libsailmortar.a")).arg("-o").arg(program);
+    command.arg(source).arg(Path::new(ROOT).join("target/library/libsailmortar.a")).arg("-o").arg(program);
     let output = command.output().unwrap_or_else(|cause| panic!("{compiler}: {cause}"));
     assert!(output.status.success(), "{}", String::from_utf8_lossy(&output.stderr));
 }
@@ -72,7 +72,8 @@ int main(void) {
     sailmortar_declare(TEXT("<FIELD datatype='int'/><FIELD datatype='real'/>"), answer);
     IS(SAILMORTAR_DATATYPE_NOT_CARRIED, 0, 1, 0, 0);
     if (answer[SAILMORTAR_PLACE] != 1 || answer[SAILMORTAR_COLUMNS] != 0) return __LINE__;
-    if (SAILMORTAR_NUMBER != 0 || SAILMORTAR_ROW != 1 || SAILMORTAR_COLUMN != 2 || SAILMORTAR_ROWS != 3 || SAILMORTAR_BYTES != 4) return __LINE__;
+    if (SAILMORTAR_NUMBER != 0 || SAILMORTAR_ROW != 1 || SAILMORTAR_COLUMN != 2) return __LINE__;
+    if (SAILMORTAR_ROWS != 3 || SAILMORTAR_BYTES != 4) return __LINE__;
     if (SAILMORTAR_DECLARATIONS_BROKEN != 1 || SAILMORTAR_ARRAYSIZE_NOT_CARRIED != 3 || SAILMORTAR_NULL_NO_VALUE != 4) return __LINE__;
     if (SAILMORTAR_COLUMNS_OUT_OF_RANGE != 5 || SAILMORTAR_INPUT_OVER_SIZE != 6 || SAILMORTAR_STREAM_ENDS != 8) return __LINE__;
     if (SAILMORTAR_COUNT_OVER_BOUND != 9 || SAILMORTAR_TABLEDATA_BROKEN != 10 || SAILMORTAR_NO_VALUE != 11) return __LINE__;
@@ -82,24 +83,116 @@ int main(void) {
 }
 "#;
 
-fn run_cases(compiler: &str, words: &[&str], source: &str) {
-    let (source, program) = (scratch(source), scratch(&format!("{source}.program")));
-    fs::write(&source, CASES).expect("a scratch file");
+/// The program of a text, compiled; the source has the name given.
+fn program(compiler: &str, words: &[&str], name: &str, text: &str) -> PathBuf {
+    let (source, program) = (scratch(name), scratch(&format!("{name}.program")));
+    fs::write(&source, text).expect("a scratch file");
     compile(compiler, words, &source, &program);
-    let status = Command::new(&program).status().expect("it runs");
-    assert_eq!(status.code(), Some(0), "the status is the line that is wrong");
+    program
+}
+
+fn assert_no_line_is_wrong(command: &mut Command) {
+    let output = command.output().expect("it runs");
+    assert_eq!(output.status.code(), Some(0), "the status is the line that is wrong\n{}", String::from_utf8_lossy(&output.stderr));
+}
+
+fn is_here(tool: &str) -> bool {
+    let here = Command::new(tool).arg("--version").output().is_ok();
+    if !here {
+        eprintln!("there is no {tool} here: not run");
+    }
+    here
 }
 
 #[test]
 fn every_function_and_number_from_c() {
-    run_cases("cc", &["-std=c99"], "cases.c");
+    assert_no_line_is_wrong(&mut Command::new(program("cc", &["-std=c99"], "cases.c", CASES)));
 }
 
 #[test]
 fn every_function_and_number_from_cplusplus() {
-    if Command::new("c++").arg("--version").output().is_err() {
-        eprintln!("there is no c++ here: not run");
-        return;
+    if is_here("c++") {
+        assert_no_line_is_wrong(&mut Command::new(program("c++", &[], "cases.cc", CASES)));
     }
-    run_cases("c++", &[], "cases.cc");
+}
+
+const VERSION: &str = r#"
+#include "sailmortar.h"
+#include <stdio.h>
+int main(void) {
+    printf("%s %s\n", SAILMORTAR_VERSION, sailmortar_version());
+    return 0;
+}
+"#;
+
+#[test]
+fn the_header_and_the_library_have_the_version_of_the_package() {
+    let output = Command::new(program("cc", &["-std=c99"], "version.c", VERSION)).output().expect("it runs");
+    let version = env!("CARGO_PKG_VERSION");
+    assert_eq!(String::from_utf8_lossy(&output.stdout), format!("{version} {version}\n"));
+}
+
+/// Each pointer that has a length, null with the length 0, alone and with the others; the program's status is the line that is wrong.
+const NULLS: &str = r#"
+#include "sailmortar.h"
+#include <string.h>
+#define IS(number) \
+    if (answer[0] != (number) || answer[1] != 0 || answer[2] != 0 || answer[3] != 0 || answer[4] != 0) return __LINE__; \
+    if (out[0] != 0xEE) return __LINE__; \
+    memset(answer, 0xEE, sizeof answer)
+static const uint8_t decls[] = "<FIELD datatype='short'/>";
+static const uint8_t row[3][20] = {"<TR><TD>7</TD></TR>", {0, 7}, {0, 0, 7}};
+static const size_t length[3] = {19, 2, 3};
+static uint8_t out[64] = {0xEE};
+static uint64_t answer[5];
+static int nulls_in_rows(uint32_t from, uint32_t to) {
+    sailmortar_convert(NULL, 0, from, to, row[from], length[from], out, sizeof out, answer);
+    IS(SAILMORTAR_COLUMNS_OUT_OF_RANGE);
+    sailmortar_convert(decls, sizeof decls - 1, from, to, NULL, 0, out, sizeof out, answer);
+    IS(SAILMORTAR_ACCEPTED);
+    sailmortar_convert(decls, sizeof decls - 1, from, to, row[from], length[from], NULL, 0, answer);
+    IS(SAILMORTAR_NO_ROOM);
+    sailmortar_convert(decls, sizeof decls - 1, from, to, NULL, 0, NULL, 0, answer);
+    IS(SAILMORTAR_ACCEPTED);
+    sailmortar_convert(NULL, 0, from, to, NULL, 0, NULL, 0, answer);
+    IS(SAILMORTAR_COLUMNS_OUT_OF_RANGE);
+    return 0;
+}
+static int nulls_elsewhere(void) {
+    sailmortar_convert(NULL, 0, 3, 3, NULL, 0, NULL, 0, answer);
+    IS(SAILMORTAR_NO_SUCH_KIND);
+    sailmortar_base64_decode(NULL, 0, out, sizeof out, answer);
+    IS(SAILMORTAR_ACCEPTED);
+    sailmortar_base64_decode((const uint8_t *)"Zg==", 4, NULL, 0, answer);
+    IS(SAILMORTAR_NO_ROOM);
+    sailmortar_base64_decode(NULL, 0, NULL, 0, answer);
+    IS(SAILMORTAR_ACCEPTED);
+    sailmortar_base64_encode(NULL, 0, out, sizeof out, answer);
+    IS(SAILMORTAR_ACCEPTED);
+    sailmortar_base64_encode((const uint8_t *)"f", 1, NULL, 0, answer);
+    IS(SAILMORTAR_NO_ROOM);
+    sailmortar_base64_encode(NULL, 0, NULL, 0, answer);
+    IS(SAILMORTAR_ACCEPTED);
+    sailmortar_declare(NULL, 0, answer);
+    IS(SAILMORTAR_COLUMNS_OUT_OF_RANGE);
+    return 0;
+}
+int main(void) {
+    int wrong = nulls_elsewhere();
+    for (uint32_t way = 0; way < 9 && wrong == 0; way++) wrong = nulls_in_rows(way / 3, way % 3);
+    return wrong;
+}
+"#;
+
+#[test]
+fn a_pointer_may_be_null_where_its_length_is_0() {
+    assert_no_line_is_wrong(&mut Command::new(program("cc", &["-std=c99"], "nulls.c", NULLS)));
+}
+
+#[test]
+fn valgrind_sees_nothing_wrong_with_null_pointers() {
+    if is_here("valgrind") {
+        let program = program("cc", &["-std=c99"], "nulls_under_valgrind.c", NULLS);
+        assert_no_line_is_wrong(Command::new("valgrind").args(["--quiet", "--error-exitcode=255"]).arg(program));
+    }
 }
