@@ -196,3 +196,18 @@ fn valgrind_sees_nothing_wrong_with_null_pointers() {
         assert_no_line_is_wrong(Command::new("valgrind").args(["--quiet", "--error-exitcode=255"]).arg(program));
     }
 }
+
+/// The numbers that the header gives names to, in its list of refusal numbers.
+fn listed_numbers() -> Vec<(String, u64)> {
+    let header = fs::read_to_string(Path::new(ROOT).join("include/sailmortar.h")).expect("the header");
+    let list = header.split("/* Refusal numbers. */").nth(1).and_then(|rest| rest.split("};").next()).expect("the list");
+    let entries = list.lines().filter_map(|line| line.trim().strip_prefix("SAILMORTAR_")?.split_once(" = "));
+    entries.map(|(name, rest)| (name.to_string(), rest.split([',', ' ']).next().unwrap_or_default().parse().expect("a number"))).collect()
+}
+
+#[test]
+fn the_header_names_every_number_as_the_library_does() {
+    let accepted = ("ACCEPTED".to_string(), 0);
+    let numbers = sailmortar::NUMBERS.iter().map(|known| (known.name.to_string(), known.number));
+    assert_eq!(listed_numbers(), std::iter::once(accepted).chain(numbers).collect::<Vec<_>>());
+}
