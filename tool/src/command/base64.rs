@@ -5,6 +5,7 @@ use std::io::Write;
 use sailmortar::{Base64Writer, Error, INPUT_LIMIT};
 
 use crate::arguments::{Encoding, Files, Usage};
+use crate::convert::counted;
 use crate::files::{Input, Trouble};
 use crate::output::Output;
 use crate::progress::Progress;
@@ -22,7 +23,7 @@ pub fn encode(encoding: &Encoding) -> Result<Report, End> {
         letters.finish().map(drop)
     });
     letters.map_err(|cause| output.trouble(cause))?;
-    let written = format!("{}: {} bytes encoded to {}", input.name, bytes.len(), output.name);
+    let written = format!("{}: {} encoded to {}", input.name, counted(bytes.len() as u64, "byte"), output.name);
     output.finish()?;
     Ok(accepted(written, bytes.len()))
 }
@@ -35,7 +36,7 @@ pub fn decode(files: &Files) -> Result<Report, End> {
     let text = read(&mut input, STEP)?;
     let bytes = decoded(&input.name, text)?;
     output.write_all(&bytes).map_err(|cause| output.trouble(cause))?;
-    let written = format!("{}: {} bytes decoded to {}", input.name, bytes.len(), output.name);
+    let written = format!("{}: {} decoded to {}", input.name, counted(bytes.len() as u64, "byte"), output.name);
     output.finish()?;
     Ok(accepted(written, bytes.len()))
 }

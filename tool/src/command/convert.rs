@@ -78,7 +78,8 @@ impl Outputs {
 
     /// All rows are good.
     fn finish(mut self, input_name: &str, read: usize, done: &Done) -> Result<Report, End> {
-        let said = format!("{input_name}: {}, {read} bytes read, {} bytes written to {}", rows(done.rows), done.bytes, self.output.name);
+        let (rows, read_bytes, bytes) = (counted(done.rows, "row"), counted(read as u64, "byte"), counted(done.bytes, "byte"));
+        let said = format!("{input_name}: {rows}, {read_bytes} read, {bytes} written to {}", self.output.name);
         let counts = [("rows", done.rows), ("read", read as u64), ("bytes", done.bytes)];
         let mut facts: Vec<_> = counts.into_iter().map(|(name, number)| (name, Value::Number(number))).collect();
         facts.push(("output", Value::Text(self.output.name.clone())));
@@ -111,8 +112,9 @@ impl Outputs {
     }
 }
 
-fn rows(count: u64) -> String {
-    format!("{count} row{}", if count == 1 { "" } else { "s" })
+/// So many of a thing, in words.
+pub fn counted(count: u64, thing: &str) -> String {
+    format!("{count} {thing}{}", if count == 1 { "" } else { "s" })
 }
 
 fn convert_into(output: &mut Output, conversion: &Conversion, decls: &[u8], input: &[u8]) -> Result<Done, Error> {
@@ -160,8 +162,10 @@ pub fn check(checking: &Checking, telling: Telling) -> Result<Report, End> {
 }
 
 fn good(name: &str, count: u64, bytes: usize, columns: usize, telling: Telling) -> Result<Report, End> {
-    let line = format!("{name}: {}, {bytes} bytes, {columns} column{}", rows(count), if columns == 1 { "" } else { "s" });
     let numbers = [("rows", count), ("read", bytes as u64), ("columns", columns as u64)];
+    let [rows, bytes, columns] =
+        [("row", count), ("byte", bytes as u64), ("column", columns as u64)].map(|(thing, count)| counted(count, thing));
+    let line = format!("{name}: {rows}, {bytes}, {columns}");
     let facts = numbers.into_iter().map(|(name, number)| (name, Value::Number(number))).collect();
     match telling.json {
         true => Ok(Report { lines: vec![line], facts }),
