@@ -224,7 +224,7 @@ fn out_of_memory_is_said_and_leaves_nothing() {
         assert_eq!(refused, [(); 3].map(|()| Said::trouble("out of memory")), "{line}");
         assert_eq!((scratch.get("out"), scratch.parts()), (b"yesterday".to_vec(), vec![]), "{line}");
         // Somewhere between these an input fits and what is made of it does not.
-        for limit in (70_000..250_000).step_by(15_000) {
+        for limit in (70_000..250_000).step_by(30_000) {
             let said = with_memory(&scratch, limit, line);
             assert!(said.status == 0 || said == Said::trouble("out of memory"), "{line} with {limit}: {said:?}");
             assert_eq!(scratch.parts(), [""; 0], "{line} with {limit}");
