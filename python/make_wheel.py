@@ -1,4 +1,4 @@
-"""Writes the wheel that pip installs (PEP 517): the module, the shared library beside it, and what a wheel says of itself. Needs nothing else."""
+"""Writes the wheel that pip installs (PEP 517): the module, the shared library beside it, and what a wheel says of itself."""
 
 import base64
 import hashlib

@@ -12,14 +12,15 @@
     >>> sailmortar.columns(fields)
     [Column(place=0, name=None, kind='short', length='1', bound=1, null=-99)]
 
-The converter is proved: whatever bytes come in, the answer is rows or one numbered refusal with its row and column, and the rows before it stand.
-This file is the thin, unproved layer over its shared library, libsailmortar.so.0. Where the environment names a file in SAILMORTAR_LIBRARY, that
-file is loaded and no other; else the library is looked for beside this file, in ../target/library/ (where 'cargo build' makes it), in ../../ (the
-lib/ that site-packages stands under), and last where the system looks for libraries.
+The converter is proved: whatever bytes come in, the answer is rows or one numbered refusal with its row and column, and the rows before it
+stand. This file is the thin, unproved layer over its shared library, libsailmortar.so.0. Where the environment names a file in
+SAILMORTAR_LIBRARY, that file is loaded and no other; else the library is looked for beside this file, in ../target/library/ (where
+'cargo build' makes it), in ../../ (the lib/ that site-packages stands under), and last where the system looks for libraries.
 
-Every argument that is bytes may be any buffer: bytes, bytearray, memoryview, mmap, array, a numpy array. What counts is its bytes in their order,
-as tobytes() has them, so that the numbers in an array of wider items must be big-endian. A buffer in one piece is read where it lies, without a
-copy: nobody may write to it while a call reads it. What is no buffer (a str, an int, a list, a single numpy number) is a TypeError.
+Every argument that is bytes may be any buffer: bytes, bytearray, memoryview, mmap, array, a numpy array. What counts is its bytes in their
+order, as tobytes() has them, so that the numbers in an array of wider items must be big-endian. A buffer in one piece is read where it
+lies, without a copy: nobody may write to it while a call reads it. What is no buffer (a str, an int, a list, a single numpy number) is a
+TypeError.
 """
 
 from __future__ import annotations
@@ -39,7 +40,8 @@ if TYPE_CHECKING:
 else:
     Buffer = Union[bytes, bytearray, memoryview]
 
-__all__ = ["Answer", "Column", "MEANINGS", "Refused", "Rows", "__version__", "base64_decode", "base64_encode", "columns", "convert", "declare"]
+__all__ = ["Answer", "Column", "MEANINGS", "Refused", "Rows", "__version__"]
+__all__ += ["base64_decode", "base64_encode", "columns", "convert", "declare"]
 
 __version__ = "0.1.0"
 
@@ -218,7 +220,7 @@ def _declare(text: memoryview) -> int:
 
 
 def _view(argument: str, value: Buffer) -> memoryview:
-    """The bytes of an argument in one piece, a copy only where they lie in several. To be left by `with`, so that the buffer is free again."""
+    """The bytes of an argument in one piece, a copy only where they lie in several. Left by `with`, so that the buffer is free again."""
     try:
         view = memoryview(value)
     except TypeError:
@@ -258,13 +260,14 @@ class _PyBuffer(ctypes.Structure):
 
 
 # Made by prototypes, not taken from ctypes.pythonapi, whose functions every module of the program shares.
-_get_buffer = ctypes.PYFUNCTYPE(ctypes.c_int, ctypes.py_object, ctypes.POINTER(_PyBuffer), ctypes.c_int)(("PyObject_GetBuffer", ctypes.pythonapi))
+_get = ctypes.PYFUNCTYPE(ctypes.c_int, ctypes.py_object, ctypes.POINTER(_PyBuffer), ctypes.c_int)
+_get_buffer = _get(("PyObject_GetBuffer", ctypes.pythonapi))
 _release_buffer = ctypes.PYFUNCTYPE(None, ctypes.POINTER(_PyBuffer))(("PyBuffer_Release", ctypes.pythonapi))
 _NOTHING = ctypes.c_char()
 
 
 def _address(view: memoryview) -> int:
-    """Where the bytes of a view in one piece lie, for as long as the view is held. Never 0, which no function of the library may be given."""
+    """Where the bytes of a view in one piece lie, as long as the view is held. Never 0, which no function of the library may be given."""
     buffer = _PyBuffer()
     _get_buffer(view, buffer, 0)
     address = buffer.buf
@@ -282,7 +285,7 @@ _UNPROMISED = mmap.MAP_PRIVATE | mmap.MAP_ANONYMOUS | getattr(mmap, "MAP_NORESER
 
 
 def _answered(call: _Call, less: int, enough: int) -> Tuple[Answer, bytes]:
-    """What a call answers and writes: in room enough for it or, where the system does not give so much, in `less` and then in more and more."""
+    """What a call answers and writes: in room enough or, where the system does not give so much, in `less` and then in more and more."""
     room = enough if _is_given(enough) else min(less, enough)
     answer, output = _called(call, room)
     while answer.number == _NO_ROOM:
@@ -342,8 +345,10 @@ _ELEMENTS = {
 def _room(declared: List[Column], source: Rows, target: Rows, length: int) -> int:
     """How many bytes `length` bytes of rows can become at most.
 
-    A row read takes at least `least` bytes, and those of its content on top; written it takes at most `most` bytes, and on top so many for each
-    byte of its content. So much for so much, part by part: no row grows more than the part that grows most, and neither do many rows.
+    A row read takes at least `least` bytes and its content on top; written it takes at most `most` bytes and, for each byte of content, so
+    many as its column's ratio says. (most + ratio * content) / (least + content) lies between most / least and ratio: the greatest of these
+    holds for every row, and so for all of them together. It is large where null cells are long: the 5 bytes of <TD/> become 32,768 in a
+    column of 4,096 longs.
     """
     least = _around(source, declared) + sum(_least_read(column, source) for column in declared)
     # One more, since a row of text ends its line.
@@ -365,7 +370,7 @@ def _least_read(column: Column, source: Rows) -> int:
 
 
 def _most_written(column: Column, source: Rows, target: Rows) -> int:
-    """The most bytes of a cell apart from its content: <TD> and </TD>, a count and the byte that its last bits fill; all of a cell without."""
+    """The most bytes of a cell but for its content: <TD> and </TD>, or a count and the byte of its last bits; of one without, all of it."""
     if target is Rows.TABLEDATA:
         return 9 if _has_content(column, source, target) else 9 + column.bound * _ELEMENTS[column.kind].longest
     return 4 + 1 if _is_counted(column) else _fixed_bytes(column)
@@ -453,8 +458,8 @@ def _end_of_rows(declared: List[Column], source: Rows, given: memoryview, rows: 
 
 
 def _steps(flags: int, declared: List[Column]) -> Tuple[int, List[Tuple[int, int]]]:
-    """The bytes of a row before its first count; and for each counted column the bits of an element, and the bytes from its content to the next
-    content: those of fixed cells, of the next row's flags behind the last, and of the next count."""
+    """The bytes of a row before its first count; and for each counted column the bits of an element, and the bytes beside its content up to
+    the next count: its own count, the fixed cells behind it and, where it is the last, the next row up to its first count."""
     start, steps = flags, []
     for column in declared:
         if _is_counted(column):
@@ -512,7 +517,8 @@ def _check_version(library: ctypes.CDLL, found: str) -> None:
         function.argtypes, function.restype = [], ctypes.c_char_p
         version = function().decode("utf-8", "replace")
     if version != __version__:
-        raise ImportError(f"module and library do not fit: {__file__} is version {__version__}, and {found} says {version}", path=found)
+        words = f"module and library do not fit: {__file__} is version {__version__}, and {found} says {version}"
+        raise ImportError(f"{words}; build or install both together", path=found)
 
 
 def _declare_types(library: ctypes.CDLL) -> None:

@@ -13,7 +13,7 @@ SPACE = ("", "", "", " ", "\n", "\r\t ")
 
 
 class Style(NamedTuple):
-    """How a table's cells are chosen: how many of them are null, how many have all the elements they may, how many elements are long ones."""
+    """How cells are chosen: how many of them are null, how many have all the elements they may, how many elements are long ones."""
 
     null: float
     full: float
@@ -82,13 +82,14 @@ def word(kind: str, long: bool) -> str:
 def binary_cell(column: Column, null: bool, style: Style) -> bytes:
     """A cell of BINARY or BINARY2; a null one is as a flag, or a declared null of 0, or a count of 0 has it."""
     count = 0 if null and column.length.endswith("*") else elements(column, style)
-    content = bytes(-(-count * BITS.get(column.kind, 1 if column.kind == "bit" else 8) // 8)) if null else binary_content(column.kind, count, style)
+    content = binary_content(column.kind, count, style)
+    content = bytes(len(content)) if null else content
     return count.to_bytes(4, "big") + content if column.length.endswith("*") else content
 
 
 def binary_content(kind: str, count: int, style: Style) -> bytes:
     if kind == "bit":
-        return (random.getrandbits(count) << -count % 8).to_bytes(-(-count // 8), "big")
+        return (random.randrange(1 << count) << -count % 8).to_bytes(-(-count // 8), "big")
     if kind in BITS:
         least = 255 if kind == "unsignedByte" else 1 << BITS[kind] - 1
         return b"".join((least if random.random() < style.long else 7).to_bytes(BITS[kind] // 8, "big") for _ in range(count))

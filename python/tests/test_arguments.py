@@ -2,6 +2,7 @@
 
 import array
 import ctypes
+import itertools
 import mmap
 import unittest
 
@@ -21,9 +22,9 @@ OPEN = [
     (sailmortar.base64_encode, "data", b"foo"),
 ]
 
-# The last three offer their bytes as numpy's numbers do: with no dimension.
-NO_BUFFERS = [4, True, 2.5, None, [0, 7], (0, 7), range(4), {0}, "text", object(), iter(b""), bytes, ctypes.c_int(4), memoryview(b"four").cast("i", [])]
-NO_BUFFERS.append(memoryview(ctypes.c_uint64(7)))
+NO_BUFFERS = [4, True, 2.5, None, [0, 7], (0, 7), range(4), {0}, "text", object(), iter(b""), bytes]
+# These offer their bytes as numpy's numbers do: with no dimension.
+NO_BUFFERS += [ctypes.c_int(4), memoryview(ctypes.c_uint64(7)), memoryview(b"four").cast("i", [])]
 
 
 def mapped(data):
@@ -40,18 +41,17 @@ def spread(data):
 def buffers(data):
     """The same bytes in every form that is taken."""
     padded = b"?" + data + b"?"
-    forms = [data, bytearray(data), memoryview(data), memoryview(bytearray(data)), memoryview(padded)[1:-1], array.array("B", data), mapped(data)]
-    forms += [spread(data), memoryview(data[::-1])[::-1], (ctypes.c_char * len(data)).from_buffer_copy(data), (ctypes.c_ubyte * len(data))(*data)]
+    forms = [data, bytearray(data), memoryview(data), memoryview(bytearray(data)), memoryview(padded)[1:-1], spread(data)]
+    forms += [memoryview(data[::-1])[::-1], array.array("B", data), mapped(data), (ctypes.c_ubyte * len(data))(*data)]
     forms += [memoryview(data).cast("b"), memoryview(data).cast("c"), memoryview(data).cast("B", [len(data), 1])]
     return forms
 
 
 class Arguments(unittest.TestCase):
     def test_what_is_no_buffer_is_a_type_error_that_names_argument_and_remedy(self):
-        for call, argument, _ in OPEN:
-            for value in NO_BUFFERS:
-                with self.assertRaisesRegex(TypeError, f"^{argument}: give bytes, bytearray, memoryview .*, not {type(value).__name__}"):
-                    call(value)
+        for (call, argument, _), value in itertools.product(OPEN, NO_BUFFERS):
+            with self.assertRaisesRegex(TypeError, f"^{argument}: give bytes, bytearray, memoryview .*, not {type(value).__name__}"):
+                call(value)
 
     def test_a_text_is_told_how_to_become_bytes(self):
         for call, argument, _ in OPEN:
@@ -68,13 +68,11 @@ class Arguments(unittest.TestCase):
 
     def test_every_buffer_is_taken_as_its_bytes(self):
         for call, argument, data in OPEN:
-            expected = call(data)
-            for form in buffers(data):
-                self.assertEqual(call(form), expected, (argument, form))
+            self.assertEqual([call(form) for form in buffers(data)], [call(data)] * len(buffers(data)), argument)
 
     def test_wider_items_count_as_their_bytes_in_order(self):
-        wide = [memoryview(ROWS).cast("H"), memoryview(ROWS).cast("H", [2, 1]), array.array("I", ROWS), (ctypes.c_uint16 * 2).from_buffer_copy(ROWS)]
-        wide.append(memoryview(ROWS[:2] + b"\xee\xee" + ROWS[2:]).cast("H")[::2])
+        wide = [memoryview(ROWS).cast("H"), memoryview(ROWS).cast("H", [2, 1]), memoryview(ROWS[:2] + b"??" + ROWS[2:]).cast("H")[::2]]
+        wide += [array.array("I", ROWS), (ctypes.c_uint16 * 2).from_buffer_copy(ROWS)]
         for form in wide:
             self.assertEqual(sailmortar.convert(SHORT, "binary", "tabledata", form), TEXT)
 
@@ -95,25 +93,24 @@ class Arguments(unittest.TestCase):
             self.assertEqual(sailmortar._address(view), ctypes.addressof(ctypes.c_char.from_buffer(data)) + 1)
 
     def test_a_buffer_is_free_again_after_a_call_and_after_a_refusal(self):
-        for call, _, data in OPEN:
-            for held in (bytearray(data), bytearray(data[:-1])):
-                try:
-                    call(held)
-                except sailmortar.Refused:
-                    held.clear()
-                # A buffer that is still held cannot change its length, and a mapping not be closed.
-                held.append(0)
+        for (call, _, data), cut in itertools.product(OPEN, (0, 1)):
+            held = bytearray(data[: len(data) - cut])
+            # A buffer that is still held cannot change its length, and a mapping not be closed.
+            try:
+                call(held)
+            except sailmortar.Refused:
+                held.clear()
+            held.append(0)
         mapping = mapped(ROWS[:-1])
         with self.assertRaises(sailmortar.Refused):
             sailmortar.convert(SHORT, "binary", "tabledata", mapping)
         mapping.close()
 
     def test_a_wrong_kind_of_rows_is_a_value_error(self):
-        for wrong in ("fits", "", 3, 0, True, None, b"binary"):
-            for kinds in ((wrong, "binary"), ("binary", wrong)):
-                with self.assertRaisesRegex(ValueError, "is no kind of rows: give tabledata, binary or binary2") as caught:
-                    sailmortar.convert(SHORT, *kinds, ROWS)
-                self.assertNotIsInstance(caught.exception, sailmortar.Refused)
+        for wrong, turn in itertools.product(("fits", "", 3, 0, True, None, b"binary"), (1, -1)):
+            with self.assertRaisesRegex(ValueError, "is no kind of rows: give tabledata, binary or binary2") as caught:
+                sailmortar.convert(SHORT, *(wrong, "binary")[::turn], ROWS)
+            self.assertNotIsInstance(caught.exception, sailmortar.Refused)
 
     def test_a_kind_of_rows_is_taken_by_name_in_any_capitals_and_as_itself(self):
         for kinds in (("binary", "tabledata"), ("BINARY", "TableData"), (sailmortar.Rows.BINARY, sailmortar.Rows.TABLEDATA)):

@@ -1,5 +1,6 @@
 """What declarations are understood as: names, kinds, lengths and nulls in every spelling that is carried."""
 
+import itertools
 import unittest
 
 import sailmortar
@@ -43,9 +44,8 @@ NULLS = [
 
 class Columns(unittest.TestCase):
     def test_a_field_is_understood_in_every_spelling(self):
-        for inside, (name, kind, length, bound, null) in UNDERSTOOD:
-            for field in (f"<FIELD {inside}/>", f"<FIELD {inside}></FIELD>", f"<FIELD {inside}><VALUES ref='x'/></FIELD >"):
-                self.assertEqual(sailmortar.columns(field.encode()), [Column(0, name, kind, length, bound, null)])
+        for (inside, understood), end in itertools.product(UNDERSTOOD, ("/>", "></FIELD>", "><VALUES ref='x'/></FIELD >")):
+            self.assertEqual(sailmortar.columns(f"<FIELD {inside}{end}".encode()), [Column(0, *understood)])
 
     def test_a_null_is_read_as_a_cell_of_its_kind_and_counts_on_single_integers_alone(self):
         for kind, arraysize, word, null in NULLS:
@@ -62,7 +62,8 @@ class Columns(unittest.TestCase):
 
     def test_places_count_from_0_and_each_values_belongs_to_its_field(self):
         fields = b"<FIELD datatype='int'/><FIELD datatype='int'><VALUES null='3'/></FIELD>\n<FIELD name='c' datatype='int'></FIELD>"
-        self.assertEqual([(column.place, column.name, column.null) for column in sailmortar.columns(fields)], [(0, None, None), (1, None, 3), (2, "c", None)])
+        told = [(column.place, column.name, column.null) for column in sailmortar.columns(fields)]
+        self.assertEqual(told, [(0, None, None), (1, None, 3), (2, "c", None)])
 
     def test_a_name_that_is_no_utf_8_is_shown_with_replacements(self):
         self.assertEqual(sailmortar.columns(b"<FIELD name='\xff\xc3\xa9' datatype='int'/>")[0].name, "\ufffd\u00e9")

@@ -11,6 +11,7 @@ import sailmortar
 from sailmortar import Answer, Refused, Rows
 
 SHORT = b"<FIELD name='sky' datatype='short'/>"
+NULL_IN_ROW_1 = SHORT, "tabledata", "binary", b"<TR><TD>7</TD></TR> <TR><TD/></TR>"
 
 
 def refusal(call, *arguments):
@@ -27,7 +28,7 @@ def everything(refused):
 
 class Words(unittest.TestCase):
     def test_a_refused_row_is_told_with_its_place_and_the_name_of_its_column(self):
-        refused = refusal(sailmortar.convert, SHORT, "tabledata", "binary", b"<TR><TD>7</TD></TR> <TR><TD/></TR>")
+        refused = refusal(sailmortar.convert, *NULL_IN_ROW_1)
         self.assertEqual((refused.answer, refused.output, refused.offset, refused.name), (Answer(15, 1, 0, 1, 2), b"\0\7", 19, "sky"))
         self.assertEqual((refused.number, refused.row, refused.column), (15, 1, 0))
         self.assertEqual(str(refused), "refusal 15 at row 1, column 0 (sky): a null, and the target has no form for it")
@@ -59,12 +60,13 @@ class Words(unittest.TestCase):
 
     def test_a_number_that_is_not_known_has_words_of_its_own(self):
         for number in (18, 99, 255):
-            self.assertEqual(str(Refused(Answer(number, 3, 2, 3, 9))), f"refusal {number} at row 3, column 2: no refusal of this number is known")
+            words = f"refusal {number} at row 3, column 2: no refusal of this number is known"
+            self.assertEqual(str(Refused(Answer(number, 3, 2, 3, 9))), words)
 
 
 class Travel(unittest.TestCase):
     def setUp(self):
-        self.refused = refusal(sailmortar.convert, SHORT, "tabledata", "binary", b"<TR><TD>7</TD></TR> <TR><TD/></TR>")
+        self.refused = refusal(sailmortar.convert, *NULL_IN_ROW_1)
 
     def test_a_refusal_is_the_same_when_pickled_and_copied(self):
         self.refused.note = "kept"
@@ -75,7 +77,7 @@ class Travel(unittest.TestCase):
 
     def test_a_refusal_in_one_process_is_raised_in_another_and_the_pool_goes_on(self):
         with concurrent.futures.ProcessPoolExecutor(1) as pool:
-            refused = pool.submit(sailmortar.convert, SHORT, "tabledata", "binary", b"<TR><TD>7</TD></TR> <TR><TD/></TR>").exception(timeout=60)
+            refused = pool.submit(sailmortar.convert, *NULL_IN_ROW_1).exception(timeout=60)
             self.assertEqual(pool.submit(sailmortar.declare, SHORT).result(timeout=60), 1)
         self.assertEqual((refused.answer, refused.output, refused.offset, refused.name), (Answer(15, 1, 0, 1, 2), b"\0\7", 19, "sky"))
         self.assertEqual(str(refused), str(self.refused))

@@ -1,5 +1,6 @@
-"""Room enough from the start: the bound over random and extreme rows, what happens where the system gives less, and that all is given back."""
+"""Room enough from the start: the bound over random and extreme rows, what happens where the system gives less, what is given back."""
 
+import itertools
 import random
 import subprocess
 import sys
@@ -10,7 +11,7 @@ import random_rows
 import sailmortar
 from sailmortar import Refused, Rows
 
-WAYS = [(source, target) for source in Rows for target in Rows]
+WAYS = list(itertools.product(Rows, Rows))
 
 
 def converted(fields, source, target, rows):
@@ -45,15 +46,13 @@ class Room(unittest.TestCase):
 
     def test_extreme_cells_of_every_kind_and_length_take_one_call_each(self):
         random.seed(20261116)
-        for kind in random_rows.KINDS:
-            for length in random_rows.LENGTHS:
-                self.assert_extremes(kind, length)
+        for kind, length in itertools.product(random_rows.KINDS, random_rows.LENGTHS):
+            self.assert_extremes(kind, length)
 
     def assert_extremes(self, kind, length):
         columns = sailmortar.columns(random_rows.declaration(kind, length).encode())
-        for source, target in WAYS:
-            for style in random_rows.EXTREMES:
-                self.assert_one_call(columns, source, target, random_rows.spelled(columns, source, style).strip() * 3)
+        for (source, target), style in itertools.product(WAYS, random_rows.EXTREMES):
+            self.assert_one_call(columns, source, target, random_rows.spelled(columns, source, style) * 3)
 
     def test_the_bound_is_no_more_than_it_must_be_where_a_null_becomes_a_long_row(self):
         columns = sailmortar.columns(b"<FIELD datatype='long' arraysize='4096'/>")
