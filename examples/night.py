@@ -1,4 +1,4 @@
-"""The sample night from Python: text to BINARY2, BINARY2 to base64, and a cut file.
+"""The sample night from Python: its columns, text to BINARY2, BINARY2 to base64, and a cut file.
 
     python3 examples/night.py
 """
@@ -13,7 +13,8 @@ import sailmortar  # noqa: E402
 
 fields = (HERE / "night.fields").read_bytes()
 text = (HERE / "night.tabledata").read_bytes()
-print("columns", sailmortar.declare(fields))
+for column in sailmortar.columns(fields):
+    print(column.place, column.name, column.kind, column.length, column.null)
 
 binary2 = sailmortar.convert(fields, "tabledata", "binary2", text)
 print(binary2.hex(" "))
@@ -25,4 +26,5 @@ try:
     sailmortar.convert(fields, "binary2", "tabledata", binary2[:-1])
 except sailmortar.Refused as refused:
     print(refused)
+    print("the refused row begins at byte", refused.offset)
     print(refused.output.decode(), end="")

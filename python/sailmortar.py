@@ -9,22 +9,41 @@
     ... except sailmortar.Refused as refused:
     ...     print(refused, refused.output)
     refusal 11 at row 1, column 0: a byte or a text that is no value of its kind b'\\x00\\x07'
+    >>> sailmortar.columns(fields)
+    [Column(place=0, name=None, kind='short', length='1', bound=1, null=-99)]
 
-The converter is proved: whatever bytes come in, the answer is rows or one numbered refusal with its row and column, and the rows before it stand.
-This file is the thin, unproved layer over its shared library, which is looked for in the environment's SAILMORTAR_LIBRARY, beside this file, and
-in ../target/staticlib/, where 'cargo build' makes it.
+The converter is proved: whatever bytes come in, the answer is rows or one numbered refusal with its row and column, and the rows before it
+stand. This file is the thin, unproved layer over its shared library, libsailmortar.so.0. Where the environment names a file in
+SAILMORTAR_LIBRARY, that file is loaded and no other; else the library is looked for beside this file, in ../target/library/ (where
+'cargo build' makes it), in ../../ (the lib/ that site-packages stands under), and last where the system looks for libraries.
+
+Every argument that is bytes may be any buffer: bytes, bytearray, memoryview, mmap, array, a numpy array. What counts is its bytes in their
+order, as tobytes() has them, so that the numbers in an array of wider items must be big-endian. A buffer in one piece is read where it
+lies, without a copy: nobody may write to it while a call reads it. What is no buffer (a str, an int, a list, a single numpy number) is a
+TypeError.
 """
 
 from __future__ import annotations
 
 import ctypes
 import enum
+import itertools
 import mmap
 import os
 import pathlib
-from typing import Callable, NamedTuple, Union
+import re
+import struct
+from typing import TYPE_CHECKING, Callable, Dict, Iterable, List, NamedTuple, Optional, Tuple, Union
 
-__all__ = ["Answer", "MEANINGS", "Refused", "Rows", "base64_decode", "base64_encode", "convert", "declare"]
+if TYPE_CHECKING:
+    from typing_extensions import Buffer  # Type checkers know it without the package.
+else:
+    Buffer = Union[bytes, bytearray, memoryview]
+
+__all__ = ["Answer", "Column", "MEANINGS", "Refused", "Rows", "__version__"]
+__all__ += ["base64_decode", "base64_encode", "columns", "convert", "declare"]
+
+__version__ = "0.1.0"
 
 
 class Rows(enum.IntEnum):
@@ -43,6 +62,23 @@ class Rows(enum.IntEnum):
             return cls[kind.upper()]
         except (AttributeError, KeyError):
             raise ValueError(f"{kind!r} is no kind of rows: give tabledata, binary or binary2") from None
+
+
+class Column(NamedTuple):
+    """A column, as its FIELD was understood."""
+
+    place: int
+    """The column's place, from 0."""
+    name: Optional[str]
+    """The FIELD's `name` (the first, should it have several), with references in it as they stand; None where it has none."""
+    kind: str
+    """The datatype: boolean, bit, unsignedByte, short, int, long or char."""
+    length: str
+    """The arraysize as VOTable writes it: '40' for so many elements in each cell, '40*' for up to so many, '*' for any number of them."""
+    bound: int
+    """The most elements of a cell; 4096 for '*'."""
+    null: Optional[int]
+    """The value that is null, where one is declared and counts: only a single integer can have one."""
 
 
 class Answer(NamedTuple):
@@ -81,115 +117,417 @@ MEANINGS = {
 }
 """What each refusal's number means."""
 
+_NO_ROOM = 17
+_FIRST_OF_ROWS = 8  # Refusals below this number are of declarations, sizes and base64: no row was read.
+
 
 class Refused(ValueError):
-    """A refusal: why and where it stopped, and the good rows before it."""
+    """A refusal: why and where it stopped, and the good rows before it. It can be pickled and copied."""
 
-    def __init__(self, answer: Answer, output: bytes = b"") -> None:
+    def __init__(self, answer: Answer, output: bytes = b"", offset: int = 0, name: Optional[str] = None) -> None:
         self.answer = answer
         """The whole answer; its number, row and column are attributes of the refusal too."""
         self.number, self.row, self.column = answer.number, answer.row, answer.column
         self.output = output
         """The rows before the refused one, converted."""
+        self.offset = offset
+        """The byte of the input where the refused row begins, which is where the row before it ends; 0 where no row was read (1 to 7)."""
+        self.name = name
+        """The name of the refused column, where it has one."""
         super().__init__(self._words())
 
+    def __reduce__(self) -> Tuple[object, ...]:
+        # An exception is made again from its words alone unless it says otherwise.
+        return type(self), (self.answer, self.output, self.offset, self.name), self.__dict__
+
     def _words(self) -> str:
-        meaning = MEANINGS[self.number]
+        meaning = MEANINGS.get(self.number, "no refusal of this number is known")
         if self.number <= 5:
             whole = "FIELD" if self.column == 1 else "FIELDs"
             return f"refusal {self.number} in the declarations, at the element after {self.column} whole {whole}: {meaning}"
-        if self.number <= 7:
+        if self.number < _FIRST_OF_ROWS:
             return f"refusal {self.number}: {meaning}"
-        return f"refusal {self.number} at row {self.row}, column {self.column}: {meaning}"
+        return f"refusal {self.number} at row {self.row}, column {self.column}{self._title()}: {meaning}"
+
+    def _title(self) -> str:
+        # Names come from other people's files: what a terminal would act on is spelt out, and the line is kept short.
+        if self.name is None:
+            return ""
+        shown = repr(self.name)[1:-1]
+        return f" ({shown[:60]}..)" if len(shown) > 60 else f" ({shown})"
 
 
-Bytes = Union[bytes, bytearray, memoryview]
-
-
-def convert(fields: Bytes, source: Union[Rows, str], target: Union[Rows, str], rows: Bytes) -> bytes:
+def convert(fields: Buffer, source: Union[Rows, str], target: Union[Rows, str], rows: Buffer) -> bytes:
     """Rows of the kind `source`, converted to rows of the kind `target`.
 
     `fields` is the text of the FIELD elements, `rows` the rows without the tags around them, base64 already decoded. A refusal is raised as
-    Refused, with the rows before the bad one in its `output`.
+    Refused, with the rows before the bad one in its `output`. Where memory runs out it is a MemoryError.
     """
     kinds = Rows.named(source), Rows.named(target)
-    decls, given = bytes(fields), bytes(rows)
-    return _grown(
-        2 * len(given) + 4096,
-        lambda out, room, answer: _library.sailmortar_convert(decls, len(decls), *kinds, given, len(given), out, room, answer),
-    )
+    with _view("fields", fields) as text, _view("rows", rows) as given:
+        declared = _columns(text)
+
+        def call(out: int, room: int, five: object) -> None:
+            _library.sailmortar_convert(_address(text), text.nbytes, *kinds, _address(given), given.nbytes, out, room, five)
+
+        answer, output = _answered(call, 2 * given.nbytes + 4096, _room(declared, *kinds, given.nbytes))
+        if answer.number:
+            raise _refused(answer, output, declared, kinds[0], given)
+        return output
 
 
-def base64_decode(text: Bytes) -> bytes:
+def base64_decode(text: Buffer) -> bytes:
     """The bytes that a base64 text stands for (RFC 4648, white space skipped anywhere)."""
-    given = bytes(text)
-    return _grown(
-        len(given) // 4 * 3 + 3,
-        lambda out, room, answer: _library.sailmortar_base64_decode(given, len(given), out, room, answer),
-    )
+    with _view("text", text) as given:
+        return _base64_step(_library.sailmortar_base64_decode, given, (given.nbytes // 4 + 1) * 3)
 
 
-def base64_encode(data: Bytes) -> bytes:
+def base64_encode(data: Buffer) -> bytes:
     """Bytes as base64, without line breaks."""
-    given = bytes(data)
-    return _grown(
-        (len(given) + 2) // 3 * 4,
-        lambda out, room, answer: _library.sailmortar_base64_encode(given, len(given), out, room, answer),
-    )
+    with _view("data", data) as given:
+        return _base64_step(_library.sailmortar_base64_encode, given, (given.nbytes + 2) // 3 * 4)
 
 
-def declare(fields: Bytes) -> int:
+def declare(fields: Buffer) -> int:
     """How many columns the FIELD elements declare."""
-    decls = bytes(fields)
-    answer = _Five()
-    _library.sailmortar_declare(decls, len(decls), answer)
-    number, _, place, columns, _ = answer
+    with _view("fields", fields) as text:
+        return _declare(text)
+
+
+def columns(fields: Buffer) -> List[Column]:
+    """The columns that the FIELD elements declare, each as it was understood."""
+    with _view("fields", fields) as text:
+        return _columns(text)
+
+
+def _base64_step(function: Callable[..., None], given: memoryview, enough: int) -> bytes:
+    answer, output = _answered(lambda out, room, five: function(_address(given), given.nbytes, out, room, five), enough, enough)
+    if answer.number:
+        raise Refused(answer)
+    return output
+
+
+def _declare(text: memoryview) -> int:
+    five = _Five()
+    _library.sailmortar_declare(_address(text), text.nbytes, five)
+    number, _, place, count, _ = five
     if number:
         raise Refused(Answer(number, 0, place, 0, 0))
-    return columns
+    return count
 
+
+# Arguments: any buffer, read where it lies.
+
+
+def _view(argument: str, value: Buffer) -> memoryview:
+    """The bytes of an argument in one piece, a copy only where they lie in several. Left by `with`, so that the buffer is free again."""
+    try:
+        view = memoryview(value)
+    except TypeError:
+        raise TypeError(_remedy(argument, value)) from None
+    except (ValueError, BufferError) as cause:
+        raise TypeError(f"{argument}: this {type(value).__name__} gives no bytes: {cause}") from cause
+    # A single number (of numpy, of ctypes) offers its bytes too, and is no sequence of them.
+    if view.ndim == 0:
+        raise TypeError(_remedy(argument, value))
+    if view.c_contiguous:
+        return view
+    with view:
+        return memoryview(view.tobytes())
+
+
+def _remedy(argument: str, value: object) -> str:
+    remedy = "; text.encode('ascii') makes bytes of a text" if isinstance(value, str) else ""
+    return f"{argument}: give bytes, bytearray, memoryview or another buffer of bytes, not {type(value).__name__}{remedy}"
+
+
+class _PyBuffer(ctypes.Structure):
+    """CPython's Py_buffer, which tells the address of a buffer that may not be written to; ctypes has no other way to it."""
+
+    _fields_ = [
+        ("buf", ctypes.c_void_p),
+        ("obj", ctypes.c_void_p),
+        ("len", ctypes.c_ssize_t),
+        ("itemsize", ctypes.c_ssize_t),
+        ("readonly", ctypes.c_int),
+        ("ndim", ctypes.c_int),
+        ("format", ctypes.c_char_p),
+        ("shape", ctypes.c_void_p),
+        ("strides", ctypes.c_void_p),
+        ("suboffsets", ctypes.c_void_p),
+        ("internal", ctypes.c_void_p),
+    ]
+
+
+# Made by prototypes, not taken from ctypes.pythonapi, whose functions every module of the program shares.
+_get = ctypes.PYFUNCTYPE(ctypes.c_int, ctypes.py_object, ctypes.POINTER(_PyBuffer), ctypes.c_int)
+_get_buffer = _get(("PyObject_GetBuffer", ctypes.pythonapi))
+_release_buffer = ctypes.PYFUNCTYPE(None, ctypes.POINTER(_PyBuffer))(("PyBuffer_Release", ctypes.pythonapi))
+_NOTHING = ctypes.c_char()
+
+
+def _address(view: memoryview) -> int:
+    """Where the bytes of a view in one piece lie, as long as the view is held. Never 0, which no function of the library may be given."""
+    buffer = _PyBuffer()
+    _get_buffer(view, buffer, 0)
+    address = buffer.buf
+    _release_buffer(buffer)
+    return address or ctypes.addressof(_NOTHING)
+
+
+# Room for what is written.
 
 _Five = ctypes.c_uint64 * 5
+_Call = Callable[[int, int, object], None]
+
+# Room takes no memory before it is written to, and is not even promised: far more of it can be had than there is memory.
+_UNPROMISED = mmap.MAP_PRIVATE | mmap.MAP_ANONYMOUS | getattr(mmap, "MAP_NORESERVE", 0x4000)
 
 
-def _grown(room: int, call: Callable[[object, int, object], object]) -> bytes:
-    """Calls with more and more room until the answer is not 17, 'longer than the room left'."""
-    while True:
-        # Fresh pages take no memory before they are written to, so that much room costs little.
-        out, answer = mmap.mmap(-1, max(room, 1), flags=mmap.MAP_PRIVATE | mmap.MAP_ANONYMOUS), _Five()
-        call((ctypes.c_char * len(out)).from_buffer(out), room, answer)
-        said = Answer(*answer)
-        if said.number != 17:
-            break
+def _answered(call: _Call, less: int, enough: int) -> Tuple[Answer, bytes]:
+    """What a call answers and writes: in room enough or, where the system does not give so much, in `less` and then in more and more."""
+    room = enough if _is_given(enough) else min(less, enough)
+    answer, output = _called(call, room)
+    while answer.number == _NO_ROOM:
         room = 2 * room + 1
-    written = out[: said.bytes]
-    if said.number:
-        raise Refused(said, written)
-    return written
+        answer, output = _called(call, room)
+    return answer, output
+
+
+def _called(call: _Call, room: int) -> Tuple[Answer, bytes]:
+    """What a call answers and writes in so much room."""
+    five = _Five()
+    with _mapping(room) as mapping:
+        with memoryview(mapping) as out:
+            call(_address(out), room, five)
+        answer = Answer(*five)
+        if answer.number == _NO_ROOM:
+            return answer, b""
+        # What is left over goes back first: where address space is short, the copy may need it.
+        mapping.resize(max(answer.bytes, 1))
+        return answer, mapping[: answer.bytes]
+
+
+def _mapping(room: int) -> mmap.mmap:
+    try:
+        return mmap.mmap(-1, max(room, 1), flags=_UNPROMISED)
+    except OSError as cause:
+        raise MemoryError(f"the system gives no {room} bytes for the output: {cause}") from cause
+
+
+def _is_given(room: int) -> bool:
+    try:
+        _mapping(room).close()
+    except MemoryError:
+        return False
+    return True
+
+
+class _Elements(NamedTuple):
+    """How long an element of a kind is."""
+
+    bits: int  # In BINARY and BINARY2.
+    shortest: int  # Bytes in TABLEDATA, with the space to the next element where there is one: `7 `.
+    longest: int  # As it is written: `-32768 `, `&amp;`.
+
+
+_ELEMENTS = {
+    "boolean": _Elements(8, 2, 2),
+    "bit": _Elements(1, 1, 1),
+    "unsignedByte": _Elements(8, 2, 4),
+    "short": _Elements(16, 2, 7),
+    "int": _Elements(32, 2, 12),
+    "long": _Elements(64, 2, 21),
+    "char": _Elements(8, 1, 5),
+}
+
+
+def _room(declared: List[Column], source: Rows, target: Rows, length: int) -> int:
+    """How many bytes `length` bytes of rows can become at most.
+
+    A row read takes at least `least` bytes and its content on top; written it takes at most `most` bytes and, for each byte of content, so
+    many as its column's ratio says. (most + ratio * content) / (least + content) lies between most / least and ratio: the greatest of these
+    holds for every row, and so for all of them together. It is large where null cells are long: the 5 bytes of <TD/> become 32,768 in a
+    column of 4,096 longs.
+    """
+    least = _around(source, declared) + sum(_least_read(column, source) for column in declared)
+    # One more, since a row of text ends its line.
+    most = 1 + _around(target, declared) + sum(_most_written(column, source, target) for column in declared)
+    ratios = [(most, least)] + [_content_ratio(column, source, target) for column in declared if _has_content(column, source, target)]
+    return max(length * written // read for written, read in ratios)
+
+
+def _around(kind: Rows, declared: List[Column]) -> int:
+    """The bytes of a row around its cells: <TR> and </TR>, nothing, or flags."""
+    return {Rows.TABLEDATA: 9, Rows.BINARY: 0, Rows.BINARY2: (len(declared) + 7) // 8}[kind]
+
+
+def _least_read(column: Column, source: Rows) -> int:
+    """The fewest bytes of a cell: <TD/>, a count of 0, or the whole of a fixed cell."""
+    if source is Rows.TABLEDATA:
+        return 5
+    return 4 if _is_counted(column) else _fixed_bytes(column)
+
+
+def _most_written(column: Column, source: Rows, target: Rows) -> int:
+    """The most bytes of a cell but for its content: <TD> and </TD>, or a count and the byte of its last bits; of one without, all of it."""
+    if target is Rows.TABLEDATA:
+        return 9 if _has_content(column, source, target) else 9 + column.bound * _ELEMENTS[column.kind].longest
+    return 4 + 1 if _is_counted(column) else _fixed_bytes(column)
+
+
+def _has_content(column: Column, source: Rows, target: Rows) -> bool:
+    """Whether what is written grows with what is read; in BINARY and BINARY2 every cell of a fixed column is as long as the next."""
+    return _is_counted(column) or source is target is Rows.TABLEDATA
+
+
+def _content_ratio(column: Column, source: Rows, target: Rows) -> Tuple[int, int]:
+    """The most bits written for an element, and the fewest bits that it was read from."""
+    elements = _ELEMENTS[column.kind]
+    written = 8 * elements.longest if target is Rows.TABLEDATA else elements.bits
+    return written, 8 * elements.shortest if source is Rows.TABLEDATA else elements.bits
+
+
+def _is_counted(column: Column) -> bool:
+    """Whether a count stands before each cell in BINARY and BINARY2."""
+    return column.length.endswith("*")
+
+
+def _fixed_bytes(column: Column) -> int:
+    """The bytes of a cell of a fixed column in BINARY and BINARY2."""
+    return (column.bound * _ELEMENTS[column.kind].bits + 7) // 8
+
+
+# What the declarations were understood as. Whether they are good the converter decides; this reads off what it accepted.
+
+_SPACE = rb"[\t\n\r ]*"
+_ATTRIBUTE = re.compile(rb"([-\w:.]+)" + _SPACE + b"=" + _SPACE + rb"(?:\"([^\"]*)\"|'([^']*)')")
+
+
+def _columns(text: memoryview) -> List[Column]:
+    count = _declare(text)
+    # No value has a `<` in it, so that each one begins a tag; a FIELD goes on to the next, with its VALUES.
+    fields = text.tobytes().split(b"<FIELD")[1:]
+    assert len(fields) == count, "every FIELD that the converter accepted is read off"
+    return [_column(place, *map(_attributes, field.partition(b"<VALUES")[::2])) for place, field in enumerate(fields)]
+
+
+def _attributes(tag: bytes) -> Dict[bytes, bytes]:
+    # Backwards, so that the first of several attributes of one name is the one that stays.
+    return {name: double or single for name, double, single in reversed(_ATTRIBUTE.findall(tag))}
+
+
+def _column(place: int, field: Dict[bytes, bytes], values: Dict[bytes, bytes]) -> Column:
+    name, kind, length = field.get(b"name"), field[b"datatype"].decode(), field.get(b"arraysize", b"1").decode()
+    bound = 4096 if length == "*" else int(length.rstrip("*"))
+    null = _integer(kind, values[b"null"]) if length == "1" and kind in _INTEGERS and b"null" in values else None
+    return Column(place, None if name is None else name.decode("utf-8", "replace"), kind, length, bound, null)
+
+
+_INTEGERS = ("unsignedByte", "short", "int", "long")
+
+
+def _integer(kind: str, word: bytes) -> int:
+    """A declared null as a cell of its kind has it: hexadigits are the bits of a signed kind's two's complement."""
+    word = word.strip(b"\t\n\r ")
+    value, patterns = int(word, 16 if word.startswith(b"0x") else 10), 1 << _ELEMENTS[kind].bits
+    return value - patterns if kind != "unsignedByte" and value >= patterns // 2 else value
+
+
+# Where a refused row begins. The answer does not say it: it is where the rows before end, and those the converter accepted.
+
+_ROW_END = re.compile(rb"</TR" + _SPACE + b">")  # An accepted cell has no `<` in it.
+_COUNT = struct.Struct(">I")
+
+
+def _refused(answer: Answer, output: bytes, declared: List[Column], source: Rows, given: memoryview) -> Refused:
+    if answer.number < _FIRST_OF_ROWS:
+        return Refused(answer, output)
+    name = declared[answer.column].name if answer.column < len(declared) else None
+    return Refused(answer, output, _end_of_rows(declared, source, given, answer.rows), name)
+
+
+def _end_of_rows(declared: List[Column], source: Rows, given: memoryview, rows: int) -> int:
+    """Where so many accepted rows end."""
+    if rows == 0:
+        return 0
+    if source is Rows.TABLEDATA:
+        return next(itertools.islice(_ROW_END.finditer(given), rows - 1, None)).end()
+    start, steps = _steps(_around(source, declared), declared)
+    return _end_of_counted_rows(start, steps, given, rows) if steps else start * rows
+
+
+def _steps(flags: int, declared: List[Column]) -> Tuple[int, List[Tuple[int, int]]]:
+    """The bytes of a row before its first count; and for each counted column the bits of an element, and the bytes beside its content up to
+    the next count: its own count, the fixed cells behind it and, where it is the last, the next row up to its first count."""
+    start, steps = flags, []
+    for column in declared:
+        if _is_counted(column):
+            steps.append((_ELEMENTS[column.kind].bits, 4))
+        elif steps:
+            steps[-1] = steps[-1][0], steps[-1][1] + _fixed_bytes(column)
+        else:
+            start += _fixed_bytes(column)
+    if steps:
+        steps[-1] = steps[-1][0], steps[-1][1] + start
+    return start, steps
+
+
+def _end_of_counted_rows(start: int, steps: Iterable[Tuple[int, int]], given: memoryview, rows: int) -> int:
+    at, count_at = start, _COUNT.unpack_from
+    for bits, between in itertools.chain.from_iterable(itertools.repeat(steps, rows)):
+        at += (count_at(given, at)[0] * bits + 7) // 8 + between
+    return at - start
+
+
+# The library.
+
+_LIBRARY = "libsailmortar.so.0"
+
+
+def _places() -> List[str]:
+    """Where the library may be, the first place first. A name without a folder is looked for by the system."""
+    told = os.environ.get("SAILMORTAR_LIBRARY")
+    if told:
+        return [os.path.abspath(told)]
+    here = pathlib.Path(__file__).resolve().parent
+    return [str(folder / _LIBRARY) for folder in (here, here.parent / "target" / "library", here.parent.parent)] + [_LIBRARY]
 
 
 def _load() -> ctypes.CDLL:
-    name = "libsailmortar.so"
-    here = pathlib.Path(__file__).resolve().parent
-    told = os.environ.get("SAILMORTAR_LIBRARY")
-    places = [pathlib.Path(told)] if told else [here / name, here.parent / "target" / "staticlib" / name]
-    found = next((place for place in places if place.exists()), None)
-    if found is None:
-        looked = " and ".join(str(place) for place in places)
-        raise ImportError(f"{name} is not there (looked for {looked}): 'cargo build' makes it, and SAILMORTAR_LIBRARY can name it")
-    library = ctypes.CDLL(str(found))
+    places = _places()
+    found = next((place for place in places if os.path.exists(place)), places[-1])
+    try:
+        library = ctypes.CDLL(found)
+    except OSError as cause:
+        looked = f"looked for {', '.join(places)}; 'cargo build' makes it, and SAILMORTAR_LIBRARY can name it"
+        raise ImportError(f"the shared library of sailmortar cannot be loaded: {cause} ({looked})", path=found) from cause
+    _check_version(library, found)
     _declare_types(library)
     return library
 
 
+def _check_version(library: ctypes.CDLL, found: str) -> None:
+    """Module and library are made together: one of another day may have other functions under the same names."""
+    try:
+        function = library.sailmortar_version
+    except AttributeError:
+        version = "none at all"
+    else:
+        function.argtypes, function.restype = [], ctypes.c_char_p
+        version = function().decode("utf-8", "replace")
+    if version != __version__:
+        words = f"module and library do not fit: {__file__} is version {__version__}, and {found} says {version}"
+        raise ImportError(f"{words}; build or install both together", path=found)
+
+
 def _declare_types(library: ctypes.CDLL) -> None:
-    text = [ctypes.c_char_p, ctypes.c_size_t]
-    room = [ctypes.POINTER(ctypes.c_char), ctypes.c_size_t]
-    answer = [ctypes.POINTER(ctypes.c_uint64)]
-    library.sailmortar_convert.argtypes = text + [ctypes.c_uint32, ctypes.c_uint32] + text + room + answer
-    library.sailmortar_base64_decode.argtypes = text + room + answer
-    library.sailmortar_base64_encode.argtypes = text + room + answer
-    library.sailmortar_declare.argtypes = text + answer
+    part = [ctypes.c_void_p, ctypes.c_size_t]
+    five = [ctypes.POINTER(ctypes.c_uint64)]
+    library.sailmortar_convert.argtypes = part + [ctypes.c_uint32, ctypes.c_uint32] + part + part + five
+    library.sailmortar_base64_decode.argtypes = part + part + five
+    library.sailmortar_base64_encode.argtypes = part + part + five
+    library.sailmortar_declare.argtypes = part + five
     for function in ("convert", "base64_decode", "base64_encode", "declare"):
         getattr(library, "sailmortar_" + function).restype = None
 
