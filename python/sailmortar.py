@@ -114,6 +114,7 @@ MEANINGS = {
     15: "a null, and the target has no form for it",
     16: "a character that has no XML form",
     17: "the row, or the base64 result, is longer than the room left",
+    255: "the number of a kind of rows that is none of 0, 1 and 2",
 }
 """What each refusal's number means."""
 
@@ -133,7 +134,7 @@ class Refused(ValueError):
         self.offset = offset
         """The byte of the input where the refused row begins, which is where the row before it ends; 0 where no row was read (1 to 7)."""
         self.name = name
-        """The name of the refused column, where it has one."""
+        """The name of the refused column, where it has one and a cell of it is refused: no flags, and no start or end of a row."""
         super().__init__(self._words())
 
     def __reduce__(self) -> Tuple[object, ...]:
@@ -443,8 +444,21 @@ _COUNT = struct.Struct(">I")
 def _refused(answer: Answer, output: bytes, declared: List[Column], source: Rows, given: memoryview) -> Refused:
     if answer.number < _FIRST_OF_ROWS:
         return Refused(answer, output)
-    name = declared[answer.column].name if answer.column < len(declared) else None
-    return Refused(answer, output, _end_of_rows(declared, source, given, answer.rows), name)
+    offset = _end_of_rows(declared, source, given, answer.rows)
+    is_cell = answer.column < len(declared) and (answer.column > 0 or _reaches_cells(answer.number, declared, source, given, offset))
+    return Refused(answer, output, offset, declared[answer.column].name if is_cell else None)
+
+
+_ROW_START = re.compile(_SPACE + b"<TR" + _SPACE + b">")
+
+
+def _reaches_cells(number: int, declared: List[Column], source: Rows, given: memoryview, offset: int) -> bool:
+    """Whether a row that is refused at column 0 is good up to its first cell: <TR> is there (else 10), or the flags are (8) with 0 in their
+    spare bits (13)."""
+    if source is Rows.TABLEDATA:
+        return number != 10 or _ROW_START.match(given, offset) is not None
+    flags = bytes(given[offset : offset + _around(source, declared)])
+    return len(flags) == _around(source, declared) and not int.from_bytes(flags, "big") & ((1 << -len(declared) % 8) - 1 if flags else 0)
 
 
 def _end_of_rows(declared: List[Column], source: Rows, given: memoryview, rows: int) -> int:

@@ -52,6 +52,26 @@ class Words(unittest.TestCase):
         refused = refusal(sailmortar.convert, SHORT, "tabledata", "binary", b"<TR><TD>7</TD><TD>8</TD></TR>")
         self.assertEqual((refused.number, refused.column, refused.offset, refused.name), (10, 1, 0, None))
 
+    def test_what_is_no_cell_is_not_blamed_on_the_first_column(self):
+        bits = b"<FIELD name='bits' datatype='bit' arraysize='3'/>"
+        cases = [
+            (SHORT, "tabledata", b"<TR><TD>7</TD></TR><td>", 10, None),
+            (SHORT, "tabledata", b"<TR><TD>7</TD></TR><TR/>", 10, None),
+            (SHORT, "tabledata", b"<TR><TD>7</TD></TR> <TR\n>x", 10, "sky"),
+            (SHORT, "tabledata", b"<TR><TD>7</TD></TR> <TR\n><TD>x</TD>", 11, "sky"),
+            (SHORT, "binary2", b"\0\0\7\1\0\7", 13, None),
+            (SHORT, "binary2", b"\0\0\7\0\0", 8, "sky"),
+            (SHORT * 9, "binary2", b"\0", 8, None),
+            (SHORT * 9, "binary2", b"\0\0", 8, "sky"),
+            (bits, "binary2", b"\0\xe0\0\xe1", 13, "bits"),
+            (bits, "binary2", b"\0\xe0\x40\xe0", 13, None),
+            (bits, "binary", b"\xe0\xe1", 13, "bits"),
+            (bits * 8, "binary2", b"\0" + b"\xe0" * 8 + b"\x7f\xe1", 13, "bits"),
+        ]
+        for fields, source, rows, number, name in cases:
+            refused = refusal(sailmortar.convert, fields, source, "binary2", rows)
+            self.assertEqual((refused.number, refused.column, refused.name), (number, 0, name), (source, rows))
+
     def test_a_name_does_nothing_to_a_terminal_and_keeps_the_line_short(self):
         for name, shown in [("\x1b[2J", r"\x1b[2J"), ("é", "é"), ("n" * 60, "n" * 60), ("n" * 61, "n" * 60 + ".."), ("", "")]:
             refused = refusal(sailmortar.convert, f"<FIELD name='{name}' datatype='bit'/>".encode(), "binary", "binary2", b"\1")
@@ -59,7 +79,7 @@ class Words(unittest.TestCase):
             self.assertIn(f"column 0 ({shown}): ", str(refused))
 
     def test_a_number_that_is_not_known_has_words_of_its_own(self):
-        for number in (18, 99, 255):
+        for number in (18, 99, 254):
             words = f"refusal {number} at row 3, column 2: no refusal of this number is known"
             self.assertEqual(str(Refused(Answer(number, 3, 2, 3, 9))), words)
 

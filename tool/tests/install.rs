@@ -169,6 +169,13 @@ fn the_python_module_is_put_for_the_python3_on_path() {
         let module = prefix.join("lib").join(python.trim()).join("site-packages/sailmortar.py");
         let own = fs::read(Path::new(ROOT).join("python/sailmortar.py")).expect("the module");
         assert!(fs::read(&module).expect("the module, installed") == own);
+        // It finds the library that was installed with it, from any folder.
+        let mut import = Command::new("python3");
+        import.args(["-c", "import sailmortar; print(sailmortar.declare(b\"<FIELD datatype='int'/>\"), sailmortar._library._name)"]);
+        import.current_dir("/").env_remove("SAILMORTAR_LIBRARY").env("PYTHONDONTWRITEBYTECODE", "1");
+        import.env("PYTHONPATH", module.parent().expect("a folder"));
+        let library = prefix.canonicalize().expect("the prefix").join("lib/libsailmortar.so.0");
+        assert_eq!(said(&mut import), format!("1 {}\n", path(&library)));
     }
 }
 
