@@ -168,7 +168,7 @@ def convert(fields: Buffer, source: Union[Rows, str], target: Union[Rows, str], 
     with _view("fields", fields) as text, _view("rows", rows) as given:
         declared = _columns(text)
 
-        def call(out: int, room: int, five: object) -> None:
+        def call(out: Optional[int], room: int, five: object) -> None:
             _library.sailmortar_convert(_address(text), text.nbytes, *kinds, _address(given), given.nbytes, out, room, five)
 
         answer, output = _answered(call, 2 * given.nbytes + 4096, _room(declared, *kinds, given.nbytes))
@@ -264,22 +264,21 @@ class _PyBuffer(ctypes.Structure):
 _get = ctypes.PYFUNCTYPE(ctypes.c_int, ctypes.py_object, ctypes.POINTER(_PyBuffer), ctypes.c_int)
 _get_buffer = _get(("PyObject_GetBuffer", ctypes.pythonapi))
 _release_buffer = ctypes.PYFUNCTYPE(None, ctypes.POINTER(_PyBuffer))(("PyBuffer_Release", ctypes.pythonapi))
-_NOTHING = ctypes.c_char()
 
 
-def _address(view: memoryview) -> int:
-    """Where the bytes of a view in one piece lie, as long as the view is held. Never 0, which no function of the library may be given."""
+def _address(view: memoryview) -> Optional[int]:
+    """Where the bytes of a view in one piece lie, as long as the view is held; it may be 0 where there are none."""
     buffer = _PyBuffer()
     _get_buffer(view, buffer, 0)
     address = buffer.buf
     _release_buffer(buffer)
-    return address or ctypes.addressof(_NOTHING)
+    return address
 
 
 # Room for what is written.
 
 _Five = ctypes.c_uint64 * 5
-_Call = Callable[[int, int, object], None]
+_Call = Callable[[Optional[int], int, object], None]
 
 # Room takes no memory before it is written to, and is not even promised: far more of it can be had than there is memory.
 _UNPROMISED = mmap.MAP_PRIVATE | mmap.MAP_ANONYMOUS | getattr(mmap, "MAP_NORESERVE", 0x4000)
