@@ -3,9 +3,18 @@
 #![forbid(unsafe_code)]
 
 mod arguments;
+mod binary;
+mod cell;
+mod element;
 mod files;
+mod hint;
+mod letters;
+mod probe;
 mod progress;
 mod report;
+mod shown;
+mod tabledata;
+mod text;
 mod words;
 
 use std::io::{self, Write};
@@ -14,6 +23,7 @@ use std::process::ExitCode;
 use arguments::{Command, Conversion, Files, Usage};
 use files::{Input, Output, Trouble};
 use progress::Progress;
+use report::Report;
 use sailmortar::{Base64Writer, Column, Error, Refused, INPUT_LIMIT};
 
 const REFUSED: u8 = 1;
@@ -22,8 +32,7 @@ const SYSTEM_SAID_NO: u8 = 3;
 
 /// How a run ends that does not end well.
 enum End {
-    /// Words about a refusal.
-    Refused(String),
+    Refused(Report),
     Trouble(Trouble),
 }
 
@@ -37,7 +46,7 @@ fn main() -> ExitCode {
     let words = std::env::args_os().skip(1).collect();
     let (said, status) = match arguments::command(words).map(run) {
         Ok(Ok(())) => return ExitCode::SUCCESS,
-        Ok(Err(End::Refused(said))) => (said, REFUSED),
+        Ok(Err(End::Refused(report))) => (report.lines.iter().map(|line| format!("sailmortar: {line}\n")).collect(), REFUSED),
         Ok(Err(End::Trouble(trouble))) if trouble.is_closed_pipe() => (String::new(), SYSTEM_SAID_NO),
         Ok(Err(End::Trouble(trouble))) => (format!("sailmortar: {trouble}\n"), SYSTEM_SAID_NO),
         Err(Usage(wrong)) => (format!("sailmortar: {wrong}\nTry 'sailmortar --help'.\n"), WRONG_USAGE),
@@ -69,7 +78,7 @@ fn encode(files: &Files) -> Result<(), End> {
     let (mut input, mut output) = (Input::open(&files.input)?, Output::open(&files.output)?);
     let bytes = read(&mut input, &mut Progress::new())?;
     if sailmortar::within_limit(&bytes).is_err() {
-        return Err(End::Refused(report::too_long(&input.name, "")));
+        return Err(End::Refused(report::too_long(input.name.as_ref(), "")));
     }
     let mut letters = Base64Writer::new(&mut output, 0).map_err(|cause| Trouble::of("standard output", cause))?;
     let written = letters.write_all(&bytes).and_then(|()| letters.finish().map(|_| ()));
@@ -104,24 +113,28 @@ fn convert(conversion: &Conversion) -> Result<(), End> {
         Err(other) => return Err(output.trouble(io::Error::other(other)).into()),
     };
     if refused.number == 6 {
-        return Err(End::Refused(report::too_long(&input.name, "")));
+        return Err(End::Refused(report::too_long(input.name.as_ref(), "")));
     }
-    let output_name = output.name.clone();
+    let stands = match refused.rows {
+        0 => "no row stands before it".to_string(),
+        1 => format!("the 1 row before it is written to {}", report::shown(output.name.as_ref())),
+        rows => format!("the {rows} rows before it are written to {}", report::shown(output.name.as_ref())),
+    };
     output.finish()?;
     let stream = report::Stream {
-        input_name: &input.name,
-        output_name: &output_name,
+        input_name: input.name.as_ref(),
         columns: &columns,
         from: conversion.from,
+        to: conversion.to,
         decoded: conversion.base64_in,
         input: &bytes,
     };
-    Err(End::Refused(report::row(&stream, &refused)))
+    Err(End::Refused(report::row(&stream, &refused, &stands)))
 }
 
 /// The columns that the fields declare, or their refusal in words.
 fn columns(name: &str, decls: &[u8]) -> Result<Vec<Column>, End> {
-    sailmortar::columns(decls).map_err(|refused: Refused| End::Refused(report::declarations(name, &refused)))
+    sailmortar::columns(decls).map_err(|refused: Refused| End::Refused(report::declarations(name.as_ref(), decls, &refused)))
 }
 
 fn read(input: &mut Input, progress: &mut Progress) -> Result<Vec<u8>, End> {
@@ -134,7 +147,7 @@ fn decoded(name: &str, text: Vec<u8>) -> Result<Vec<u8>, End> {
     let mut bytes = Vec::new();
     match sailmortar::base64_decode_to_vec(&text, &mut bytes) {
         Ok(_) => Ok(bytes),
-        Err(Error::Refused(refused)) => Err(End::Refused(report::base64(name, &refused))),
+        Err(Error::Refused(refused)) => Err(End::Refused(report::base64(name.as_ref(), &text, &refused))),
         Err(other) => Err(Trouble::of(name, io::Error::other(other)).into()),
     }
 }
