@@ -61,7 +61,7 @@ fn columns_says_what_the_declarations_were_understood_as() {
     let table = "place  datatype  length  null  name\n\
         0      short     1       -99   sky\n\
         1      char      40*     -     -\n\
-        2      bit       *       -     a\\u{1b}[2J\u{e9}\\\"\n\
+        2      bit       *       -     a\\u{1b}[2J\u{e9}\"\n\
         3      int       2       -     pair\n";
     for words in ["columns odd", "columns --fields odd", "columns --fields=odd"] {
         assert_eq!(scratch.run(words), Said::good(table.as_bytes()), "{words}");

@@ -1,15 +1,16 @@
 //! The base64 step by itself, and what stands behind base64 for a conversion.
 
-use std::io::Write;
+use std::ffi::OsStr;
+use std::io::{self, Write};
 
 use sailmortar::{Base64Writer, Error, INPUT_LIMIT};
 
 use crate::arguments::{Encoding, Files, Usage};
-use crate::convert::counted;
 use crate::files::{Input, Trouble};
 use crate::output::Output;
 use crate::progress::Progress;
-use crate::report::{self, Report, Value};
+use crate::report::{self, shown, Report, Value};
+use crate::shown::counted;
 use crate::End;
 
 pub fn encode(encoding: &Encoding) -> Result<Report, End> {
@@ -23,9 +24,8 @@ pub fn encode(encoding: &Encoding) -> Result<Report, End> {
         letters.finish().map(drop)
     });
     letters.map_err(|cause| output.trouble(cause))?;
-    let written = format!("{}: {} encoded to {}", input.name, counted(bytes.len() as u64, "byte"), output.name);
     output.finish()?;
-    Ok(accepted(written, bytes.len()))
+    Ok(accepted(&input, bytes.len(), "encoded", &output))
 }
 
 pub fn decode(files: &Files) -> Result<Report, End> {
@@ -36,9 +36,8 @@ pub fn decode(files: &Files) -> Result<Report, End> {
     let text = read(&mut input, STEP)?;
     let bytes = decoded(&input.name, text)?;
     output.write_all(&bytes).map_err(|cause| output.trouble(cause))?;
-    let written = format!("{}: {} decoded to {}", input.name, counted(bytes.len() as u64, "byte"), output.name);
     output.finish()?;
-    Ok(accepted(written, bytes.len()))
+    Ok(accepted(&input, bytes.len(), "decoded", &output))
 }
 
 /// What a message says of the step.
@@ -50,7 +49,9 @@ fn open(files: &Files) -> Result<(Input, Output), End> {
     Ok((input, output))
 }
 
-fn accepted(line: String, bytes: usize) -> Report {
+fn accepted(input: &Input, bytes: usize, done: &str, output: &Output) -> Report {
+    let count = counted(bytes as u64, "byte", "bytes");
+    let line = format!("{}: {count} {done} to {}", shown(&input.name), shown(&output.name));
     Report { lines: vec![line], facts: vec![("bytes", Value::Number(bytes as u64))] }
 }
 
@@ -76,12 +77,12 @@ pub fn read_rows(input: &mut Input, base64: bool) -> Result<Vec<u8>, End> {
     }
 }
 
-fn decoded(name: &str, text: Vec<u8>) -> Result<Vec<u8>, End> {
+fn decoded(name: &OsStr, text: Vec<u8>) -> Result<Vec<u8>, End> {
     let mut bytes = Vec::new();
     match sailmortar::base64_decode_to_vec(&text, &mut bytes) {
         Ok(_) => Ok(bytes),
         Err(Error::Refused(refused)) => Err(End::Refused(report::base64(name, &text, &refused))),
         Err(Error::System(cause)) => Err(Trouble::with(name)(cause).into()),
-        Err(other) => Err(Trouble::with(name)(std::io::Error::other(other)).into()),
+        Err(other) => Err(Trouble::with(name)(io::Error::other(other)).into()),
     }
 }

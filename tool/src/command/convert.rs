@@ -1,6 +1,7 @@
 //! Conversion from file to file, and the check that writes nothing.
 
-use std::io::Write;
+use std::ffi::OsStr;
+use std::io::{self, Write};
 
 use sailmortar::{Base64Writer, Column, Done, Error, Refused, Rows, ROOM};
 
@@ -9,7 +10,8 @@ use crate::base64::{not_to_a_terminal, read_rows};
 use crate::files::{Identity, Input, Trouble};
 use crate::output::Output;
 use crate::progress::Progress;
-use crate::report::{self, Report, Stream, Value};
+use crate::report::{self, shown, Report, Stream, Value};
+use crate::shown::counted;
 use crate::{say, End};
 
 /// Declarations that are good.
@@ -45,7 +47,7 @@ pub fn convert(conversion: &Conversion) -> Result<Report, End> {
             Err(End::Refused(report::row(&stream, &refused, &stands)))
         }
         Err(Error::System(cause)) => Err(outputs.output.trouble(cause).into()),
-        Err(other) => Err(outputs.output.trouble(std::io::Error::other(other)).into()),
+        Err(other) => Err(outputs.output.trouble(io::Error::other(other)).into()),
     }
 }
 
@@ -69,7 +71,7 @@ impl Outputs {
         let rest = conversion.rest.as_ref().map(Output::open).transpose()?;
         if let Some(rest) = &rest {
             if rest.is_same_as(&output) || inputs.iter().any(|input| rest.replaces(*input)) {
-                return Err(Usage(format!("--rest wants a file of its own, and {} has another use", rest.name)).into());
+                return Err(Usage(format!("--rest wants a file of its own, and {} has another use", shown(&rest.name))).into());
             }
         }
         let replaces_input = inputs.iter().any(|input| output.replaces(*input));
@@ -77,27 +79,25 @@ impl Outputs {
     }
 
     /// All rows are good.
-    fn finish(mut self, input_name: &str, read: usize, done: &Done) -> Result<Report, End> {
-        let (rows, read_bytes, bytes) = (counted(done.rows, "row"), counted(read as u64, "byte"), counted(done.bytes, "byte"));
-        let said = format!("{input_name}: {rows}, {read_bytes} read, {bytes} written to {}", self.output.name);
+    fn finish(mut self, input_name: &OsStr, read: usize, done: &Done) -> Result<Report, End> {
+        let [read_bytes, bytes] = [read as u64, done.bytes].map(|bytes| counted(bytes, "byte", "bytes"));
+        let rows = counted(done.rows, "row", "rows");
+        let said = format!("{}: {rows}, {read_bytes} read, {bytes} written to {}", shown(input_name), shown(&self.output.name));
         let counts = [("rows", done.rows), ("read", read as u64), ("bytes", done.bytes)];
         let mut facts: Vec<_> = counts.into_iter().map(|(name, number)| (name, Value::Number(number))).collect();
-        facts.push(("output", Value::Text(self.output.name.clone())));
+        facts.push(("output", Value::Text(self.output.name.to_string_lossy().into_owned())));
         self.output.finish()?;
         Ok(Report { lines: vec![said], facts })
     }
 
     /// A row is refused: keeps what stands before it, and answers what became of that in words.
     fn stop(&mut self, input: &[u8], refused: &Refused) -> Result<String, Trouble> {
-        let name = self.output.name.clone();
-        let before = match refused.rows {
-            1 => "the 1 row before it is written to".to_string(),
-            many => format!("the {many} rows before it are written to"),
-        };
+        let name = shown(&self.output.name);
+        let before = format!("{} written to", rows_before(refused.rows));
         let stands = match (refused.rows, self.replaces_input) {
             (0, _) if self.output.is_there() => format!("no row stands before it, and {name} is left as it was"),
             (0, _) => "no row stands before it, and nothing is written".to_string(),
-            (_, true) => format!("{before} {}, and {name} is left as it was", self.output.finish_beside()?),
+            (_, true) => format!("{before} {}, and {name} is left as it was", shown(&self.output.finish_beside()?)),
             (_, false) => {
                 self.output.finish()?;
                 format!("{before} {name}")
@@ -108,13 +108,12 @@ impl Outputs {
         };
         rest.write_all(&input[refused.offset..]).map_err(|cause| rest.trouble(cause))?;
         rest.finish()?;
-        Ok(format!("{stands}; everything from row {} on is in {}", refused.row, rest.name))
+        Ok(format!("{stands}; everything from row {} on is in {}", refused.row, shown(&rest.name)))
     }
 }
 
-/// So many of a thing, in words.
-pub fn counted(count: u64, thing: &str) -> String {
-    format!("{count} {thing}{}", if count == 1 { "" } else { "s" })
+fn rows_before(rows: u64) -> String {
+    format!("the {} before it {}", counted(rows, "row", "rows"), if rows == 1 { "is" } else { "are" })
 }
 
 fn convert_into(output: &mut Output, conversion: &Conversion, decls: &[u8], input: &[u8]) -> Result<Done, Error> {
@@ -149,23 +148,21 @@ pub fn check(checking: &Checking, telling: Telling) -> Result<Report, End> {
         Err(Error::Refused(refused)) => {
             let stands = match refused.rows {
                 0 => "no row stands before it".to_string(),
-                1 => "the 1 row before it is good".to_string(),
-                many => format!("the {many} rows before it are good"),
+                rows => format!("{} good", rows_before(rows)),
             };
             let decoded = checking.table.base64_in;
             let stream = Stream { input_name: &input.name, columns: &fields.columns, from, to, decoded, input: &read };
             Err(End::Refused(report::row(&stream, &refused, &stands)))
         }
         Err(Error::System(cause)) => Err(Trouble::with(&input.name)(cause).into()),
-        Err(other) => Err(Trouble::with(&input.name)(std::io::Error::other(other)).into()),
+        Err(other) => Err(Trouble::with(&input.name)(io::Error::other(other)).into()),
     }
 }
 
-fn good(name: &str, count: u64, bytes: usize, columns: usize, telling: Telling) -> Result<Report, End> {
+fn good(name: &OsStr, count: u64, bytes: usize, columns: usize, telling: Telling) -> Result<Report, End> {
     let numbers = [("rows", count), ("read", bytes as u64), ("columns", columns as u64)];
-    let [rows, bytes, columns] =
-        [("row", count), ("byte", bytes as u64), ("column", columns as u64)].map(|(thing, count)| counted(count, thing));
-    let line = format!("{name}: {rows}, {bytes}, {columns}");
+    let (rows, bytes) = (counted(count, "row", "rows"), counted(bytes as u64, "byte", "bytes"));
+    let line = format!("{}: {rows}, {bytes}, {}", shown(name), counted(columns as u64, "column", "columns"));
     let facts = numbers.into_iter().map(|(name, number)| (name, Value::Number(number))).collect();
     match telling.json {
         true => Ok(Report { lines: vec![line], facts }),

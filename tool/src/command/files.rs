@@ -1,5 +1,6 @@
 //! Files that are read, and trouble: whatever the system says no to comes back with the name of the file.
 
+use std::ffi::{OsStr, OsString};
 use std::fmt;
 use std::fs::{File, Metadata};
 use std::io::{self, ErrorKind, Read, Seek};
@@ -18,8 +19,8 @@ pub struct Trouble {
 
 impl Trouble {
     /// Trouble with a file of this name.
-    pub fn with(what: &str) -> impl FnOnce(io::Error) -> Trouble {
-        let what = what.to_string();
+    pub fn with(name: &OsStr) -> impl FnOnce(io::Error) -> Trouble {
+        let what = shown(name);
         move |cause| Trouble { what, cause }
     }
 
@@ -40,11 +41,11 @@ impl fmt::Display for Trouble {
     }
 }
 
-/// A place's name for people.
-pub fn name(place: &Place, standard: &str) -> String {
+/// A place's name, as it was given.
+pub fn name<'a>(place: &'a Place, standard: &'a str) -> &'a OsStr {
     match place {
-        Place::Standard => standard.to_string(),
-        Place::Named(path) => shown(path.as_os_str()),
+        Place::Standard => standard.as_ref(),
+        Place::Named(path) => path.as_os_str(),
     }
 }
 
@@ -60,7 +61,7 @@ impl Identity {
 
 /// An input, opened.
 pub struct Input {
-    pub name: String,
+    pub name: OsString,
     file: File,
 }
 
@@ -71,7 +72,7 @@ impl Input {
             Place::Standard => check_open(Standard::Input).and_then(|()| io::stdin().as_fd().try_clone_to_owned()).map(File::from),
             Place::Named(path) => File::open(path),
         };
-        Ok(Input { file: file.map_err(Trouble::with(&name))?, name })
+        Ok(Input { file: file.map_err(Trouble::with(name))?, name: name.to_owned() })
     }
 
     /// Which file it is, if it is a plain file.

@@ -4,15 +4,24 @@
 
 mod arguments;
 mod base64;
+mod binary;
+mod cell;
 mod columns;
 mod convert;
+mod element;
 mod files;
+mod hint;
 mod json;
+mod letters;
 mod output;
+mod probe;
 mod progress;
 mod report;
+mod shown;
 #[allow(unsafe_code)]
 mod system;
+mod tabledata;
+mod text;
 mod words;
 
 use std::io::{self, Write};

@@ -9,13 +9,11 @@ use std::path::{Path, PathBuf};
 
 use crate::arguments::Place;
 use crate::files::{name, Identity, Trouble};
-use crate::report::shown;
 use crate::system::{check_open, Doomed, Standard};
 
 /// An output, opened. A plain file is written beside its name, and moved there by `finish`; dropped before that, nothing is left of it.
 pub struct Output {
-    pub name: String,
-    place: Place,
+    pub name: OsString,
     file: File,
     identity: Option<Identity>,
     moving: Option<Moving>,
@@ -40,7 +38,7 @@ impl Output {
             Place::Standard => check_open(Standard::Output).and_then(|()| descriptor(io::stdout().as_fd())),
             Place::Named(path) => open_named(path),
         };
-        opened.map(|output| Output { name: name.clone(), place: place.clone(), ..output }).map_err(Trouble::with(&name))
+        opened.map(|output| Output { name: name.to_owned(), ..output }).map_err(Trouble::with(name))
     }
 
     fn of(file: File, moving: Option<Moving>) -> io::Result<Output> {
@@ -48,7 +46,7 @@ impl Output {
             Some(moving) => fs::metadata(&moving.target).ok(),
             None => Some(file.metadata()?).filter(Metadata::is_file),
         };
-        Ok(Output { name: String::new(), place: Place::Standard, file, identity: identity.map(|metadata| Identity::of(&metadata)), moving })
+        Ok(Output { name: OsString::new(), file, identity: identity.map(|metadata| Identity::of(&metadata)), moving })
     }
 
     pub fn is_terminal(&self) -> bool {
@@ -93,7 +91,7 @@ impl Output {
     }
 
     /// The same under a new name beside its own, where its own must stay as it is. Answers the name.
-    pub fn finish_beside(&mut self) -> Result<String, Trouble> {
+    pub fn finish_beside(&mut self) -> Result<OsString, Trouble> {
         let Some(moving) = self.moving.take() else {
             return Ok(self.name.clone());
         };
@@ -105,7 +103,7 @@ impl Output {
             Ok(()) => Ok(beside),
             Err(cause) => fs::remove_file(beside).and(Err(cause)),
         });
-        moved.map(|beside| said_beside(&self.place, &beside)).map_err(|cause| self.trouble(cause))
+        moved.map(|beside| name_beside(Path::new(&self.name), beside)).map_err(|cause| self.trouble(cause))
     }
 
     fn move_to(&self, moving: &Moving, target: &Path) -> io::Result<()> {
@@ -117,14 +115,13 @@ impl Output {
     }
 }
 
-/// The name for people: as the output's own is said, where both stand in one folder.
-fn said_beside(output: &Place, beside: &Path) -> String {
-    let name = beside.file_name().unwrap_or_default();
-    let near = match output {
-        Place::Named(path) if folder(path).canonicalize().is_ok_and(|folder| folder.join(name) == beside) => path.with_file_name(name),
-        _ => beside.to_path_buf(),
-    };
-    shown(near.as_os_str())
+/// The name as the output's own was given, where both stand in one folder.
+fn name_beside(output: &Path, beside: PathBuf) -> OsString {
+    let near = output.with_file_name(beside.file_name().unwrap_or_default());
+    match folder(&near).canonicalize() {
+        Ok(folder) if Some(&*folder) == beside.parent() => near.into_os_string(),
+        _ => beside.into_os_string(),
+    }
 }
 
 impl Write for Output {

@@ -1,98 +1,231 @@
-//! What standard error says of a refusal: the file, the place, the number and its meaning, and what stands.
+//! What is said of a refusal, lines for people and facts for programs: the file, the place, what stands there, the meaning, what is left.
 
 use std::ffi::OsStr;
-use std::os::unix::ffi::OsStrExt;
 
-use sailmortar::{Column, Refused, Rows};
+use sailmortar::{Column, Refused, Rows, DECLARATIONS_LIMIT, INPUT_LIMIT};
 
-#[derive(Default)]
+use crate::cell::{self, Place};
+use crate::text::{line, without_space};
+use crate::{element, hint, letters, shown};
+
+/// What is said of a refusal.
+#[derive(Clone, Debug, Default, PartialEq, Eq)]
 pub struct Report {
+    /// For people, without 'sailmortar: ' before each.
     pub lines: Vec<String>,
+    /// For programs, in order.
     pub facts: Vec<(&'static str, Value)>,
 }
+
+/// A fact's value.
+#[derive(Clone, Debug, PartialEq, Eq)]
 pub enum Value {
     Number(u64),
     Text(String),
 }
-fn rep(text: String) -> Report {
-    Report { lines: text.lines().map(|l| l.trim_start_matches("sailmortar: ").to_string()).collect(), facts: vec![] }
-}
+
+/// A file's name as messages show it.
 pub fn shown(name: &OsStr) -> String {
-    String::from_utf8_lossy(name.as_bytes()).escape_debug().to_string()
-}
-/// A refusal of the declarations.
-pub fn declarations(file: &str, _decls: &[u8], refused: &Refused) -> Report {
-    let Refused { number, column: place, .. } = *refused;
-    let said = match number {
-        6 => "refusal 6: the declarations are over 65536 bytes".to_string(),
-        _ => {
-            format!("refusal {number} at the element after {place} whole FIELD{}: {}", if place == 1 { "" } else { "s" }, refused.meaning())
-        }
-    };
-    rep(format!("sailmortar: {file}: {said}\n{}", nothing(number)))
+    shown::file(name)
 }
 
-/// A refusal of an input that is too long; `step` says which step was to read it.
-pub fn too_long(file: &str, step: &str) -> Report {
-    rep(format!("sailmortar: {file}: refusal 6{step}: the input is over 1073741824 bytes (1 GiB)\n{}", nothing(6)))
-}
-
-/// A refusal of base64.
-pub fn base64(file: &str, _text: &[u8], refused: &Refused) -> Report {
-    let step = " in the base64 step";
-    match refused.number {
-        6 => too_long(file, step),
-        number => rep(format!("sailmortar: {file}: refusal {number}{step}: {}\n{}", refused.meaning(), nothing(number))),
+/// A refusal of declarations (1 to 6).
+pub fn declarations(file: &OsStr, decls: &[u8], refused: &Refused) -> Report {
+    let number = refused.number;
+    let mut report = Report::of(file, refused);
+    if number == 6 {
+        let most = shown::number(DECLARATIONS_LIMIT as u64);
+        report.lines.push(format!("{}: refusal 6: the declarations are over {most} bytes", shown(file)));
+        report.nothing(number);
+        return report;
     }
+    let standing = element::standing(decls, refused);
+    let element::Standing { place, words, .. } = &standing;
+    report.lines.push(format!("{}: refusal {number}{place}: {words}: {}", shown(file), refused.meaning()));
+    report.nothing(number);
+    report.number("column", refused.column);
+    report.element(decls, &standing);
+    report.hint(hint::of_declarations(decls).filter(|_| number == 1));
+    report
 }
 
-fn nothing(number: u64) -> String {
-    format!("sailmortar: no row was read and nothing is written; 'sailmortar explain {number}' says more\n")
+/// A refusal of an input that is too long (6); `step` says which step was to read it.
+pub fn too_long(file: &OsStr, step: &str) -> Report {
+    let mut report = Report::of_number(file, 6, sailmortar::meaning(6).unwrap_or_default());
+    let most = shown::number(INPUT_LIMIT as u64);
+    report.lines.push(format!("{}: refusal 6{step}: the input is over {most} bytes (1 GiB)", shown(file)));
+    report.nothing(6);
+    report
 }
 
-/// Where rows come from and go to, for a message about them.
+/// A refusal of base64 (6 and 7).
+pub fn base64(file: &OsStr, text: &[u8], refused: &Refused) -> Report {
+    let step = " in the base64 step";
+    let number = refused.number;
+    if number == 6 {
+        return too_long(file, step);
+    }
+    let mut report = Report::of(file, refused);
+    let fault = letters::fault(text);
+    let place = fault.as_ref().map_or(String::new(), |fault| report.letters(text, fault));
+    report.lines.push(format!("{}: refusal {number}{step}{place}: {}", shown(file), refused.meaning()));
+    report.nothing(number);
+    report.hint(fault.and_then(|fault| hint::of_letters(text, fault.byte)));
+    report
+}
+
+/// Where rows come from and go to.
 pub struct Stream<'a> {
-    pub input_name: &'a str,
-    pub to: Rows,
+    pub input_name: &'a OsStr,
     pub columns: &'a [Column],
     pub from: Rows,
+    pub to: Rows,
+    /// Whether the input was decoded from base64 first.
     pub decoded: bool,
     pub input: &'a [u8],
 }
 
-/// A refusal of a row.
-pub fn row(stream: &Stream, refused: &Refused, stand: &str) -> Report {
-    let Refused { number, row, column, .. } = *refused;
-    let title = title(stream.columns, column);
-    rep(format!(
-        "sailmortar: {}: refusal {number} at row {row}, column {column}{title}: {}\n\
-         sailmortar: {stand}\n\
-         sailmortar: rows and columns count from 0; {}; 'sailmortar explain {number}' says more\n",
-        stream.input_name,
-        refused.meaning(),
-        spot(stream, row, refused.offset),
-    ))
+/// A refusal of a row (8 to 16); `stands` says what is written.
+pub fn row(stream: &Stream, refused: &Refused, stands: &str) -> Report {
+    let standing = cell::standing(stream, refused);
+    let (file, number) = (shown(stream.input_name), refused.number);
+    let mut report = Report::of(stream.input_name, refused);
+    let place = report.place(stream, refused, standing.as_ref());
+    let words = standing.as_ref().map_or(String::new(), |standing| format!(" {}:", standing.words));
+    report.lines.push(format!("{file}: refusal {number} {place}:{words} {}", refused.meaning()));
+    report.lines.push(stands.to_string());
+    report.number("rows", refused.rows);
+    report.number("bytes", refused.bytes);
+    let spot = report.spot(stream, refused, standing.as_ref());
+    report.lines.push(format!("rows and columns count from 0; {spot}; 'sailmortar explain {number}' says more"));
+    report.hint(hint::of_row(stream, refused, standing.and_then(|standing| standing.fault)));
+    report
 }
 
-/// Names come from other people's files: what a terminal would act on is spelt out, and the line is kept short.
-fn title(columns: &[Column], column: u64) -> String {
-    match usize::try_from(column).ok().and_then(|place| columns.get(place)) {
-        Some(Column { name: Some(name), .. }) => {
-            let shown: String = name.escape_debug().take(60).collect();
-            format!(" ({shown}{})", if name.escape_debug().count() > 60 { ".." } else { "" })
+impl Report {
+    /// The facts that every refusal has.
+    fn of(file: &OsStr, refused: &Refused) -> Report {
+        Report::of_number(file, refused.number, refused.meaning())
+    }
+
+    fn of_number(file: &OsStr, number: u64, meaning: &str) -> Report {
+        let mut report = Report::default();
+        report.text("file", file.to_string_lossy());
+        report.number("number", number);
+        report.text("meaning", meaning);
+        report
+    }
+
+    fn number(&mut self, name: &'static str, value: u64) {
+        self.facts.push((name, Value::Number(value)));
+    }
+
+    fn text(&mut self, name: &'static str, value: impl Into<String>) {
+        self.facts.push((name, Value::Text(value.into())));
+    }
+
+    /// The line that says that nothing is written.
+    fn nothing(&mut self, number: u64) {
+        self.lines.push(format!("no row was read and nothing is written; 'sailmortar explain {number}' says more"));
+    }
+
+    fn hint(&mut self, hint: Option<&str>) {
+        if let Some(hint) = hint {
+            self.text("hint", hint);
+            self.lines.push(format!("hint: {hint}"));
         }
-        Some(_) => String::new(),
-        None => " (after the last cell)".to_string(),
+    }
+
+    /// The facts of an element of declarations.
+    fn element(&mut self, decls: &[u8], standing: &element::Standing) {
+        let Some(element) = standing.element else {
+            return;
+        };
+        if let Some(name) = element.name() {
+            self.text("name", name);
+        }
+        for attribute in ["datatype", "arraysize"] {
+            if let Some(value) = element.attribute(attribute) {
+                self.text(attribute, shown::plain(value));
+            }
+        }
+        self.text("shown", &*standing.shown);
+        self.number("byte", element.start as u64);
+        self.number("line", line(decls, element.start));
+        self.text("element", shown::plain(element::tag(element.text)));
+    }
+
+    /// Where base64 goes wrong, in words and as facts.
+    fn letters(&mut self, text: &[u8], fault: &letters::Fault) -> String {
+        let letters::Fault { byte, words } = fault;
+        let line = line(text, *byte);
+        self.text("shown", shown::plain(shown::character(text.get(*byte..).unwrap_or_default())));
+        self.number("byte", *byte as u64);
+        self.number("line", line);
+        format!(", in line {line}, at byte {byte}: {words}")
+    }
+
+    /// Which part of which row is refused, in words and as facts. What is no cell is not put down to a column.
+    fn place(&mut self, stream: &Stream, refused: &Refused, standing: Option<&cell::Standing>) -> String {
+        let Refused { row, column, .. } = *refused;
+        self.number("row", row);
+        let place = match standing.map(|standing| standing.place) {
+            Some(Place::Start) => format!("at the start of row {row}"),
+            Some(Place::Flags) => format!("in the flags of row {row}"),
+            _ => {
+                self.number("column", column);
+                format!("at row {row}, column {column}{}", self.title(stream.columns, column))
+            }
+        };
+        if let Some(standing) = standing {
+            self.text("shown", &*standing.shown);
+        }
+        place
+    }
+
+    fn title(&mut self, columns: &[Column], place: u64) -> String {
+        let Some(column) = usize::try_from(place).ok().and_then(|place| columns.get(place)) else {
+            return " (after the last cell)".to_string();
+        };
+        if let Some(name) = &column.name {
+            self.text("name", &**name);
+        }
+        self.text("datatype", column.kind.name());
+        self.text("arraysize", column.length.to_string());
+        column.name.as_ref().map_or(String::new(), |name| format!(" ({})", shown::name(name)))
+    }
+
+    /// Where in the bytes the refused row and its cell begin, in words and as facts; their numbers alone are hard to find in a long file.
+    fn spot(&mut self, stream: &Stream, refused: &Refused, standing: Option<&cell::Standing>) -> String {
+        let Refused { row, column, .. } = *refused;
+        let start = row_start(stream, refused);
+        let cell = standing.map_or(start, |standing| standing.byte.max(start));
+        self.number("offset", start as u64);
+        self.number("byte", cell as u64);
+        let (start_line, cell_line) = match stream.from {
+            Rows::TableData => {
+                let start_line = line(stream.input, start);
+                let cell_line = start_line + line(&stream.input[start..], cell - start) - 1;
+                self.number("line", cell_line);
+                (format!("in line {start_line}, "), format!("in line {cell_line}, "))
+            }
+            _ => Default::default(),
+        };
+        let of = if stream.decoded { " of the decoded stream" } else { "" };
+        match standing.map(|standing| standing.place) {
+            Some(Place::Cell | Place::End) => {
+                format!("row {row} begins {start_line}at byte {start}, column {column} {cell_line}at byte {cell}{of}")
+            }
+            _ => format!("row {row} begins {start_line}at byte {start}{of}"),
+        }
     }
 }
 
-/// Where in the bytes the refused row begins; the row's number alone is hard to find in a long file.
-fn spot(stream: &Stream, row: u64, start: usize) -> String {
-    if stream.from == Rows::TableData {
-        let start = start + stream.input[start..].iter().take_while(|b| b.is_ascii_whitespace()).count();
-        let line = 1 + stream.input[..start].iter().filter(|byte| **byte == b'\n').count();
-        return format!("row {row} begins in line {line}, at byte {start}");
+/// White space before a row of TABLEDATA counts as part of it; the reader looks for the tag.
+fn row_start(stream: &Stream, refused: &Refused) -> usize {
+    let rest = stream.input.get(refused.offset..).unwrap_or_default();
+    match stream.from {
+        Rows::TableData => stream.input.len() - without_space(rest).len(),
+        _ => stream.input.len() - rest.len(),
     }
-    let of = if stream.decoded { " of the decoded stream" } else { "" };
-    format!("row {row} begins at byte {start}{of}")
 }

@@ -1,0 +1,132 @@
+//! What stands where a row of TABLEDATA is refused.
+
+use sailmortar::{Column, Kind, Refused, Rows};
+
+use crate::cell::{element_is, elements_are, label, shows, Place, Standing};
+use crate::probe::{self, Probe};
+use crate::report::Stream;
+use crate::shown::{character, plain, quoted};
+use crate::text::{after_tag, is_space, tag_or_text, without_space};
+
+pub fn standing<'a>(stream: &Stream<'a>, refused: &Refused) -> Option<Standing<'a>> {
+    let row = without_space(stream.input.get(refused.offset..)?);
+    let at = |place, here: &'a [u8], said: Said<'a>| {
+        let Said { words, shown, fault } = said;
+        Some(Standing { place, byte: stream.input.len() - here.len(), words, shown: plain(shown), fault })
+    };
+    let Some(cells) = after_tag(row, "<TR", ">") else {
+        return at(Place::Start, row, instead(row, "<TR>"));
+    };
+    let here = without_space((0..refused.column).try_fold(cells, |cells, _| after_cell(cells))?);
+    match stream.columns.get(usize::try_from(refused.column).ok()?) {
+        None => at(Place::End, here, instead(here, "</TR>")),
+        Some(column) => {
+            let said = in_cell(stream, column, here, refused.number);
+            at(Place::Cell, here, Said { words: format!("{}{}", label(column), said.words), ..said })
+        }
+    }
+}
+
+/// What is said of a text.
+struct Said<'a> {
+    words: String,
+    shown: &'a [u8],
+    fault: Option<&'a [u8]>,
+}
+
+/// What stands where something else should.
+fn instead<'a>(text: &'a [u8], wanted: &str) -> Said<'a> {
+    let shown = tag_or_text(text);
+    let there = if shown.is_empty() { "the input ends".to_string() } else { quoted(shown) };
+    Said { words: format!("{there} where {wanted} should stand"), shown, fault: Some(text) }
+}
+
+/// What stands behind a whole cell.
+fn after_cell(cells: &[u8]) -> Option<&[u8]> {
+    let cell = without_space(cells);
+    match after_tag(cell, "<TD", "/>") {
+        Some(after) => Some(after),
+        None => after_tag(split_content(after_tag(cell, "<TD", ">")?).1, "</TD", ">"),
+    }
+}
+
+/// The text of a cell, and what stands from the next tag on.
+fn split_content(inside: &[u8]) -> (&[u8], &[u8]) {
+    let end = inside.iter().position(|byte| *byte == b'<').unwrap_or(inside.len());
+    inside.split_at(end)
+}
+
+/// Words that follow the column's kind.
+fn in_cell<'a>(stream: &Stream, column: &Column, cell: &'a [u8], number: u64) -> Said<'a> {
+    if number == 10 {
+        let said = broken(cell);
+        return Said { words: format!(", {}", said.words), ..said };
+    }
+    let text = after_tag(cell, "<TD", ">").map_or(&cell[..0], |inside| split_content(inside).0);
+    let words = match number {
+        11 => format!(" {}{}", quoted(text), wrong_element(column.kind, text)),
+        12 => format!(" {}{}", quoted(text), wrong_count(column, text)),
+        _ => shows(column, number, stream.to),
+    };
+    Said { words, shown: text, fault: None }
+}
+
+/// The first tag or reference of a cell that is not as it should be.
+fn broken(cell: &[u8]) -> Said<'_> {
+    let Some(inside) = after_tag(cell, "<TD", ">") else {
+        return instead(cell, "<TD>");
+    };
+    let (text, rest) = split_content(inside);
+    let probe = Probe { number: 10, kind: Kind::Char, from: Rows::TableData, to: Rows::Binary2 };
+    match (probe.first(references(text)), after_tag(rest, "</TD", ">")) {
+        (Some((_, reference)), _) => instead(reference, "a reference"),
+        (None, None) => instead(rest, "</TD>"),
+        (None, Some(_)) => Said { words: quoted(cell), shown: cell, fault: None },
+    }
+}
+
+/// Each `&` of a text with what stands from there to its `;`, or to the end of the text.
+fn references(text: &[u8]) -> impl Iterator<Item = &[u8]> {
+    text.split_inclusive(|byte| *byte == b';').filter_map(|part| {
+        let start = part.iter().position(|byte| *byte == b'&')?;
+        Some(&part[start..])
+    })
+}
+
+/// The elements of a text, as far as they can be told apart without reading references: in a text that is split at white space a reference
+/// may stand for white space.
+fn parts<'a>(kind: Kind, text: &'a [u8]) -> Box<dyn Iterator<Item = &'a [u8]> + 'a> {
+    match kind {
+        Kind::Char => Box::new(characters(text)),
+        _ if text.contains(&b'&') => Box::new(std::iter::empty()),
+        Kind::Bit => Box::new(characters(without_space(text))),
+        _ => Box::new(text.split(|byte| is_space(*byte)).filter(|word| !word.is_empty())),
+    }
+}
+
+/// The characters and references of a text, one by one.
+fn characters(text: &[u8]) -> impl Iterator<Item = &[u8]> {
+    let mut rest = text;
+    std::iter::from_fn(move || {
+        let length = match rest.first()? {
+            b'&' => rest.iter().position(|byte| *byte == b';').map_or(rest.len(), |end| end + 1),
+            _ => character(rest).len(),
+        };
+        let (part, after) = rest.split_at(length);
+        rest = after;
+        Some(part)
+    })
+}
+
+/// The first element that is no value, where a cell has several.
+fn wrong_element(kind: Kind, text: &[u8]) -> String {
+    let probe = Probe { number: 11, kind, from: Rows::TableData, to: Rows::Binary2 };
+    match probe.first(parts(kind, text)) {
+        Some((place, part)) if part != text => element_is(kind, place, &quoted(part)),
+        _ => String::new(),
+    }
+}
+
+fn wrong_count(column: &Column, text: &[u8]) -> String {
+    probe::elements(column.kind, text).map(|count| elements_are(column, count)).unwrap_or_default()
+}
