@@ -21,6 +21,17 @@ pub enum Place {
     End,
 }
 
+impl Place {
+    pub fn name(self) -> &'static str {
+        match self {
+            Place::Start => "start",
+            Place::Flags => "flags",
+            Place::Cell => "cell",
+            Place::End => "end",
+        }
+    }
+}
+
 /// What stands at the place of a refusal.
 pub struct Standing<'a> {
     pub place: Place,

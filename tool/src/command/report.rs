@@ -169,18 +169,18 @@ impl Report {
     fn place(&mut self, stream: &Stream, refused: &Refused, standing: Option<&cell::Standing>) -> String {
         let Refused { row, column, .. } = *refused;
         self.number("row", row);
-        let place = match standing.map(|standing| standing.place) {
-            Some(Place::Start) => format!("at the start of row {row}"),
-            Some(Place::Flags) => format!("in the flags of row {row}"),
-            _ => {
-                self.number("column", column);
-                format!("at row {row}, column {column}{}", self.title(stream.columns, column))
-            }
+        self.number("column", column);
+        let place = standing.map_or(Place::Cell, |standing| standing.place);
+        self.text("place", place.name());
+        let title = match place {
+            Place::Start => " (the start of the row)".to_string(),
+            Place::Flags => " (the flags of the row)".to_string(),
+            Place::Cell | Place::End => self.title(stream.columns, column),
         };
         if let Some(standing) = standing {
             self.text("shown", &*standing.shown);
         }
-        place
+        format!("at row {row}, column {column}{title}")
     }
 
     fn title(&mut self, columns: &[Column], place: u64) -> String {

@@ -45,7 +45,7 @@ fn is_the_place(report: &Report, fields: &[u8], way: Way, input: &[u8]) {
     let fact = |name| report.number_of(name).unwrap_or_else(|| panic!("no {name}")) as usize;
     let (offset, byte) = (fact("offset"), fact("byte"));
     let cut = convert_to_vec(fields, way.from, Rows::Binary2, &input[..byte], &mut Vec::new());
-    let found = match (cut, report.number_of("column")) {
+    let found = match (cut, report.number_of("column").filter(|_| matches!(report.text_of("place"), Some("cell" | "end")))) {
         (Err(Error::Refused(cut)), Some(column)) => cut.row == fact("row") as u64 && cut.column == column,
         (Ok(done), column) => done.rows == fact("row") as u64 && byte == offset && column.unwrap_or(0) == 0,
         _ => false,

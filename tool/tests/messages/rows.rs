@@ -74,16 +74,36 @@ fn a_cut_stream_says_how_much_is_left() {
 
 #[test]
 fn flags_are_not_put_down_to_a_column() {
-    say(FIELDS, BINARY2, 13, &[(b"\xFF", "in the flags of row 0: 3 columns, byte FF, the 5 lowest bits of FF should be 0")]);
+    say(
+        FIELDS,
+        BINARY2,
+        13,
+        &[(b"\xFF", "at row 0, column 0 (the flags of the row): 3 columns, byte FF, the 5 lowest bits of FF should be 0")],
+    );
     let nine = "<FIELD name='sky' datatype='short'/>".repeat(9);
     let row = [0; 20];
     let cut = |bytes: &[u8]| [&row, bytes].concat();
-    say(&nine, BINARY2, 8, &[(&cut(b"\x80"), "in the flags of row 1: 9 columns, 1 of the 2 bytes of flags is left (80)")]);
-    say(&nine, BINARY2, 13, &[(&cut(b"\x80\x81"), "in the flags of row 1: 9 columns, bytes 80 81, the 7 lowest bits of 81 should be 0")]);
+    say(
+        &nine,
+        BINARY2,
+        8,
+        &[(&cut(b"\x80"), "at row 1, column 0 (the flags of the row): 9 columns, 1 of the 2 bytes of flags is left (80)")],
+    );
+    say(
+        &nine,
+        BINARY2,
+        13,
+        &[(&cut(b"\x80\x81"), "at row 1, column 0 (the flags of the row): 9 columns, bytes 80 81, the 7 lowest bits of 81 should be 0")],
+    );
     let fifteen = "<FIELD datatype='short'/>".repeat(15);
-    say(&fifteen, BINARY2, 13, &[(b"\x00\x01", "in the flags of row 0: 15 columns, bytes 00 01, the lowest bit of 01 should be 0")]);
+    say(
+        &fifteen,
+        BINARY2,
+        13,
+        &[(b"\x00\x01", "at row 0, column 0 (the flags of the row): 15 columns, bytes 00 01, the lowest bit of 01 should be 0")],
+    );
     let report = of_rows(FIELDS, BINARY2, b"\xFF");
-    assert_eq!((report.number_of("row"), report.number_of("column"), report.text_of("name")), (Some(0), None, None));
+    assert_eq!((report.number_of("column"), report.text_of("place"), report.text_of("name")), (Some(0), Some("flags"), None));
 }
 
 #[test]
@@ -220,11 +240,11 @@ fn a_cell_that_the_target_has_no_form_for_is_said_with_the_target() {
 #[test]
 fn broken_tags_are_said_with_what_should_stand_there() {
     let cases: [(&[u8], &str); 16] = [
-        (b"<tr>", "at the start of row 0: '<tr>' where <TR> should stand"),
-        (b"<TR/>", "at the start of row 0: '<TR/>' where <TR> should stand"),
-        (b"<TR", "at the start of row 0: '<TR' where <TR> should stand"),
-        (b" rows <TR>", "at the start of row 0: 'rows ' where <TR> should stand"),
-        (b"<TR><TD/><TD/><TD/></TR></DATA>", "at the start of row 1: '</DATA>' where <TR> should stand"),
+        (b"<tr>", "at row 0, column 0 (the start of the row): '<tr>' where <TR> should stand"),
+        (b"<TR/>", "at row 0, column 0 (the start of the row): '<TR/>' where <TR> should stand"),
+        (b"<TR", "at row 0, column 0 (the start of the row): '<TR' where <TR> should stand"),
+        (b" rows <TR>", "at row 0, column 0 (the start of the row): 'rows ' where <TR> should stand"),
+        (b"<TR><TD/><TD/><TD/></TR></DATA>", "at row 1, column 0 (the start of the row): '</DATA>' where <TR> should stand"),
         (b"<TR>", "at row 0, column 0 (sky): short, the input ends where <TD> should stand"),
         (b"<TR><TD>7</TD>\n</TR>", "at row 0, column 1 (note): char 4, '</TR>' where <TD> should stand"),
         (b"<TR><TD/>;<TD/>", "at row 0, column 1 (note): char 4, ';' where <TD> should stand"),
@@ -239,7 +259,7 @@ fn broken_tags_are_said_with_what_should_stand_there() {
     ];
     say(FIELDS, TEXT, 10, &cases);
     let report = of_rows(FIELDS, TEXT, b"<tr>");
-    assert_eq!((report.number_of("column"), report.text_of("name"), report.text_of("shown")), (None, None, Some("<tr>")));
+    assert_eq!((report.text_of("place"), report.text_of("name"), report.text_of("shown")), (Some("start"), None, Some("<tr>")));
 }
 
 #[test]
@@ -277,6 +297,7 @@ fn programs_are_told_the_facts_in_order() {
         text("meaning", meaning(11).expect("a meaning")),
         number("row", 1),
         number("column", 1),
+        text("place", "cell"),
         text("name", "note"),
         text("datatype", "char"),
         text("arraysize", "4"),
@@ -295,6 +316,7 @@ fn programs_are_told_the_facts_in_order() {
         text("meaning", meaning(11).expect("a meaning")),
         number("row", 0),
         number("column", 2),
+        text("place", "cell"),
         text("datatype", "boolean"),
         text("arraysize", "1"),
         text("shown", "5A"),
