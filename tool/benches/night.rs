@@ -69,19 +69,12 @@ fn best_of_both(mut one: impl FnMut(), mut other: impl FnMut()) -> (f64, f64) {
     (least, least_other)
 }
 
-fn name(rows: Rows) -> &'static str {
-    match rows {
-        Rows::TableData => "TABLEDATA",
-        Rows::Binary => "BINARY",
-        Rows::Binary2 => "BINARY2",
-    }
-}
-
 fn form(night: &Night, rows: Rows) -> &[u8] {
     match rows {
         Rows::TableData => &night.text,
         Rows::Binary => &night.binary,
         Rows::Binary2 => &night.binary2,
+        other => panic!("there is no night in {other}"),
     }
 }
 
@@ -90,6 +83,7 @@ fn plainly(rows: Rows) -> plain::Rows {
         Rows::TableData => plain::Rows::TableData,
         Rows::Binary => plain::Rows::Binary,
         Rows::Binary2 => plain::Rows::Binary2,
+        other => panic!("there is no night in {other}"),
     }
 }
 
@@ -102,7 +96,7 @@ fn nine_ways(night: &Night) {
             let (ours, plain) = convert_both(night, from, to);
             let (speed, plain_speed, ratio) = (size / ours, size / plain, plain / ours);
             let rows = night.rows as f64 / ours / 1e3;
-            println!("| {} | {} | {size:.1} | {speed:.0} | {plain_speed:.0} | {ratio:.2} | {rows:.0} |", name(from), name(to));
+            println!("| {} | {} | {size:.1} | {speed:.0} | {plain_speed:.0} | {ratio:.2} | {rows:.0} |", from.name(), to.name());
         }
     }
     println!();
@@ -121,8 +115,8 @@ fn convert_both(night: &Night, from: Rows, to: Rows) -> (f64, f64) {
             assert_eq!((rows, bytes), (night.rows, expected.len()));
         },
     );
-    assert!(out == expected, "Sailmortar from {} to {}", name(from), name(to));
-    assert!(plain_out == expected, "plain from {} to {}", name(from), name(to));
+    assert!(out == expected, "Sailmortar from {} to {}", from.name(), to.name());
+    assert!(plain_out == expected, "plain from {} to {}", from.name(), to.name());
     seconds
 }
 
@@ -190,7 +184,7 @@ fn growth(night: &Night, size: usize) {
             let mut out = vec![0xff; form(night, to).len()];
             let seconds = best(|| convert(night, from, to, &mut out));
             let each = seconds * 1e9 / bytes as f64;
-            println!("| {} | {} | {:.2} | {seconds:.4} | {each:.2} |", name(from), name(to), mega(bytes));
+            println!("| {} | {} | {:.2} | {seconds:.4} | {each:.2} |", from.name(), to.name(), mega(bytes));
         }
     }
     println!();
@@ -220,9 +214,9 @@ fn memory(night: &Night) -> String {
             (Some(before), Some(peak), true) => {
                 let lent = mega(form(night, from).len() + out.len());
                 let (held, highest, own) = (mega(before), mega(peak), mega(peak.saturating_sub(before)));
-                format!("| {} | {} | {lent:.1} | {held:.1} | {highest:.1} | {own:.2} |", name(from), name(to))
+                format!("| {} | {} | {lent:.1} | {held:.1} | {highest:.1} | {own:.2} |", from.name(), to.name())
             }
-            _ => format!("| {} | {} | not told by this system | | | |", name(from), name(to)),
+            _ => format!("| {} | {} | not told by this system | | | |", from.name(), to.name()),
         });
     }
     lines.join("\n")

@@ -1,5 +1,7 @@
 //! The functions of the proved archive, as they stand in include/sailmortar.h. Everything unsafe in the library is in this file.
 
+use std::mem::MaybeUninit;
+
 use crate::walk::Walk;
 use crate::{Done, Refused, Rows};
 
@@ -20,17 +22,17 @@ extern "C" {
     fn sailmortar_declare(decls: *const u8, decls_length: usize, answer: *mut [u64; 5]);
 }
 
-/// Room for an answer's bytes: a pointer and a length that a slice or a Vec has just given.
-type Room = (*mut u8, usize);
+/// Room that is lent for bytes to be written to. What it held before need not be anything.
+type Room = [MaybeUninit<u8>];
 
-fn room_of(out: &mut [u8]) -> Room {
-    (out.as_mut_ptr(), out.len())
+fn room_of(out: &mut [u8]) -> &mut Room {
+    // SAFETY: the two have one layout, and the proved functions put nothing but bytes there.
+    unsafe { &mut *(out as *mut [u8] as *mut Room) }
 }
 
 /// Calls with the room that a Vec has behind its elements, and counts what is written there among them.
-fn behind(out: &mut Vec<u8>, call: impl FnOnce(Room) -> Result<Done, Refused>) -> Result<Done, Refused> {
-    let spare = out.spare_capacity_mut();
-    let answer = call((spare.as_mut_ptr().cast(), spare.len()));
+fn behind(out: &mut Vec<u8>, call: impl FnOnce(&mut Room) -> Result<Done, Refused>) -> Result<Done, Refused> {
+    let answer = call(out.spare_capacity_mut());
     let written = answer.map_or_else(|refused| refused.bytes, |done| done.bytes);
     // SAFETY: the proved functions answer how many bytes they wrote from the start of the room, and that is no more than the room has.
     unsafe { out.set_len(out.len() + written as usize) };
@@ -45,27 +47,37 @@ fn outcome(answer: [u64; 5]) -> Result<Done, Refused> {
 }
 
 /// The answer has no number for the place where the rows done end: it is found by a walk over them.
-fn convert_in(decls: &[u8], from: Rows, to: Rows, input: &[u8], (out, length): Room) -> Result<Done, Refused> {
+fn convert_in(decls: &[u8], from: Rows, to: Rows, input: &[u8], out: &mut Room) -> Result<Done, Refused> {
     let (from_number, to_number) = (from.number(), to.number());
     let mut answer = [0; 5];
-    // SAFETY: each pointer and length is a slice's own or a room's, `out` and `answer` are lent to this call alone.
+    // SAFETY: each pointer and length is a slice's own, and `out` and `answer` are lent to this call alone.
     unsafe {
-        sailmortar_convert(decls.as_ptr(), decls.len(), from_number, to_number, input.as_ptr(), input.len(), out, length, &mut answer);
+        sailmortar_convert(
+            decls.as_ptr(),
+            decls.len(),
+            from_number,
+            to_number,
+            input.as_ptr(),
+            input.len(),
+            out.as_mut_ptr().cast(),
+            out.len(),
+            &mut answer,
+        );
     }
     outcome(answer).map_err(|refused| Refused { offset: Walk::offset(decls, from, input, refused.rows), ..refused })
 }
 
-fn decode_in(input: &[u8], (out, length): Room) -> Result<Done, Refused> {
+fn decode_in(input: &[u8], out: &mut Room) -> Result<Done, Refused> {
     let mut answer = [0; 5];
     // SAFETY: as in `convert_in`.
-    unsafe { sailmortar_base64_decode(input.as_ptr(), input.len(), out, length, &mut answer) };
+    unsafe { sailmortar_base64_decode(input.as_ptr(), input.len(), out.as_mut_ptr().cast(), out.len(), &mut answer) };
     outcome(answer)
 }
 
-fn encode_in(input: &[u8], (out, length): Room) -> Result<Done, Refused> {
+fn encode_in(input: &[u8], out: &mut Room) -> Result<Done, Refused> {
     let mut answer = [0; 5];
     // SAFETY: as in `convert_in`.
-    unsafe { sailmortar_base64_encode(input.as_ptr(), input.len(), out, length, &mut answer) };
+    unsafe { sailmortar_base64_encode(input.as_ptr(), input.len(), out.as_mut_ptr().cast(), out.len(), &mut answer) };
     outcome(answer)
 }
 

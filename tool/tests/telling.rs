@@ -209,6 +209,38 @@ fn bytes_go_to_a_terminal_only_where_they_are_asked_for_twice() {
     assert_eq!(at_a_terminal(&scratch, &format!("{convert} binary2 -o out")), Said::good(b""));
 }
 
+/// Types a line at a terminal and ends it; standard output and standard error are the same terminal.
+const TYPED: &str = "
+import os, pty, subprocess, sys, termios
+terminal, side = pty.openpty()
+mode = termios.tcgetattr(side)
+mode[3] &= ~termios.ECHO
+termios.tcsetattr(side, termios.TCSANOW, mode)
+run = subprocess.Popen(sys.argv[1:], stdin=side, stdout=side, stderr=side)
+said = os.read(terminal, 4096)
+os.write(terminal, b'fog\\n\\x04')
+run.wait()
+os.close(side)
+while True:
+    try:
+        more = os.read(terminal, 4096)
+    except OSError:
+        break
+    if not more:
+        break
+    said += more
+sys.stdout.buffer.write(said)
+";
+
+#[test]
+fn someone_who_types_is_told_that_the_command_waits() {
+    let scratch = Scratch::new("typed");
+    let mut python = Command::new("python3");
+    python.args(["-c", TYPED, PROGRAM, "base64", "encode"]).current_dir(&scratch.0);
+    let said = String::from_utf8(python.output().expect("python3 runs").stdout).expect("text");
+    assert_eq!(said, "sailmortar: reading what is typed here; Ctrl-D at the start of a line ends it\r\nZm9nCg==");
+}
+
 /// Feeds some bytes, waits for more than a second, and feeds the rest; standard error is a terminal.
 const SLOWLY: &str = "
 import os, pty, subprocess, sys, time

@@ -3,7 +3,7 @@
 use std::ffi::{OsStr, OsString};
 use std::fmt;
 use std::fs::{File, Metadata};
-use std::io::{self, ErrorKind, Read, Seek};
+use std::io::{self, ErrorKind, IsTerminal, Read, Seek, Write};
 use std::os::fd::AsFd;
 use std::os::unix::fs::MetadataExt;
 
@@ -72,7 +72,18 @@ impl Input {
             Place::Standard => check_open(Standard::Input).and_then(|()| io::stdin().as_fd().try_clone_to_owned()).map(File::from),
             Place::Named(path) => File::open(path),
         };
-        Ok(Input { file: file.map_err(Trouble::with(name))?, name: name.to_owned() })
+        let input = Input { file: file.map_err(Trouble::with(name))?, name: name.to_owned() };
+        if *place == Place::Standard {
+            input.say_if_someone_types();
+        }
+        Ok(input)
+    }
+
+    /// Someone who forgot to name INPUT sees a command that does nothing.
+    fn say_if_someone_types(&self) {
+        if self.file.is_terminal() && io::stderr().is_terminal() {
+            let _ = writeln!(io::stderr(), "sailmortar: reading what is typed here; Ctrl-D at the start of a line ends it");
+        }
     }
 
     /// Which file it is, if it is a plain file.
