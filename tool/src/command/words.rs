@@ -171,11 +171,11 @@ fn in_declarations(number: u64) -> &'static str {
 The fields file has FIELD elements with only white space around them, such as
   <FIELD name=\"sky\" datatype=\"short\"/>
   <FIELD name=\"sky\" datatype=\"short\"><VALUES null=\"-99\"/></FIELD>
-Look at the element after the whole FIELDs that the message counts: a missing
-datatype, an attribute without quotes or without white space before it,
-datatype or arraysize twice, a missing </FIELD> or />, a comment, a
-DESCRIPTION or a second VALUES inside the FIELD, or another element (PARAM,
-GROUP, TABLE) among the FIELDs."
+Look at the element that the message shows, and its line: a missing datatype,
+an attribute without quotes or without white space before it, datatype or
+arraysize twice, a missing </FIELD> or />, a comment, a DESCRIPTION or a second
+VALUES inside the FIELD, or another element (PARAM, GROUP, TABLE) among the
+FIELDs. 'sailmortar columns FILE' shows what was understood once it is good."
         }
         2 => {
             "\
@@ -253,7 +253,7 @@ for BINARY2. Counts are of elements, not bytes, the highest byte first."
             "\
 A bit column whose length is no multiple of 8, or the flags at the start of a
 BINARY2 row, ends in spare bits, and they must be 0: nine bits FF 80 are good,
-FF 81 are not. At column 0 it may be the flags: was BINARY taken for BINARY2,
+FF 81 are not. Where the message names the flags: was BINARY taken for BINARY2,
 or are there other columns than the fields say?"
         }
     }
