@@ -10,13 +10,14 @@ from typing import Dict, List, Optional
 ROOT = pathlib.Path(__file__).resolve().parent.parent
 MODULE = ROOT / "python" / "sailmortar.py"
 LIBRARY = ROOT / "target" / "library" / "libsailmortar.so.0"
+STAMP = LIBRARY.with_name("stamp")  # The last thing that a build writes, and the first that it removes.
 TAG = "py3-none-linux_x86_64"  # Any Python 3: the library knows nothing of Python.
 
 
 def build_wheel(wheel_directory: str, config_settings: Optional[dict] = None, metadata_directory: Optional[str] = None) -> str:
     """Writes the wheel into a folder and returns its name."""
-    if not LIBRARY.exists():
-        raise SystemExit(f"{LIBRARY} is not there: run 'cargo build' in {ROOT} first, which makes it; then 'pip install .' again.")
+    if not (LIBRARY.exists() and STAMP.exists()):
+        raise SystemExit(f"{LIBRARY} is not there, or not whole: run 'cargo build' in {ROOT} first, which makes it; then 'pip install .' again.")
     said = project()
     stem = f"{said['name']}-{said['version']}"
     files = {MODULE.name: MODULE.read_bytes(), LIBRARY.name: LIBRARY.read_bytes(), **information(f"{stem}.dist-info", said)}

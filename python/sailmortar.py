@@ -58,10 +58,10 @@ class Rows(enum.IntEnum):
         """The kind itself, or the one of this name in any capitals."""
         if isinstance(kind, Rows):
             return kind
-        try:
+        # Other alphabets have letters whose capitals are these.
+        if isinstance(kind, str) and kind.isascii() and kind.upper() in cls.__members__:
             return cls[kind.upper()]
-        except (AttributeError, KeyError):
-            raise ValueError(f"{kind!r} is no kind of rows: give tabledata, binary or binary2") from None
+        raise ValueError(f"{kind!r} is no kind of rows: give tabledata, binary or binary2")
 
 
 class Column(NamedTuple):
@@ -132,7 +132,8 @@ class Refused(ValueError):
         self.output = output
         """The rows before the refused one, converted."""
         self.offset = offset
-        """The byte of the input where the refused row begins, which is where the row before it ends; 0 where no row was read (1 to 7)."""
+        """The byte of the input where the refused row begins, which is where the row before it ends; 0 where no row was read (1 to 7). It is
+        found by a walk over the rows before, which takes a second for some millions of rows."""
         self.name = name
         """The name of the refused column, where it has one and a cell of it is refused: no flags, and no start or end of a row."""
         super().__init__(self._words())
@@ -152,7 +153,7 @@ class Refused(ValueError):
 
     def _title(self) -> str:
         # Names come from other people's files: what a terminal would act on is spelt out, and the line is kept short.
-        if self.name is None:
+        if not self.name:
             return ""
         shown = repr(self.name)[1:-1]
         return f" ({shown[:60]}..)" if len(shown) > 60 else f" ({shown})"
@@ -162,7 +163,7 @@ def convert(fields: Buffer, source: Union[Rows, str], target: Union[Rows, str], 
     """Rows of the kind `source`, converted to rows of the kind `target`.
 
     `fields` is the text of the FIELD elements, `rows` the rows without the tags around them, base64 already decoded. A refusal is raised as
-    Refused, with the rows before the bad one in its `output`. Where memory runs out it is a MemoryError.
+    Refused, with the rows before the bad one in its `output`. Where the system has no memory for the output it is a MemoryError.
     """
     kinds = Rows.named(source), Rows.named(target)
     with _view("fields", fields) as text, _view("rows", rows) as given:
@@ -280,8 +281,9 @@ def _address(view: memoryview) -> Optional[int]:
 _Five = ctypes.c_uint64 * 5
 _Call = Callable[[Optional[int], int, object], None]
 
-# Room takes no memory before it is written to, and is not even promised: far more of it can be had than there is memory.
-_UNPROMISED = mmap.MAP_PRIVATE | mmap.MAP_ANONYMOUS | getattr(mmap, "MAP_NORESERVE", 0x4000)
+# Room takes no memory before it is written to. The system gives as much as it has memory, and not as much as a call could take at worst:
+# better a MemoryError than a process that is killed while it writes.
+_FRESH = mmap.MAP_PRIVATE | mmap.MAP_ANONYMOUS
 
 
 def _answered(call: _Call, less: int, enough: int) -> Tuple[Answer, bytes]:
@@ -310,7 +312,7 @@ def _called(call: _Call, room: int) -> Tuple[Answer, bytes]:
 
 def _mapping(room: int) -> mmap.mmap:
     try:
-        return mmap.mmap(-1, max(room, 1), flags=_UNPROMISED)
+        return mmap.mmap(-1, max(room, 1), flags=_FRESH)
     except OSError as cause:
         raise MemoryError(f"the system gives no {room} bytes for the output: {cause}") from cause
 
@@ -456,8 +458,11 @@ def _reaches_cells(number: int, declared: List[Column], source: Rows, given: mem
     spare bits (13)."""
     if source is Rows.TABLEDATA:
         return number != 10 or _ROW_START.match(given, offset) is not None
-    flags = bytes(given[offset : offset + _around(source, declared)])
-    return len(flags) == _around(source, declared) and not int.from_bytes(flags, "big") & ((1 << -len(declared) % 8) - 1 if flags else 0)
+    length = _around(source, declared)
+    if given.nbytes < offset + length:
+        return False
+    (flags,) = struct.unpack_from(f"{length}s", given, offset)
+    return not int.from_bytes(flags, "big") & ((1 << -len(declared) % 8) - 1 if flags else 0)
 
 
 def _end_of_rows(declared: List[Column], source: Rows, given: memoryview, rows: int) -> int:

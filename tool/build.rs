@@ -71,8 +71,12 @@ fn name_of_toolchain(root: &Path) -> String {
 }
 
 /// Builds of two profiles may run at once, and make the same files. The system opens the lock when this process ends, however it ends.
-fn lock(place: &Path) -> File {
-    let file = done(File::create(place), "opened", place);
+/// Where nothing can be written there is nothing to lock, and what stands there may do.
+fn lock(place: &Path) -> Option<File> {
+    let file = match File::create(place) {
+        Err(cause) if matches!(cause.kind(), io::ErrorKind::ReadOnlyFilesystem | io::ErrorKind::PermissionDenied) => return None,
+        opened => done(opened, "opened", place),
+    };
     match file.try_lock() {
         Ok(()) => {}
         Err(TryLockError::WouldBlock) => {
@@ -81,7 +85,7 @@ fn lock(place: &Path) -> File {
         }
         Err(TryLockError::Error(cause)) => done(Err(cause), "locked", place),
     }
-    file
+    Some(file)
 }
 
 /// The sources as they stand: a fingerprint over every path and content and the toolchain's name, and when the newest was changed.

@@ -107,7 +107,7 @@ class Arguments(unittest.TestCase):
         mapping.close()
 
     def test_a_wrong_kind_of_rows_is_a_value_error(self):
-        for wrong, turn in itertools.product(("fits", "", 3, 0, True, None, b"binary"), (1, -1)):
+        for wrong, turn in itertools.product(("fits", "", 3, 0, True, None, b"binary", bytearray(b"binary"), "B\u0131nary", ["binary"]), (1, -1)):
             with self.assertRaisesRegex(ValueError, "is no kind of rows: give tabledata, binary or binary2") as caught:
                 sailmortar.convert(SHORT, *(wrong, "binary")[::turn], ROWS)
             self.assertNotIsInstance(caught.exception, sailmortar.Refused)

@@ -1,5 +1,6 @@
 """Refusals: their words, where the refused row begins, the column's name, and that they go wherever a program sends them."""
 
+import array
 import concurrent.futures
 import copy
 import pickle
@@ -71,12 +72,19 @@ class Words(unittest.TestCase):
         for fields, source, rows, number, name in cases:
             refused = refusal(sailmortar.convert, fields, source, "binary2", rows)
             self.assertEqual((refused.number, refused.column, refused.name), (number, 0, name), (source, rows))
+            # What counts is the bytes, whatever items they are the bytes of.
+            if len(rows) % 2 == 0:
+                for other in (array.array("H", rows), memoryview(rows).cast("B", (2, len(rows) // 2))):
+                    again = refusal(sailmortar.convert, fields, source, "binary2", other)
+                    self.assertEqual((again.answer, again.offset, again.name), (refused.answer, refused.offset, name), (source, rows))
 
     def test_a_name_does_nothing_to_a_terminal_and_keeps_the_line_short(self):
-        for name, shown in [("\x1b[2J", r"\x1b[2J"), ("é", "é"), ("n" * 60, "n" * 60), ("n" * 61, "n" * 60 + ".."), ("", "")]:
+        for name, shown in [("\x1b[2J", r"\x1b[2J"), ("é", "é"), ("n" * 60, "n" * 60), ("n" * 61, "n" * 60 + "..")]:
             refused = refusal(sailmortar.convert, f"<FIELD name='{name}' datatype='bit'/>".encode(), "binary", "binary2", b"\1")
             self.assertEqual(refused.name, name)
             self.assertIn(f"column 0 ({shown}): ", str(refused))
+        refused = refusal(sailmortar.convert, b"<FIELD name='' datatype='bit'/>", "binary", "binary2", b"\1")
+        self.assertEqual((refused.name, str(refused)), ("", "refusal 13 at row 0, column 0: a padding bit that is 1"))
 
     def test_a_number_that_is_not_known_has_words_of_its_own(self):
         for number in (18, 99, 254):

@@ -132,10 +132,11 @@ impl fmt::Display for Error {
 }
 
 impl std::error::Error for Error {
+    /// What is shown is the refusal, or the system's error, itself: its source is that one's own.
     fn source(&self) -> Option<&(dyn std::error::Error + 'static)> {
         match self {
-            Error::Refused(refused) => Some(refused),
-            Error::System(cause) => Some(cause),
+            Error::Refused(refused) => refused.source(),
+            Error::System(cause) => cause.source(),
         }
     }
 }

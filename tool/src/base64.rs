@@ -21,6 +21,8 @@ pub fn base64_encode_to_vec(input: &[u8], out: &mut Vec<u8>) -> Result<Done, Err
 const HELD: usize = 3 << 14;
 
 /// A writer that encodes what is written to it and hands the letters to another. Its memory does not grow, and its output has no bound.
+///
+/// Once the other has failed, letters may be missing, and every later call fails too.
 #[derive(Debug)]
 pub struct Base64Writer<W: Write> {
     inner: W,
@@ -30,6 +32,7 @@ pub struct Base64Writer<W: Write> {
     held: Vec<u8>,
     letters: Vec<u8>,
     lines: Vec<u8>,
+    failed: bool,
 }
 
 impl<W: Write> Base64Writer<W> {
@@ -41,11 +44,12 @@ impl<W: Write> Base64Writer<W> {
         if wrap > 0 {
             lines.try_reserve_exact(HELD / 3 * 8)?;
         }
-        Ok(Base64Writer { inner, wrap, line: 0, held, letters, lines })
+        Ok(Base64Writer { inner, wrap, line: 0, held, letters, lines, failed: false })
     }
 
     /// The last letters, and the end of the last line. A writer that is dropped without this has not written them.
     pub fn finish(mut self) -> io::Result<W> {
+        self.check()?;
         self.hand_on()?;
         if self.line > 0 {
             self.inner.write_all(b"\n")?;
@@ -58,11 +62,24 @@ impl<W: Write> Base64Writer<W> {
         self.letters.clear();
         encode_behind(&self.held, &mut self.letters).map_err(io::Error::other)?;
         self.held.clear();
-        if self.wrap == 0 {
-            return self.inner.write_all(&self.letters);
+        // Taken back if all goes well: how much of a broken write has arrived no one knows.
+        self.failed = true;
+        match self.wrap {
+            0 => self.inner.write_all(&self.letters)?,
+            _ => {
+                self.break_lines();
+                self.inner.write_all(&self.lines)?;
+            }
         }
-        self.break_lines();
-        self.inner.write_all(&self.lines)
+        self.failed = false;
+        Ok(())
+    }
+
+    fn check(&self) -> io::Result<()> {
+        match self.failed {
+            true => Err(io::Error::other("an earlier write failed, and letters may be missing")),
+            false => Ok(()),
+        }
     }
 
     fn break_lines(&mut self) {
@@ -83,6 +100,7 @@ impl<W: Write> Base64Writer<W> {
 
 impl<W: Write> Write for Base64Writer<W> {
     fn write(&mut self, bytes: &[u8]) -> io::Result<usize> {
+        self.check()?;
         let taken = &bytes[..bytes.len().min(HELD - self.held.len())];
         self.held.extend_from_slice(taken);
         if self.held.len() == HELD {

@@ -225,13 +225,24 @@ fn a_relative_prefix_is_made_absolute() {
     assert!(file.contains(&format!("\nprefix={}\n", path(&prefix))), "{file}");
 }
 
+/// The folder's name has letters that a shell would take for its own.
 #[test]
 fn it_says_what_to_add_to_the_environment() {
-    let prefix = scratch("environment");
-    let said = said(&mut install(&[path(&prefix)]));
-    for (name, place) in [("PATH", "bin"), ("MANPATH", "share/man"), ("LD_LIBRARY_PATH", "lib"), ("PKG_CONFIG_PATH", "lib/pkgconfig")] {
-        assert!(said.contains(&format!("  export {name}=\"{}/{place}", path(&prefix))), "{name}: {said}");
+    let prefix = scratch("an $HOME of 'its' own");
+    let lines = said(&mut install(&[path(&prefix)]));
+    let exports: Vec<&str> = lines.lines().filter(|line| line.starts_with("  export ")).collect();
+    let ask = "command -v sailmortar; echo \"$MANPATH\"; echo \"$LD_LIBRARY_PATH\"; echo \"$PKG_CONFIG_PATH\"; echo \"$PYTHONPATH\"";
+    let mut shell = Command::new("sh");
+    shell.args(["-c", &format!("{}\n{ask}", exports.join("\n"))]);
+    for name in ["MANPATH", "LD_LIBRARY_PATH", "PKG_CONFIG_PATH", "PYTHONPATH"] {
+        shell.env_remove(name);
     }
+    let answers = said(&mut shell);
+    let places = ["/bin/sailmortar\n", "/share/man:\n", "/lib\n", "/lib/pkgconfig\n"];
+    let expected: String = places.map(|place| format!("{}{place}", path(&prefix))).concat();
+    assert!(answers.starts_with(&expected), "{lines}\n{answers}");
+    let module = answers.strip_prefix(&expected).unwrap_or_default().trim_end();
+    assert!(!is_here("python3") || Path::new(module).join("sailmortar.py").exists(), "{lines}\n{answers}");
 }
 
 fn ends(words: &[&str]) -> (Option<i32>, String, String) {

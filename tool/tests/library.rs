@@ -555,3 +555,50 @@ fn a_reader_or_a_writer_that_fails_is_told_from_a_refusal() {
     assert_eq!(kind(convert_stream(FIELDS, Rows::Binary, Rows::Binary2, BINARY, Broken)), io::ErrorKind::StorageFull);
     assert_eq!(kind(base64_encode_stream(BINARY, Broken, 76)), io::ErrorKind::StorageFull);
 }
+
+/// Takes so many bytes, fails once, and takes everything from then on.
+struct Stumbling {
+    taken: Vec<u8>,
+    good: usize,
+    failed: bool,
+}
+
+impl Write for Stumbling {
+    fn write(&mut self, bytes: &[u8]) -> io::Result<usize> {
+        let room = if self.failed { bytes.len() } else { bytes.len().min(self.good - self.taken.len()) };
+        if room == 0 {
+            self.failed = true;
+            return Err(io::ErrorKind::WouldBlock.into());
+        }
+        self.taken.extend_from_slice(&bytes[..room]);
+        Ok(room)
+    }
+
+    fn flush(&mut self) -> io::Result<()> {
+        Ok(())
+    }
+}
+
+#[test]
+fn base64_whose_writer_has_failed_once_does_not_end_well() {
+    for wrap in [0, 76] {
+        for good in [0, 500, 70_000] {
+            let mut letters = Base64Writer::new(Stumbling { taken: vec![], good, failed: false }, wrap).expect("memory");
+            let written = (0..200).try_for_each(|_| letters.write_all(&[7; 1000]));
+            assert_eq!(written.map_err(|cause| cause.kind()), Err(io::ErrorKind::WouldBlock), "{good}");
+            assert!(letters.write(&[7]).is_err() && letters.finish().is_err(), "{good}");
+        }
+    }
+}
+
+#[test]
+fn an_error_is_shown_once() {
+    let mut said = Vec::new();
+    let error = convert_to_vec(FIELDS, Rows::Binary, Rows::Binary2, b"cut", &mut Vec::new()).expect_err("it is cut");
+    let mut next: Option<&dyn std::error::Error> = Some(&error);
+    while let Some(error) = next {
+        said.push(error.to_string());
+        next = error.source();
+    }
+    assert_eq!(said, ["refusal 8 at row 0, column 1: the BINARY or BINARY2 stream ends inside a row"]);
+}

@@ -234,7 +234,13 @@ fn pip_says_what_to_do_where_the_library_is_not_built() {
     for file in ["make_wheel.py", "sailmortar.py"] {
         copy(&module_folder().join(file), &source.join("python"));
     }
-    let output = pip_install(&source, &scratch("not_installed"));
-    let said = text(&output.stdout) + &text(&output.stderr);
-    assert!(!output.status.success() && said.contains("run 'cargo build'"), "{said}");
+    let assert_refused = || {
+        let output = pip_install(&source, &scratch("not_installed"));
+        let said = text(&output.stdout) + &text(&output.stderr);
+        assert!(!output.status.success() && said.contains("run 'cargo build'"), "{said}");
+    };
+    assert_refused();
+    // A build that was broken off leaves what was made before, and no stamp over it.
+    copy(&library(), &source.join("target/library"));
+    assert_refused();
 }
