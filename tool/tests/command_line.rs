@@ -54,6 +54,8 @@ fn options_in_every_spelling() {
         assert_eq!(scratch.run(words), Said::good(BINARY2), "{words}");
     }
     let outputs = ["-o out", "-oout", "--output out", "--output=out", "-o ./out"];
+    assert_eq!(scratch.run("convert -vo out --fields fields --from tabledata --to binary2 night.tabledata").status, 0);
+    assert_eq!(scratch.get("out"), BINARY2, "letters of several options stand together");
     for output in outputs {
         let words = format!("convert {output} --fields fields --from tabledata --to binary2 night.tabledata");
         assert_eq!(scratch.run(&words), Said::good(b""), "{words}");
@@ -95,7 +97,9 @@ fn wrong_usage_is_said_in_a_line() {
         (format!("{all} --wrap 76"), "--wrap is for base64: give --base64-out as well"),
         (format!("{all} --base64-out --wrap 7x"), "--wrap takes a number of letters, not '7x'"),
         (format!("{all} --base64-out --wrap +7"), "--wrap takes a number of letters, not '+7'"),
-        (format!("{all} -vv"), "--verbose takes no value"),
+        (format!("{all} -vv"), "--verbose is given twice"),
+        (format!("{all} -vx"), "unknown option '-vx' for convert"),
+        (format!("{all} --verbose=yes"), "--verbose takes no value"),
         (format!("{all} --rest -"), "the rows and the rest cannot both go to standard output"),
         (format!("{all} night.binary --rest night.binary"), "--rest wants a file of its own, and night.binary has another use"),
         (format!("{all} night.binary --rest fields"), "--rest wants a file of its own, and fields has another use"),

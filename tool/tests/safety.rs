@@ -4,7 +4,7 @@ mod shell;
 
 use std::fs::{self, File};
 use std::io::Write;
-use std::os::unix::fs::{symlink, FileTypeExt, PermissionsExt};
+use std::os::unix::fs::{symlink, FileTypeExt, MetadataExt, PermissionsExt};
 use std::os::unix::process::ExitStatusExt;
 use std::process::{Child, Command, Stdio};
 use std::thread;
@@ -107,6 +107,24 @@ fn an_input_that_is_also_standard_output_is_not_written_over() {
 }
 
 #[test]
+fn a_night_that_is_replaced_by_nothing_is_said() {
+    let scratch = Scratch::new("emptied");
+    let words = "convert --fields fields --from binary --to tabledata -o out";
+    assert_eq!(scratch.run_with(words, b""), Said::good(b""), "there was nothing to replace");
+    scratch.put("out", b"yesterday");
+    let line = "sailmortar: standard input: 0 rows, 0 bytes read, 0 bytes written to out\n";
+    assert_eq!(scratch.run_with(words, b""), Said { status: 0, out: vec![], err: line.to_string() });
+    assert_eq!(scratch.get("out"), b"", "a table without rows is a table");
+    // What the fields have read of a pipe the rows cannot have.
+    scratch.put("out", b"yesterday");
+    for fields in ["/dev/stdin", "/dev/fd/0", "/proc/self/fd/0"] {
+        let said = scratch.run_with(&format!("convert --fields {fields} --from binary --to tabledata -o out"), FIELDS.as_bytes());
+        assert_eq!((said.status, scratch.get("out")), (2, b"yesterday".to_vec()), "{}", said.err);
+        assert!(said.err.contains("cannot both come from one pipe or terminal"), "{}", said.err);
+    }
+}
+
+#[test]
 fn refused_before_the_first_row_nothing_is_made() {
     let scratch = Scratch::new("no_row");
     let before = scratch.names();
@@ -136,6 +154,10 @@ fn what_descriptors_hold_is_written_on_and_not_replaced() {
     }
     let words = "\"$PROGRAM\" convert --fields fields --from binary --to tabledata night.binary -o /dev/stderr";
     let said = scratch.shell(&format!("{{ echo before >&2; {words}; echo after >&2; }} 2> all"));
+    assert_eq!((Said::of(said), scratch.get("all")), (Said::good(b""), [b"before\n", TABLEDATA, b"after\n"].concat()));
+    // Any descriptor, where it stands in its file.
+    let words = "\"$PROGRAM\" convert --fields fields --from binary --to tabledata night.binary -o /dev/fd/3";
+    let said = scratch.shell(&format!("{{ echo before >&3; {words}; echo after >&3; }} 3> all"));
     assert_eq!((Said::of(said), scratch.get("all")), (Said::good(b""), [b"before\n", TABLEDATA, b"after\n"].concat()));
     // The name of the file itself is no other.
     let said =
@@ -176,6 +198,13 @@ fn closed_descriptors_are_said() {
         ("\"$PROGRAM\" base64 encode night.binary >&-".to_string(), closed_output),
         (format!("{convert} <&-"), closed_input),
         (format!("{convert} -o out <&-"), closed_input),
+        (format!("{convert} /dev/stdin -o out <&-"), "/dev/stdin: it is closed"),
+        (format!("{convert} /proc/self/fd/0 -o out <&-"), "/proc/self/fd/0: it is closed"),
+        (format!("{convert} night.binary -o /dev/stdout >&-"), "/dev/stdout: it is closed"),
+        (format!("{convert} night.binary -o /dev/fd/1 >&-"), "/dev/fd/1: it is closed"),
+        (format!("{convert} night.binary -o out --rest /dev/stdout >&-"), "/dev/stdout: it is closed"),
+        ("\"$PROGRAM\" check --from binary --fields /dev/stdin night.binary <&-".to_string(), "/dev/stdin: it is closed"),
+        (format!("{convert} night.binary -o /dev/fd/7 7>&-"), "/dev/fd/7: Bad file descriptor"),
         ("\"$PROGRAM\" base64 decode <&-".to_string(), closed_input),
         ("\"$PROGRAM\" columns - <&-".to_string(), closed_input),
     ];
@@ -276,7 +305,7 @@ const TO_OUT: &str = "convert --fields fields --from binary --to tabledata -o ou
 #[test]
 fn a_signal_ends_the_run_and_leaves_nothing() {
     let scratch = Scratch::new("signals");
-    for (signal, number) in [("INT", 2), ("TERM", 15), ("HUP", 1)] {
+    for (signal, number) in [("INT", 2), ("TERM", 15), ("HUP", 1), ("QUIT", 3), ("USR1", 10), ("USR2", 12), ("ALRM", 14), ("XCPU", 24)] {
         scratch.put("out", b"yesterday");
         let before = scratch.names();
         let mut child = waiting(&scratch, scratch.command(&format!("{TO_OUT} --rest rest")));
@@ -364,6 +393,17 @@ fn the_rest_is_everything_from_the_refused_row_on() {
         scratch.run(&format!("convert {words} --rest rest"));
         assert_eq!((scratch.has("new"), scratch.get("rest")), (false, b"\n <TR><TD>x</TD></TR>".to_vec()));
     }
+    // The name that good rows would get is no longer free where the rest has it.
+    scratch.put("n", cut);
+    let said = scratch.run("convert --fields fields --from binary2 --to tabledata n -o n --rest n.rows");
+    let stands = "sailmortar: the 1 row before it is written to n.rows.1, and n is left as it was; everything from row 1 on is in n.rows";
+    assert_eq!((said.status, what_stands(&said)), (1, stands));
+    assert_eq!((scratch.get("n"), scratch.get("n.rows.1"), scratch.get("n.rows")), (cut.to_vec(), FIRST_ROW.to_vec(), cut[8..].to_vec()));
+    // Into one pipe they would be mixed.
+    for words in ["--rest /dev/stdout", "-o /dev/stdout --rest -", "-o /dev/fd/1 --rest /dev/stdout"] {
+        let said = scratch.run(&format!("convert --fields fields --from binary2 --to tabledata cut {words}"));
+        assert_eq!((said.status, said.out.len()), (2, 0), "{words}: {}", said.err);
+    }
     scratch.put("base64", b"AAAHYSZiAFSgAABkdXNr");
     let said = scratch.run("convert --fields fields --from binary2 --base64-in --to tabledata base64 -o out --rest -");
     assert_eq!((said.status, &said.out[..]), (1, &BINARY2[8..15]), "of the decoded stream");
@@ -375,10 +415,12 @@ fn a_disk_that_is_full_leaves_the_output_as_it_was() {
     scratch.put("byte", b"<FIELD datatype='unsignedByte'/>");
     scratch.put("long", &[1; 1 << 20]);
     scratch.put("out", b"yesterday");
-    // A file may have 8 blocks of 512 bytes here, and the signal about it is ignored, so that writing fails as on a full disk.
-    let script = format!("trap '' XFSZ; ulimit -f 8; exec {PROGRAM} convert --fields byte --from binary --to tabledata long -o out");
-    let output = Command::new("sh").args(["-c", &script]).current_dir(&scratch.0).output().expect("sh runs");
-    assert_eq!(Said::of(output), Said::trouble("out: File too large"));
+    // A file may have 8 blocks of 512 bytes here, and the signal about it does not end the run.
+    for trap in ["", "trap '' XFSZ;"] {
+        let output =
+            scratch.shell(&format!("{trap} ulimit -f 8; exec \"$PROGRAM\" convert --fields byte --from binary --to tabledata long -o out"));
+        assert_eq!(Said::of(output), Said::trouble("out: File too large"));
+    }
     assert_eq!((scratch.get("out"), scratch.parts()), (b"yesterday".to_vec(), vec![]));
 }
 
@@ -415,4 +457,66 @@ fn a_pipe_with_a_name_is_written_to_as_it_is() {
     assert_eq!(scratch.run("convert --fields fields --from binary --to tabledata night.binary -o pipe"), Said::good(b""));
     assert_eq!(reader.join().expect("the reader ends"), TABLEDATA);
     assert!(fs::metadata(scratch.path("pipe")).expect("it is there").file_type().is_fifo());
+}
+
+#[test]
+fn a_rest_that_cannot_be_kept_is_said_beside_the_refusal() {
+    let scratch = Scratch::new("rest_trouble");
+    scratch.put("cut", &BINARY2[..13]);
+    scratch.put("out", b"yesterday");
+    let said = scratch.run("convert --fields fields --from binary2 --to tabledata cut -o out --rest /dev/full");
+    assert_eq!((said.status, scratch.get("out"), scratch.parts()), (3, b"yesterday".to_vec(), vec![]));
+    assert!(said.err.contains("refusal 8 at row 1, column 1 (note)"), "{}", said.err);
+    assert_eq!(what_stands(&said), "sailmortar: what stands before it could not be kept: /dev/full: No space left on device");
+}
+
+#[test]
+fn what_is_no_name_for_a_file_makes_none() {
+    let scratch = Scratch::new("no_name");
+    symlink("nope/", scratch.path("link")).expect("a link");
+    let before = scratch.names();
+    for output in ["new/.", "new/..", "new/", "link"] {
+        let said = scratch.run(&format!("convert --fields fields --from binary --to tabledata night.binary -o {output}"));
+        assert_eq!((said.status, scratch.names()), (3, before.clone()), "{output}: {}", said.err);
+    }
+    let run = |words: &[&str]| Said::of(Command::new(PROGRAM).args(words).current_dir(&scratch.0).output().expect("it runs"));
+    let said = run(&["convert", "--fields", "fields", "--from", "binary", "--to", "tabledata", ""]);
+    assert_eq!((said.status, said.err.lines().next()), (2, Some("sailmortar: INPUT has no name; '-' is standard input")));
+}
+
+#[test]
+fn a_file_that_is_replaced_keeps_its_owner_where_that_is_allowed() {
+    let scratch = Scratch::new("owner");
+    scratch.put("out", b"yesterday");
+    if std::os::unix::fs::chown(scratch.path("out"), Some(1234), Some(1235)).is_err() {
+        eprintln!("only root may give files away: not run");
+        return;
+    }
+    fs::set_permissions(scratch.path("out"), fs::Permissions::from_mode(0o640)).expect("it is ours");
+    assert_eq!(scratch.run("convert --fields fields --from binary --to tabledata night.binary -o out"), Said::good(b""));
+    let metadata = fs::metadata(scratch.path("out")).expect("it is there");
+    assert_eq!((metadata.uid(), metadata.gid(), metadata.mode() & 0o7777), (1234, 1235, 0o640));
+}
+
+#[test]
+fn a_signal_ends_the_first_process_of_a_container_too() {
+    let scratch = Scratch::new("first_process");
+    let unshared = Command::new("unshare").args(["-pf", "true"]).output();
+    if !unshared.is_ok_and(|output| output.status.success()) {
+        eprintln!("no namespaces can be made here: not run");
+        return;
+    }
+    scratch.put("out", b"yesterday");
+    let mut command = Command::new("unshare");
+    command.args(["-pf", "--kill-child", PROGRAM]).args(TO_OUT.split_whitespace());
+    let mut child = waiting(&scratch, command);
+    // The process that has the number 1 inside is the child of the one that was started.
+    let sent = Command::new("pkill").args(["-TERM", "-P", &child.id().to_string()]).status().expect("pkill runs");
+    assert!(sent.success());
+    let waited = Instant::now();
+    while child.try_wait().expect("it can be asked").is_none() {
+        assert!(waited.elapsed() < Duration::from_secs(60), "it ends");
+        thread::sleep(Duration::from_millis(5));
+    }
+    assert_eq!((scratch.parts(), scratch.get("out")), (vec![], b"yesterday".to_vec()));
 }

@@ -22,7 +22,7 @@ fn check_counts_rows_bytes_and_columns_and_writes_nothing() {
     assert_eq!(scratch.run_with("check --fields byte --from binary -", b"x"), Said::good(b"standard input: 1 row, 1 byte, 1 column\n"));
     assert_eq!(
         scratch.run_with("check --fields byte --from binary --base64-in", b"AAEC"),
-        Said::good(b"standard input: 3 rows, 3 bytes, 1 column\n")
+        Said::good(b"standard input: 3 rows, 4 bytes, 1 column\n")
     );
     std::fs::remove_file(scratch.path("byte")).expect("it was put");
     assert_eq!(scratch.names(), before);
@@ -72,6 +72,11 @@ fn columns_says_what_the_declarations_were_understood_as() {
         {\"place\":2,\"name\":\"a\\u001b[2J\\u00e9\\\"\",\"datatype\":\"bit\",\"arraysize\":\"*\"}\n\
         {\"place\":3,\"name\":\"pair\",\"datatype\":\"int\",\"arraysize\":\"2\"}\n";
     assert_eq!(scratch.run("columns --json odd"), Said::good(objects.as_bytes()));
+    // The longest name that declarations have room for, none of whose letters is shown as it is.
+    let name = "\x01".repeat(65_000);
+    scratch.put("long", format!("<FIELD datatype='int' name='{name}'/>").as_bytes());
+    let said = scratch.run("columns long");
+    assert!(said.status == 0 && said.out.ends_with(format!("-     {}\n", "\\u{1}".repeat(65_000)).as_bytes()), "{}", said.err);
     let said = scratch.run("columns night.binary");
     assert!(said.status == 1 && said.out.is_empty() && said.err.contains("refusal 1"), "{}", said.err);
 }
@@ -84,8 +89,14 @@ fn success_is_told_where_it_is_asked_for() {
         let said = scratch.run(&format!("convert {verbose} --fields fields --from tabledata --to binary2 night.tabledata -o out"));
         assert_eq!(said, told("night.tabledata: 2 rows, 79 bytes read, 16 bytes written to out"));
     }
-    assert_eq!(scratch.run("base64 encode -v out -o letters"), told("out: 16 bytes encoded to letters"));
-    assert_eq!(scratch.run("base64 decode -v letters -o back"), told("letters: 16 bytes decoded to back"));
+    assert_eq!(scratch.run("base64 encode -v out -o letters"), told("out: 16 bytes encoded, 24 bytes written to letters"));
+    assert_eq!(scratch.run("base64 decode -v letters -o back"), told("letters: 24 bytes decoded, 16 bytes written to back"));
+    // What is counted is what was read of the file and what stands in the other, base64 and all.
+    let said = scratch.run("convert -v --fields fields --from binary2 --base64-in --to binary2 --base64-out --wrap 8 letters -o back");
+    assert_eq!(said, told("letters: 2 rows, 24 bytes read, 27 bytes written to back"));
+    assert_eq!(scratch.get("back").len(), 27);
+    let said = scratch.run("check --fields fields --from binary2 --base64-in letters");
+    assert_eq!(said, Said::good(b"letters: 2 rows, 24 bytes, 3 columns\n"));
     let said = scratch.run_with("convert -v --fields fields --from binary --to tabledata", BINARY);
     let line = "sailmortar: standard input: 2 rows, 14 bytes read, 79 bytes written to standard output\n";
     assert_eq!(said, Said { status: 0, out: TABLEDATA.to_vec(), err: line.to_string() });
@@ -111,7 +122,7 @@ fn objects_tell_success() {
     let said = scratch.run("check --json --fields fields --from binary2 night.binary2");
     assert_eq!((said.status, &said.out[..], &said.err[..]), (0, &b""[..], "{\"status\":0,\"rows\":2,\"read\":16,\"columns\":3}\n"));
     let said = scratch.run("base64 encode --json night.binary2 -o out");
-    assert_eq!((said.status, &said.err[..]), (0, "{\"status\":0,\"bytes\":16}\n"));
+    assert_eq!((said.status, &said.err[..]), (0, "{\"status\":0,\"read\":16,\"bytes\":24}\n"));
 }
 
 #[test]
@@ -121,7 +132,16 @@ fn objects_tell_refusals() {
     let said = scratch.run("convert --json --fields fields --from binary2 --to tabledata cut -o out");
     assert_eq!(said.status, 1);
     let members = object(&said);
-    for member in ["bytes 46", "column 1", "file 'cut'", "name 'note'", "number 8", "offset 8", "row 1", "rows 1", "status 1"] {
+    for member in
+        ["output 'out'", "bytes 46", "column 1", "file 'cut'", "name 'note'", "number 8", "offset 8", "row 1", "rows 1", "status 1"]
+    {
+        assert!(members.lines().any(|line| line == member), "{member} in\n{members}");
+    }
+    // Where the rows went and where the rest is, whatever name that got.
+    scratch.put("cut.rows", b"yesterday");
+    let said = scratch.run("convert --json --fields fields --from binary2 --to tabledata cut -o cut --rest rest");
+    let members = object(&said);
+    for member in ["output 'cut.rows.1'", "rest 'rest'"] {
         assert!(members.lines().any(|line| line == member), "{member} in\n{members}");
     }
     scratch.put("fields", b"<FIELD name='m\"\xF0\x9F\x8C\x99' datatype='float'/>");

@@ -196,6 +196,17 @@ struct Words {
 }
 
 impl Words {
+    /// Adds an option, with the next word as its value where it needs one and has none yet.
+    fn add(&mut self, option: &Known, value: Option<OsString>, rest: &mut dyn Iterator<Item = OsString>) -> Result<(), Usage> {
+        if self.options.iter().any(|(name, _)| *name == option.long) {
+            return Err(format!("--{} is given twice", option.long).into());
+        }
+        let value = if option.valued { value.or_else(|| rest.next()) } else { Some(OsString::from("given")) };
+        let value = value.filter(|value| !value.is_empty()).ok_or_else(|| Usage(format!("--{} needs a value", option.long)))?;
+        self.options.push((option.long, value));
+        Ok(())
+    }
+
     fn take(&mut self, long: &str) -> Option<OsString> {
         let place = self.options.iter().position(|(name, _)| *name == long)?;
         Some(self.options.remove(place).1)
@@ -203,7 +214,11 @@ impl Words {
 
     fn input(operands: impl Iterator<Item = OsString>) -> Result<Place, Usage> {
         let mut operands = operands;
-        let input = Place::of(operands.next());
+        let first = operands.next();
+        if first.as_ref().is_some_and(|name| name.is_empty()) {
+            return Err("INPUT has no name; '-' is standard input".into());
+        }
+        let input = Place::of(first);
         match operands.next() {
             Some(second) => Err(format!("one INPUT at most, and '{}' is a second", shown(&second)).into()),
             None => Ok(input),
@@ -234,41 +249,49 @@ fn split(topic: Topic, mut rest: impl Iterator<Item = OsString>, known: &[Known]
             b"--" => words.operands.extend(rest.by_ref()),
             b"-h" | b"--help" => return Ok(Split::Help),
             b"-V" | b"--version" => return Ok(Split::Version),
-            [b'-', _, ..] => {
-                let (option, value) = option(topic, &word, known)?;
-                if words.options.iter().any(|(name, _)| *name == option.long) {
-                    return Err(format!("--{} is given twice", option.long).into());
-                }
-                let value = if option.valued { value.or_else(|| rest.next()) } else { Some(OsString::from("given")) };
-                let value = value.filter(|value| !value.is_empty()).ok_or_else(|| Usage(format!("--{} needs a value", option.long)))?;
-                words.options.push((option.long, value));
+            [b'-', b'-', ..] => {
+                let (option, value) = long_option(topic, &word, known)?;
+                words.add(option, value, &mut rest)?;
             }
+            [b'-', _, ..] => add_letters(topic, &word, known, &mut words, &mut rest)?,
             _ => words.operands.push(word),
         }
     }
     Ok(Split::Words(words))
 }
 
-/// The option that a word names, and the value that stands in the same word (`--from=binary`, `-oFILE`).
-fn option<'a>(topic: Topic, word: &OsStr, known: &'a [Known]) -> Result<(&'a Known, Option<OsString>), Usage> {
-    let unknown = || Usage(format!("unknown option '{}' for {}", shown(word), topic.name()));
-    let bytes = word.as_bytes();
-    let (option, value) = match bytes.strip_prefix(b"--") {
-        Some(long) => {
-            let mut parts = long.splitn(2, |byte| *byte == b'=');
-            let name = parts.next().unwrap_or_default();
-            let option = known.iter().find(|option| option.long.as_bytes() == name).ok_or_else(unknown)?;
-            (option, parts.next())
-        }
-        None => {
-            let option = known.iter().find(|option| option.letter == Some(bytes[1])).ok_or_else(unknown)?;
-            (option, Some(&bytes[2..]).filter(|value| !value.is_empty()))
-        }
-    };
-    if value.is_some() && !option.valued {
-        return Err(format!("--{} takes no value", option.long).into());
+/// The option that a word names, and the value that stands in the same word (`--from=binary`).
+fn long_option<'a>(topic: Topic, word: &OsStr, known: &'a [Known]) -> Result<(&'a Known, Option<OsString>), Usage> {
+    let mut parts = word.as_bytes()[2..].splitn(2, |byte| *byte == b'=');
+    let name = parts.next().unwrap_or_default();
+    let option = known.iter().find(|option| option.long.as_bytes() == name).ok_or_else(|| unknown(topic, word))?;
+    let value = parts.next().map(|value| OsString::from_vec(value.to_vec()));
+    match value.is_some() && !option.valued {
+        true => Err(format!("--{} takes no value", option.long).into()),
+        false => Ok((option, value)),
     }
-    Ok((option, value.map(|value| OsString::from_vec(value.to_vec()))))
+}
+
+/// The options that the letters of a word name, the last one with its value (`-vo FILE`, `-oFILE`).
+fn add_letters(
+    topic: Topic,
+    word: &OsStr,
+    known: &[Known],
+    words: &mut Words,
+    rest: &mut dyn Iterator<Item = OsString>,
+) -> Result<(), Usage> {
+    let mut letters = &word.as_bytes()[1..];
+    while let Some((letter, after)) = letters.split_first() {
+        let option = known.iter().find(|option| option.letter == Some(*letter)).ok_or_else(|| unknown(topic, word))?;
+        let value = Some(after).filter(|value| option.valued && !value.is_empty()).map(|value| OsString::from_vec(value.to_vec()));
+        words.add(option, value, rest)?;
+        letters = if option.valued { &[] } else { after };
+    }
+    Ok(())
+}
+
+fn unknown(topic: Topic, word: &OsStr) -> Usage {
+    Usage(format!("unknown option '{}' for {}", shown(word), topic.name()))
 }
 
 /// The values of options that a command cannot do without, or the words that say which are missing.

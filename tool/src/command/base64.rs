@@ -25,7 +25,7 @@ pub fn encode(encoding: &Encoding) -> Result<Report, End> {
     });
     letters.map_err(|cause| output.trouble(cause))?;
     output.finish()?;
-    Ok(accepted(&input, bytes.len(), "encoded", &output))
+    Ok(accepted(&input, "encoded", &output))
 }
 
 pub fn decode(files: &Files) -> Result<Report, End> {
@@ -37,7 +37,7 @@ pub fn decode(files: &Files) -> Result<Report, End> {
     let bytes = decoded(&input.name, text)?;
     output.write_all(&bytes).map_err(|cause| output.trouble(cause))?;
     output.finish()?;
-    Ok(accepted(&input, bytes.len(), "decoded", &output))
+    Ok(accepted(&input, "decoded", &output))
 }
 
 /// What a message says of the step.
@@ -49,10 +49,11 @@ fn open(files: &Files) -> Result<(Input, Output), End> {
     Ok((input, output))
 }
 
-fn accepted(input: &Input, bytes: usize, done: &str, output: &Output) -> Report {
-    let count = counted(bytes as u64, "byte", "bytes");
-    let line = format!("{}: {count} {done} to {}", shown(&input.name), shown(&output.name));
-    Report { lines: vec![line], facts: vec![("bytes", Value::Number(bytes as u64))] }
+fn accepted(input: &Input, done: &str, output: &Output) -> Report {
+    let [read, written] = [input.read as u64, output.written].map(|bytes| counted(bytes, "byte", "bytes"));
+    let line = format!("{}: {read} {done}, {written} written to {}", shown(&input.name), shown(&output.name));
+    let facts = [("read", input.read as u64), ("bytes", output.written)].map(|(name, number)| (name, Value::Number(number)));
+    Report { lines: vec![line], facts: facts.to_vec(), is_urgent: false }
 }
 
 /// Someone who forgot `-o` has a screen full of letters, and a terminal that acts on some of them.

@@ -11,9 +11,10 @@ use crate::{say, End};
 pub fn columns(fields: &Place, telling: Telling) -> Result<Report, End> {
     let fields = Fields::read(fields)?;
     match telling.json {
-        true => say(&fields.columns.iter().enumerate().map(|(place, column)| object(place, column)).collect::<String>()),
-        false => say(&table(&fields.columns)),
+        true => fields.columns.iter().enumerate().try_for_each(|(place, column)| say(&object(place, column)).map(drop))?,
+        false => table(&fields.columns).iter().try_for_each(|line| say(line).map(drop))?,
     }
+    Ok(Report::default())
 }
 
 fn object(place: usize, column: &Column) -> String {
@@ -25,13 +26,14 @@ fn object(place: usize, column: &Column) -> String {
     json::object(members.iter().map(|(name, value)| (*name, value))) + "\n"
 }
 
-fn table(columns: &[Column]) -> String {
+/// A line for each column under one of titles. Names stand last and are not padded: they may be very long.
+fn table(columns: &[Column]) -> Vec<String> {
     let titles = ["place", "datatype", "length", "null", "name"].map(String::from);
     let lines: Vec<_> = [titles].into_iter().chain(columns.iter().enumerate().map(line)).collect();
-    let widths: [usize; 5] = std::array::from_fn(|place| lines.iter().map(|line| line[place].chars().count()).max().unwrap_or(0));
+    let widths: [usize; 4] = std::array::from_fn(|place| lines.iter().map(|line| line[place].len()).max().unwrap_or(0));
     let padded = |line: &[String; 5]| {
-        let cells: Vec<_> = line.iter().zip(widths).map(|(cell, width)| format!("{cell:width$}")).collect();
-        cells.join("  ").trim_end().to_string() + "\n"
+        let cells: String = line.iter().zip(widths).map(|(cell, width)| format!("{cell:width$}  ")).collect();
+        format!("{cells}{}\n", line[4])
     };
     lines.iter().map(padded).collect()
 }

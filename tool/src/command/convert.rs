@@ -1,11 +1,10 @@
 //! Conversion from file to file, and the check that writes nothing.
 
-use std::ffi::OsStr;
 use std::io::{self, Write};
 
-use sailmortar::{Base64Writer, Column, Done, Error, Refused, Rows, ROOM};
+use sailmortar::{Base64Writer, Column, Done, Error, Piece, Refused, Rows, ROOM};
 
-use crate::arguments::{Checking, Conversion, Place, Telling, Usage};
+use crate::arguments::{Checking, Conversion, Place, Table, Telling, Usage};
 use crate::base64::{not_to_a_terminal, read_rows};
 use crate::files::{Identity, Input, Trouble};
 use crate::output::Output;
@@ -17,6 +16,7 @@ use crate::{say, End};
 /// Declarations that are good.
 pub struct Fields {
     identity: Option<Identity>,
+    shared: Option<Identity>,
     decls: Vec<u8>,
     pub columns: Vec<Column>,
 }
@@ -26,29 +26,63 @@ impl Fields {
         let mut input = Input::open(place)?;
         let decls = input.read(sailmortar::DECLARATIONS_LIMIT, |_| {})?;
         match sailmortar::columns(&decls) {
-            Ok(columns) => Ok(Fields { identity: input.identity(), decls, columns }),
+            Ok(columns) => Ok(Fields { identity: input.identity(), shared: input.shared(), decls, columns }),
             Err(refused) => Err(End::Refused(report::declarations(&input.name, &decls, &refused))),
+        }
+    }
+
+    /// The rows' file, opened. A pipe that the fields were read from has nothing left, which would look like a table without rows.
+    fn open_rows(&self, place: &Place) -> Result<Input, End> {
+        let input = Input::open(place)?;
+        match self.shared.is_some() && self.shared == input.shared() {
+            true => Err(Usage("the fields and the rows cannot both come from one pipe or terminal".to_string()).into()),
+            false => Ok(input),
         }
     }
 }
 
 pub fn convert(conversion: &Conversion) -> Result<Report, End> {
     let fields = Fields::read(&conversion.table.fields)?;
-    let mut input = Input::open(&conversion.files.input)?;
+    let mut input = fields.open_rows(&conversion.files.input)?;
     let mut outputs = Outputs::open(conversion, &[fields.identity, input.identity()])?;
     let rows = read_rows(&mut input, conversion.table.base64_in)?;
     match convert_into(&mut outputs.output, conversion, &fields.decls, &rows) {
-        Ok(done) => outputs.finish(&input.name, rows.len(), &done),
+        Ok(done) => outputs.finish(&input, &done),
         Err(Error::Refused(refused)) if refused.number == 6 => Err(End::Refused(report::too_long(&input.name, ""))),
         Err(Error::Refused(refused)) => {
-            let stands = outputs.stop(&rows, &refused)?;
-            let (from, to, decoded) = (conversion.table.from, conversion.to, conversion.table.base64_in);
-            let stream = Stream { input_name: &input.name, columns: &fields.columns, from, to, decoded, input: &rows };
-            Err(End::Refused(report::row(&stream, &refused, &stands)))
+            let stands = outputs.stop(&rows, &refused);
+            let stream = stream(&input, &fields, &conversion.table, conversion.to, &rows);
+            Err(refused_row(&stream, &refused, stands))
         }
         Err(Error::System(cause)) => Err(outputs.output.trouble(cause).into()),
         Err(other) => Err(outputs.output.trouble(io::Error::other(other)).into()),
     }
+}
+
+fn stream<'a>(input: &'a Input, fields: &'a Fields, table: &Table, to: Rows, rows: &'a [u8]) -> Stream<'a> {
+    Stream { input_name: &input.name, columns: &fields.columns, from: table.from, to, decoded: table.base64_in, input: rows }
+}
+
+/// The words and facts of a refused row, and of what stands before it, or could not be kept.
+fn refused_row(stream: &Stream, refused: &Refused, stands: Result<Stands, Trouble>) -> End {
+    match stands {
+        Ok(Stands { words, facts }) => {
+            let mut report = report::row(stream, refused, &words);
+            report.facts.extend(facts);
+            End::Refused(report)
+        }
+        Err(trouble) => {
+            let mut report = report::row(stream, refused, &format!("what stands before it could not be kept: {trouble}"));
+            report.facts.push(("message", Value::Text(trouble.to_string())));
+            End::NotKept(report)
+        }
+    }
+}
+
+/// What became of the rows before a refused one.
+struct Stands {
+    words: String,
+    facts: Vec<(&'static str, Value)>,
 }
 
 /// Where rows go, and where the rest goes if a row is refused.
@@ -78,38 +112,54 @@ impl Outputs {
         Ok(Outputs { output, rest, replaces_input })
     }
 
-    /// All rows are good.
-    fn finish(mut self, input_name: &OsStr, read: usize, done: &Done) -> Result<Report, End> {
-        let [read_bytes, bytes] = [read as u64, done.bytes].map(|bytes| counted(bytes, "byte", "bytes"));
-        let rows = counted(done.rows, "row", "rows");
-        let said = format!("{}: {rows}, {read_bytes} read, {bytes} written to {}", shown(input_name), shown(&self.output.name));
-        let counts = [("rows", done.rows), ("read", read as u64), ("bytes", done.bytes)];
-        let mut facts: Vec<_> = counts.into_iter().map(|(name, number)| (name, Value::Number(number))).collect();
-        facts.push(("output", Value::Text(self.output.name.to_string_lossy().into_owned())));
+    /// All rows are good. That a night is replaced by nothing at all is said even where no one asked.
+    fn finish(mut self, input: &Input, done: &Done) -> Result<Report, End> {
+        let is_emptied = input.read == 0 && self.output.replaces_something();
         self.output.finish()?;
-        Ok(Report { lines: vec![said], facts })
+        let [read, bytes] = [input.read as u64, self.output.written].map(|bytes| counted(bytes, "byte", "bytes"));
+        let rows = counted(done.rows, "row", "rows");
+        let said = format!("{}: {rows}, {read} read, {bytes} written to {}", shown(&input.name), shown(&self.output.name));
+        let counts = [("rows", done.rows), ("read", input.read as u64), ("bytes", self.output.written)];
+        let mut facts: Vec<_> = counts.into_iter().map(|(name, number)| (name, Value::Number(number))).collect();
+        facts.push(named("output", &self.output));
+        Ok(Report { lines: vec![said], facts, is_urgent: is_emptied })
     }
 
-    /// A row is refused: keeps what stands before it, and answers what became of that in words.
-    fn stop(&mut self, input: &[u8], refused: &Refused) -> Result<String, Trouble> {
-        let name = shown(&self.output.name);
-        let before = format!("{} written to", rows_before(refused.rows));
-        let stands = match (refused.rows, self.replaces_input) {
-            (0, _) if self.output.is_there() => format!("no row stands before it, and {name} is left as it was"),
-            (0, _) => "no row stands before it, and nothing is written".to_string(),
-            (_, true) => format!("{before} {}, and {name} is left as it was", shown(&self.output.finish_beside()?)),
-            (_, false) => {
-                self.output.finish()?;
-                format!("{before} {name}")
-            }
-        };
-        let Some(rest) = &mut self.rest else {
-            return Ok(stands);
-        };
-        rest.write_all(&input[refused.offset..]).map_err(|cause| rest.trouble(cause))?;
-        rest.finish()?;
-        Ok(format!("{stands}; everything from row {} on is in {}", refused.row, shown(&rest.name)))
+    /// A row is refused: keeps what stands before it, and answers what became of that. The rest is written first: only where it stands whole is
+    /// the output moved.
+    fn stop(&mut self, input: &[u8], refused: &Refused) -> Result<Stands, Trouble> {
+        if let Some(rest) = &mut self.rest {
+            rest.write_all(&input[refused.offset..]).map_err(|cause| rest.trouble(cause))?;
+            rest.sync()?;
+        }
+        let mut stands = self.keep_rows(refused)?;
+        if let Some(rest) = &mut self.rest {
+            rest.finish()?;
+            stands.words += &format!("; everything from row {} on is in {}", refused.row, shown(&rest.name));
+            stands.facts.push(named("rest", rest));
+        }
+        Ok(stands)
     }
+
+    fn keep_rows(&mut self, refused: &Refused) -> Result<Stands, Trouble> {
+        let name = shown(&self.output.name);
+        if refused.rows == 0 {
+            let left = if self.output.is_there() { format!("{name} is left as it was") } else { "nothing is written".to_string() };
+            return Ok(Stands { words: format!("no row stands before it, and {left}"), facts: vec![] });
+        }
+        let before = format!("{} written to", rows_before(refused.rows));
+        if !self.replaces_input {
+            self.output.finish()?;
+            return Ok(Stands { words: format!("{before} {name}"), facts: vec![named("output", &self.output)] });
+        }
+        let beside = self.output.finish_beside(self.rest.as_ref())?;
+        let words = format!("{before} {}, and {name} is left as it was", shown(&beside));
+        Ok(Stands { words, facts: vec![("output", Value::Text(beside.to_string_lossy().into_owned()))] })
+    }
+}
+
+fn named(fact: &'static str, output: &Output) -> (&'static str, Value) {
+    (fact, Value::Text(output.name.to_string_lossy().into_owned()))
 }
 
 fn rows_before(rows: u64) -> String {
@@ -120,7 +170,7 @@ fn convert_into(output: &mut Output, conversion: &Conversion, decls: &[u8], inpu
     let mut progress = Progress::new();
     let mut write = |target: &mut dyn Write| {
         sailmortar::convert_pieces(decls, conversion.table.from, conversion.to, input, ROOM, |piece| {
-            progress.tick(|| format!("{}% converted, {} rows", piece.read as u64 * 100 / input.len().max(1) as u64, piece.rows));
+            progress.tick(|| how_far(&piece, input, "converted"));
             target.write_all(piece.bytes)
         })
     };
@@ -136,36 +186,45 @@ fn convert_into(output: &mut Output, conversion: &Conversion, decls: &[u8], inpu
     converted
 }
 
+fn how_far(piece: &Piece, input: &[u8], done: &str) -> String {
+    format!("{}% {done}, {} rows", piece.read as u64 * 100 / input.len().max(1) as u64, piece.rows)
+}
+
 pub fn check(checking: &Checking, telling: Telling) -> Result<Report, End> {
     let fields = Fields::read(&checking.table.fields)?;
-    let mut input = Input::open(&checking.input)?;
-    let read = read_rows(&mut input, checking.table.base64_in)?;
+    let mut input = fields.open_rows(&checking.input)?;
+    let rows = read_rows(&mut input, checking.table.base64_in)?;
     // BINARY2 has a form for whatever a cell shows, so that only reading can refuse.
-    let (from, to) = (checking.table.from, checking.to.unwrap_or(Rows::Binary2));
-    match sailmortar::convert_pieces(&fields.decls, from, to, &read, ROOM, |_| Ok(())) {
-        Ok(done) => good(&input.name, done.rows, read.len(), fields.columns.len(), telling),
+    let to = checking.to.unwrap_or(Rows::Binary2);
+    let mut progress = Progress::new();
+    let checked = sailmortar::convert_pieces(&fields.decls, checking.table.from, to, &rows, ROOM, |piece| {
+        progress.tick(|| how_far(&piece, &rows, "checked"));
+        Ok(())
+    });
+    drop(progress);
+    match checked {
+        Ok(done) => good(&input, done.rows, fields.columns.len(), telling),
         Err(Error::Refused(refused)) if refused.number == 6 => Err(End::Refused(report::too_long(&input.name, ""))),
         Err(Error::Refused(refused)) => {
-            let stands = match refused.rows {
+            let words = match refused.rows {
                 0 => "no row stands before it".to_string(),
                 rows => format!("{} good", rows_before(rows)),
             };
-            let decoded = checking.table.base64_in;
-            let stream = Stream { input_name: &input.name, columns: &fields.columns, from, to, decoded, input: &read };
-            Err(End::Refused(report::row(&stream, &refused, &stands)))
+            let stream = stream(&input, &fields, &checking.table, to, &rows);
+            Err(refused_row(&stream, &refused, Ok(Stands { words, facts: vec![] })))
         }
         Err(Error::System(cause)) => Err(Trouble::with(&input.name)(cause).into()),
         Err(other) => Err(Trouble::with(&input.name)(io::Error::other(other)).into()),
     }
 }
 
-fn good(name: &OsStr, count: u64, bytes: usize, columns: usize, telling: Telling) -> Result<Report, End> {
-    let numbers = [("rows", count), ("read", bytes as u64), ("columns", columns as u64)];
-    let (rows, bytes) = (counted(count, "row", "rows"), counted(bytes as u64, "byte", "bytes"));
-    let line = format!("{}: {rows}, {bytes}, {}", shown(name), counted(columns as u64, "column", "columns"));
-    let facts = numbers.into_iter().map(|(name, number)| (name, Value::Number(number))).collect();
-    match telling.json {
-        true => Ok(Report { lines: vec![line], facts }),
-        false => say(&(line + "\n")),
+fn good(input: &Input, count: u64, columns: usize, telling: Telling) -> Result<Report, End> {
+    let (rows, bytes) = (counted(count, "row", "rows"), counted(input.read as u64, "byte", "bytes"));
+    let line = format!("{}: {rows}, {bytes}, {}", shown(&input.name), counted(columns as u64, "column", "columns"));
+    if !telling.json {
+        return say(&(line + "\n"));
     }
+    let numbers = [("rows", count), ("read", input.read as u64), ("columns", columns as u64)];
+    let facts = numbers.into_iter().map(|(name, number)| (name, Value::Number(number))).collect();
+    Ok(Report { lines: vec![line], facts, is_urgent: false })
 }

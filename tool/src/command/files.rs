@@ -1,15 +1,15 @@
 //! Files that are read, and trouble: whatever the system says no to comes back with the name of the file.
 
-use std::ffi::{OsStr, OsString};
+use std::ffi::{c_int, OsStr, OsString};
 use std::fmt;
 use std::fs::{File, Metadata};
 use std::io::{self, ErrorKind, IsTerminal, Read, Seek, Write};
-use std::os::fd::AsFd;
-use std::os::unix::fs::MetadataExt;
+use std::os::unix::ffi::OsStrExt;
+use std::os::unix::fs::{FileTypeExt, MetadataExt};
 
 use crate::arguments::Place;
 use crate::report::shown;
-use crate::system::{check_open, Standard};
+use crate::system::descriptor;
 
 /// What the system said no to, and why.
 pub struct Trouble {
@@ -49,6 +49,22 @@ pub fn name<'a>(place: &'a Place, standard: &'a str) -> &'a OsStr {
     }
 }
 
+/// The number of the descriptor that a name stands for, as /dev/stdout does for 1: what it has open is meant, where it is.
+pub fn descriptor_named(place: &Place) -> Option<c_int> {
+    let Place::Named(path) = place else {
+        return None;
+    };
+    match path.as_os_str().as_bytes() {
+        b"/dev/stdin" => Some(0),
+        b"/dev/stdout" => Some(1),
+        b"/dev/stderr" => Some(2),
+        name => {
+            let number = name.strip_prefix(b"/dev/fd/").or_else(|| name.strip_prefix(b"/proc/self/fd/"))?;
+            std::str::from_utf8(number).ok()?.parse().ok().filter(|number| *number >= 0)
+        }
+    }
+}
+
 /// A file as the system knows it, whatever its names: device and inode.
 #[derive(Clone, Copy, PartialEq, Eq, Debug)]
 pub struct Identity(u64, u64);
@@ -62,17 +78,20 @@ impl Identity {
 /// An input, opened.
 pub struct Input {
     pub name: OsString,
+    /// How many bytes were read of it.
+    pub read: usize,
     file: File,
 }
 
 impl Input {
     pub fn open(place: &Place) -> Result<Input, Trouble> {
         let name = name(place, "standard input");
-        let file = match place {
-            Place::Standard => check_open(Standard::Input).and_then(|()| io::stdin().as_fd().try_clone_to_owned()).map(File::from),
-            Place::Named(path) => File::open(path),
+        let file = match (place, descriptor_named(place)) {
+            (Place::Standard, _) => descriptor(0),
+            (_, Some(number)) => descriptor(number),
+            (Place::Named(path), None) => File::open(path),
         };
-        let input = Input { file: file.map_err(Trouble::with(name))?, name: name.to_owned() };
+        let input = Input { file: file.map_err(Trouble::with(name))?, name: name.to_owned(), read: 0 };
         if *place == Place::Standard {
             input.say_if_someone_types();
         }
@@ -91,6 +110,13 @@ impl Input {
         self.file.metadata().ok().filter(Metadata::is_file).map(|metadata| Identity::of(&metadata))
     }
 
+    /// Which pipe or terminal it is, if it is one: what one reader has read of it no other can read.
+    pub fn shared(&self) -> Option<Identity> {
+        let metadata = self.file.metadata().ok()?;
+        let is_shared = metadata.file_type().is_fifo() || metadata.file_type().is_socket() || self.file.is_terminal();
+        is_shared.then(|| Identity::of(&metadata))
+    }
+
     /// Whether it is a plain file that is longer than `limit`: then it need not be read to be refused.
     pub fn is_over(&self, limit: usize) -> bool {
         self.bytes_left() > limit as u64
@@ -100,7 +126,9 @@ impl Input {
     pub fn read(&mut self, limit: usize, tick: impl FnMut(usize)) -> Result<Vec<u8>, Trouble> {
         let expected = self.bytes_left().min(limit as u64) as usize;
         let ticking = Ticking { inner: &self.file, read: 0, tick };
-        sailmortar::read_input(ticking, expected, limit).map_err(Trouble::with(&self.name))
+        let bytes = sailmortar::read_input(ticking, expected, limit).map_err(Trouble::with(&self.name))?;
+        self.read = bytes.len();
+        Ok(bytes)
     }
 
     /// How much of a plain file is still to be read; 0 of anything else, whose length is not known.

@@ -40,6 +40,8 @@ const SYSTEM_SAID_NO: u8 = 3;
 /// How a run ends that does not end well.
 enum End {
     Refused(Report),
+    /// A row is refused, and the system said no to what was to be kept before it.
+    NotKept(Report),
     Trouble(Trouble),
     Usage(Usage),
 }
@@ -57,6 +59,7 @@ impl From<Usage> for End {
 }
 
 fn main() -> ExitCode {
+    system::limits_are_errors();
     let words: Vec<_> = std::env::args_os().skip(1).collect();
     let mut telling = Telling { verbose: false, json: arguments::asks_for_json(&words) };
     let ended = arguments::request(words).map_err(End::Usage).and_then(|request| {
@@ -66,6 +69,7 @@ fn main() -> ExitCode {
     let (status, said) = match ended {
         Ok(report) => (ACCEPTED, told(ACCEPTED, report, telling)),
         Err(End::Refused(report)) => (REFUSED, told(REFUSED, report, telling)),
+        Err(End::NotKept(report)) => (SYSTEM_SAID_NO, told(SYSTEM_SAID_NO, report, telling)),
         Err(End::Trouble(trouble)) if trouble.is_closed_pipe() => (SYSTEM_SAID_NO, String::new()),
         Err(End::Trouble(trouble)) => (SYSTEM_SAID_NO, told(SYSTEM_SAID_NO, said_in_a_line(trouble.to_string()), telling)),
         Err(End::Usage(Usage(wrong))) => (WRONG_USAGE, told(WRONG_USAGE, said_in_a_line(wrong), telling)),
@@ -76,12 +80,13 @@ fn main() -> ExitCode {
 }
 
 fn said_in_a_line(line: String) -> Report {
-    Report { facts: vec![("message", Value::Text(line.clone()))], lines: vec![line] }
+    Report { facts: vec![("message", Value::Text(line.clone()))], lines: vec![line], is_urgent: false }
 }
 
 /// What standard error says of the end: an object, lines for people, or nothing where all is well and no one asked.
 fn told(status: u8, report: Report, telling: Telling) -> String {
-    if report.lines.is_empty() || (status == ACCEPTED && !telling.verbose && !telling.json) {
+    let is_asked = status != ACCEPTED || telling.verbose || telling.json || report.is_urgent;
+    if report.lines.is_empty() || !is_asked {
         return String::new();
     }
     if telling.json {

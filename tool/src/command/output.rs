@@ -3,40 +3,48 @@
 use std::ffi::{OsStr, OsString};
 use std::fs::{self, File, Metadata, OpenOptions};
 use std::io::{self, ErrorKind, IsTerminal, Write};
-use std::os::fd::{AsFd, BorrowedFd};
 use std::os::unix::ffi::{OsStrExt, OsStringExt};
+use std::os::unix::fs::{fchown, FileTypeExt, MetadataExt};
 use std::path::{Path, PathBuf};
+use std::time::{SystemTime, UNIX_EPOCH};
 
 use crate::arguments::Place;
-use crate::files::{name, Identity, Trouble};
-use crate::system::{check_open, Doomed, Standard};
+use crate::files::{descriptor_named, name, Identity, Trouble};
+use crate::system::{descriptor, Doomed};
 
 /// An output, opened. A plain file is written beside its name, and moved there by `finish`; dropped before that, nothing is left of it.
 pub struct Output {
     pub name: OsString,
+    /// How many bytes were written to it.
+    pub written: u64,
     file: File,
     identity: Option<Identity>,
     moving: Option<Moving>,
 }
 
+/// A new file, and the name that it is to have.
 struct Moving {
     part: PathBuf,
     target: PathBuf,
-    _doomed: Doomed,
+    /// Taken away when the file has its name: what stands under the other name is no longer this run's.
+    doomed: Option<Doomed>,
 }
 
 impl Drop for Moving {
     fn drop(&mut self) {
-        let _ = fs::remove_file(&self.part);
+        if self.doomed.is_some() {
+            let _ = fs::remove_file(&self.part);
+        }
     }
 }
 
 impl Output {
     pub fn open(place: &Place) -> Result<Output, Trouble> {
         let name = name(place, "standard output");
-        let opened = match place {
-            Place::Standard => check_open(Standard::Output).and_then(|()| descriptor(io::stdout().as_fd())),
-            Place::Named(path) => open_named(path),
+        let opened = match (place, descriptor_named(place)) {
+            (Place::Standard, _) => open_descriptor(1),
+            (_, Some(number)) => open_descriptor(number),
+            (Place::Named(path), None) => open_named(path),
         };
         opened.map(|output| Output { name: name.to_owned(), ..output }).map_err(Trouble::with(name))
     }
@@ -44,9 +52,10 @@ impl Output {
     fn of(file: File, moving: Option<Moving>) -> io::Result<Output> {
         let identity = match &moving {
             Some(moving) => fs::metadata(&moving.target).ok(),
-            None => Some(file.metadata()?).filter(Metadata::is_file),
+            None => Some(file.metadata()?).filter(|metadata| is_one_place(metadata) || file.is_terminal()),
         };
-        Ok(Output { name: OsString::new(), file, identity: identity.map(|metadata| Identity::of(&metadata)), moving })
+        let identity = identity.map(|metadata| Identity::of(&metadata));
+        Ok(Output { name: OsString::new(), written: 0, file, identity, moving })
     }
 
     pub fn is_terminal(&self) -> bool {
@@ -71,7 +80,12 @@ impl Output {
         self.moving.is_some() && self.identity.is_some()
     }
 
-    /// Whether both would end under one name.
+    /// Whether what stands under its name has something in it.
+    pub fn replaces_something(&self) -> bool {
+        self.moving.as_ref().is_some_and(|moving| fs::metadata(&moving.target).is_ok_and(|old| old.len() > 0))
+    }
+
+    /// Whether both would end under one name, or in one place.
     pub fn is_same_as(&self, other: &Output) -> bool {
         let targets = self.moving.as_ref().zip(other.moving.as_ref());
         self.replaces(other.identity) || targets.is_some_and(|(one, two)| one.target == two.target)
@@ -82,37 +96,87 @@ impl Output {
         Trouble::with(&self.name)(cause)
     }
 
-    /// Makes sure that all is on the disk, and moves it into place.
-    pub fn finish(&mut self) -> Result<(), Trouble> {
-        match self.moving.take() {
-            Some(moving) => self.move_to(&moving, &moving.target).map_err(|cause| self.trouble(cause)),
+    /// Makes sure that all is on the disk, where it can be asked for that.
+    pub fn sync(&self) -> Result<(), Trouble> {
+        match self.moving {
+            Some(_) => self.file.sync_all().map_err(|cause| self.trouble(cause)),
             None => Ok(()),
         }
     }
 
-    /// The same under a new name beside its own, where its own must stay as it is. Answers the name.
-    pub fn finish_beside(&mut self) -> Result<OsString, Trouble> {
+    /// Brings it to the disk and moves it into place.
+    pub fn finish(&mut self) -> Result<(), Trouble> {
+        self.sync()?;
+        let Some(mut moving) = self.moving.take() else {
+            return Ok(());
+        };
+        let moved = is_still(&self.file, &moving.part).and_then(|()| fs::rename(&moving.part, &moving.target));
+        moved.map_err(|cause| self.trouble(cause))?;
+        moving.doomed = None;
+        sync_folder(&moving.target);
+        Ok(())
+    }
+
+    /// The same under a new name beside its own, where its own must stay as it is; not that of `other`. Answers the name.
+    pub fn finish_beside(&mut self, other: Option<&Output>) -> Result<OsString, Trouble> {
+        self.sync()?;
         let Some(moving) = self.moving.take() else {
             return Ok(self.name.clone());
         };
-        let beside = create_beside(&moving.target, |attempt| match attempt {
-            0 => ".rows".to_string(),
-            _ => format!(".rows.{attempt}"),
-        });
-        let moved = beside.and_then(|(_, beside)| match self.move_to(&moving, &beside) {
-            Ok(()) => Ok(beside),
-            Err(cause) => fs::remove_file(beside).and(Err(cause)),
-        });
-        moved.map(|beside| name_beside(Path::new(&self.name), beside)).map_err(|cause| self.trouble(cause))
+        let taken = other.and_then(|other| other.moving.as_ref()).map(|moving| &*moving.target);
+        let beside = link_beside(&moving, taken).map_err(|cause| self.trouble(cause))?;
+        sync_folder(&beside);
+        Ok(name_beside(Path::new(&self.name), beside))
+    }
+}
+
+impl Write for Output {
+    fn write(&mut self, bytes: &[u8]) -> io::Result<usize> {
+        let count = self.file.write(bytes)?;
+        self.written += count as u64;
+        Ok(count)
     }
 
-    fn move_to(&self, moving: &Moving, target: &Path) -> io::Result<()> {
-        self.file.sync_all()?;
-        fs::rename(&moving.part, target)?;
-        // The move itself is on the disk once the folder is; some file systems cannot be asked for that.
-        let _ = File::open(folder(target)).and_then(|folder| folder.sync_all());
+    fn flush(&mut self) -> io::Result<()> {
         Ok(())
     }
+}
+
+/// Whether what two outputs write to it would be mixed; devices such as /dev/null take anything from anyone.
+fn is_one_place(metadata: &Metadata) -> bool {
+    metadata.is_file() || metadata.file_type().is_fifo() || metadata.file_type().is_socket()
+}
+
+/// Someone may have removed the file, and put another in its place.
+fn is_still(file: &File, path: &Path) -> io::Result<()> {
+    match Identity::of(&fs::symlink_metadata(path)?) == Identity::of(&file.metadata()?) {
+        true => Ok(()),
+        false => Err(io::Error::other("another file has taken the place of the new one")),
+    }
+}
+
+/// A move itself is on the disk once the folder is; some file systems cannot be asked for that.
+fn sync_folder(path: &Path) {
+    let _ = File::open(folder(path)).and_then(|folder| folder.sync_all());
+}
+
+/// A second name for the new file, the first of `.rows`, `.rows.1`, .. that is free; the file's own name goes when `moving` does. What is there
+/// is never replaced. Where there are no links the file is copied.
+fn link_beside(moving: &Moving, taken: Option<&Path>) -> io::Result<PathBuf> {
+    for attempt in 0.. {
+        let ending = if attempt == 0 { ".rows".to_string() } else { format!(".rows.{attempt}") };
+        let beside = named_after(&moving.target, &ending);
+        if taken == Some(&*beside) {
+            continue;
+        }
+        match fs::hard_link(&moving.part, &beside) {
+            Ok(()) => return Ok(beside),
+            Err(cause) if cause.kind() == ErrorKind::AlreadyExists => {}
+            Err(_) if fs::symlink_metadata(&beside).is_ok() => {}
+            Err(_) => return fs::copy(&moving.part, &beside).map(|_| beside),
+        }
+    }
+    Err(ErrorKind::AlreadyExists.into())
 }
 
 /// The name as the output's own was given, where both stand in one folder.
@@ -124,66 +188,58 @@ fn name_beside(output: &Path, beside: PathBuf) -> OsString {
     }
 }
 
-impl Write for Output {
-    fn write(&mut self, bytes: &[u8]) -> io::Result<usize> {
-        self.file.write(bytes)
-    }
-
-    fn flush(&mut self) -> io::Result<()> {
-        Ok(())
-    }
-}
-
-fn descriptor(descriptor: BorrowedFd) -> io::Result<Output> {
-    Output::of(descriptor.try_clone_to_owned()?.into(), None)
+fn open_descriptor(number: i32) -> io::Result<Output> {
+    Output::of(descriptor(number)?, None)
 }
 
 /// A device or a pipe is written to as it is: moving a file over it would take it away.
 fn open_named(path: &Path) -> io::Result<Output> {
     let old = match fs::metadata(path) {
         Ok(old) => old,
-        Err(cause) if cause.kind() == ErrorKind::NotFound && !ends_in_slash(path) => return open_new(&followed(path)?),
+        Err(cause) if cause.kind() == ErrorKind::NotFound => return open_new(&followed(path)?),
         Err(cause) => return Err(cause),
     };
-    if let Some(output) = standard_descriptor(&old)? {
+    if let Some(output) = standard_descriptor(&old) {
         return Ok(output);
     }
     let file = OpenOptions::new().write(true).open(path)?;
     if !old.is_file() {
         return Output::of(file, None);
     }
-    // A file that is written anew keeps its permissions, as it would if it were written in place.
     let output = open_new(&path.canonicalize()?)?;
-    output.file.set_permissions(old.permissions())?;
+    keep(&output.file, &old)?;
     Ok(output)
 }
 
-/// Standard output or standard error where the file is theirs, as /dev/stdout is: what they hold must not be replaced under them.
-fn standard_descriptor(old: &Metadata) -> io::Result<Option<Output>> {
-    let (stdout, stderr) = (io::stdout(), io::stderr());
-    for standard in [stdout.as_fd(), stderr.as_fd()] {
-        let output = descriptor(standard)?;
-        if Identity::of(&output.file.metadata()?) == Identity::of(old) {
-            return Ok(Some(output));
-        }
+/// A file that is written anew keeps its permissions, as it would if it were written in place; and its owner and group, where that is allowed.
+fn keep(file: &File, old: &Metadata) -> io::Result<()> {
+    let new = file.metadata()?;
+    if (new.uid(), new.gid()) != (old.uid(), old.gid()) {
+        let _ = fchown(file, None, Some(old.gid()));
+        let _ = fchown(file, Some(old.uid()), None);
     }
-    Ok(None)
+    file.set_permissions(old.permissions())
+}
+
+/// Standard output or standard error where the file is theirs: what they hold must not be replaced under them.
+fn standard_descriptor(old: &Metadata) -> Option<Output> {
+    let is_old = |output: &Output| output.file.metadata().is_ok_and(|metadata| Identity::of(&metadata) == Identity::of(old));
+    [1, 2].into_iter().filter_map(|number| open_descriptor(number).ok()).find(is_old)
 }
 
 fn open_new(path: &Path) -> io::Result<Output> {
-    let name = path.file_name().ok_or(ErrorKind::NotFound)?;
-    let target = folder(path).canonicalize()?.join(name);
-    let process = std::process::id();
-    let (file, part) = create_beside(&target, |attempt| match attempt {
-        0 => format!(".{process}.part"),
-        _ => format!(".{process}.{attempt}.part"),
-    })?;
-    let moving = Moving { _doomed: Doomed::new(&part)?, part, target };
+    if names_a_folder(path) {
+        return Err(io::Error::from_raw_os_error(NO_SUCH_FILE));
+    }
+    let target = folder(path).canonicalize()?.join(path.file_name().unwrap_or_default());
+    let (file, moving) = create_beside(target)?;
     Output::of(file, Some(moving))
 }
 
-fn ends_in_slash(path: &Path) -> bool {
-    path.as_os_str().as_bytes().ends_with(b"/")
+/// `new/`, `new/.` and `new/..` are no names for a file.
+fn names_a_folder(path: &Path) -> bool {
+    let bytes = path.as_os_str().as_bytes();
+    path.file_name().is_none() || bytes.ends_with(b"/") || bytes.ends_with(b"/.")
 }
 
 /// Where a link leads whose end is not there yet, through as many links as the system itself would follow.
@@ -205,22 +261,38 @@ fn folder(path: &Path) -> &Path {
     }
 }
 
-/// The longest name that a file has.
-const NAME_LIMIT: usize = 255;
-
-/// A new file in the folder of `target`, named after it, so that moving it is one step. A killed run may have left one of the same name.
-fn create_beside(target: &Path, ending: impl Fn(u32) -> String) -> io::Result<(File, PathBuf)> {
-    let mut attempt = 0;
+/// A new file in the folder of `target`, named after it, so that moving it is one step. Processes of two systems that share a folder may have
+/// one number, and a killed run may have left its file: the time is in the name, too.
+fn create_beside(target: PathBuf) -> io::Result<(File, Moving)> {
     loop {
-        let path = target.with_file_name(ended(target.file_name().unwrap_or_default(), &ending(attempt)));
-        match OpenOptions::new().write(true).create_new(true).open(&path) {
-            Err(cause) if cause.kind() == ErrorKind::AlreadyExists => attempt += 1,
-            opened => return opened.map(|file| (file, path)),
+        let time = SystemTime::now().duration_since(UNIX_EPOCH).unwrap_or_default().as_nanos() as u64;
+        let part = named_after(&target, &format!(".{}.{time:x}.part", std::process::id()));
+        let doomed = Doomed::new(&part)?;
+        match OpenOptions::new().write(true).create_new(true).open(&part) {
+            Ok(file) => return Ok((file, Moving { part, target, doomed: Some(doomed) })),
+            Err(cause) if cause.kind() == ErrorKind::AlreadyExists => {}
+            Err(cause) => return Err(in_folder(cause)),
         }
     }
 }
 
-fn ended(name: &OsStr, ending: &str) -> OsString {
+/// The file itself may well be writable: it is the folder that takes no new one.
+fn in_folder(cause: io::Error) -> io::Error {
+    match cause.kind() {
+        ErrorKind::PermissionDenied => io::Error::new(cause.kind(), "its folder takes no new file: Permission denied"),
+        _ => cause,
+    }
+}
+
+/// What the system says of a name that is not there.
+const NO_SUCH_FILE: i32 = 2;
+
+/// The longest name that a file has.
+const NAME_LIMIT: usize = 255;
+
+/// The path with this ending, its name cut where it would be too long.
+fn named_after(path: &Path, ending: &str) -> PathBuf {
+    let name: &OsStr = path.file_name().unwrap_or_default();
     let kept = name.len().min(NAME_LIMIT - ending.len());
-    OsString::from_vec([&name.as_bytes()[..kept], ending.as_bytes()].concat())
+    path.with_file_name(OsString::from_vec([&name.as_bytes()[..kept], ending.as_bytes()].concat()))
 }

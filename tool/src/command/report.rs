@@ -8,13 +8,15 @@ use crate::cell::{self, Place};
 use crate::text::{line, without_space};
 use crate::{element, hint, letters, shown};
 
-/// What is said of a refusal.
+/// What is said of how a run ended.
 #[derive(Clone, Debug, Default, PartialEq, Eq)]
 pub struct Report {
     /// For people, without 'sailmortar: ' before each.
     pub lines: Vec<String>,
     /// For programs, in order.
     pub facts: Vec<(&'static str, Value)>,
+    /// Whether it is said even where all is well and no one asked.
+    pub is_urgent: bool,
 }
 
 /// A fact's value.

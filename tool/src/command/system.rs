@@ -1,26 +1,45 @@
-//! What std has no word for: descriptors that were closed when the program began, and files to remove when a signal ends it. All that is unsafe
-//! in the command is in this file.
+//! What std has no word for: descriptors by their numbers, closed ones among them, and files to remove when a signal ends the run. All that is
+//! unsafe in the command is in this file.
 
 use std::ffi::{c_char, c_int, CString};
+use std::fs::File;
 use std::io;
+use std::os::fd::FromRawFd;
 use std::os::unix::ffi::OsStrExt;
 use std::path::Path;
-use std::ptr::null_mut;
+use std::ptr::{null, null_mut};
 use std::sync::atomic::{AtomicBool, AtomicPtr, Ordering};
+
+/// `struct sigaction` of the C library on x86_64 Linux, which is the one system that this is built for.
+#[repr(C)]
+struct Action {
+    handler: usize,
+    mask: SignalSet,
+    flags: c_int,
+    restorer: usize,
+}
+
+type SignalSet = [u64; 16];
 
 extern "C" {
     fn fcntl(descriptor: c_int, command: c_int, ...) -> c_int;
-    fn signal(signal: c_int, action: usize) -> usize;
+    fn sigaction(signal: c_int, action: *const Action, old: *mut Action) -> c_int;
+    fn sigprocmask(how: c_int, set: *const SignalSet, old: *mut SignalSet) -> c_int;
     fn raise(signal: c_int) -> c_int;
     fn unlink(path: *const c_char) -> c_int;
+    fn _exit(status: c_int) -> !;
 }
 
 const F_GETFD: c_int = 1;
+const F_DUPFD_CLOEXEC: c_int = 1030;
 const SIG_DFL: usize = 0;
 const SIG_IGN: usize = 1;
-const SIGHUP: c_int = 1;
-const SIGINT: c_int = 2;
-const SIGTERM: c_int = 15;
+const SIG_SETMASK: c_int = 2;
+const SA_RESTART: c_int = 0x1000_0000;
+const SIGXFSZ: c_int = 25;
+
+/// Those that end a run unless it says otherwise, and are sent by people and by limits: HUP, INT, QUIT, USR1, USR2, ALRM, TERM, XCPU.
+const ENDING: [c_int; 8] = [1, 2, 3, 10, 12, 14, 15, 24];
 
 static CLOSED: [AtomicBool; 3] = [AtomicBool::new(false), AtomicBool::new(false), AtomicBool::new(false)];
 
@@ -36,25 +55,27 @@ extern "C" fn note_closed() {
     }
 }
 
-/// A standard descriptor.
-#[derive(Clone, Copy)]
-pub enum Standard {
-    Input = 0,
-    Output = 1,
+/// An open descriptor of this number, for itself; an error if it was closed when the program began.
+pub fn descriptor(number: c_int) -> io::Result<File> {
+    if usize::try_from(number).ok().and_then(|place| CLOSED.get(place)).is_some_and(|closed| closed.load(Ordering::Relaxed)) {
+        return Err(io::Error::other("it is closed"));
+    }
+    // SAFETY: duplicating a descriptor changes nothing for who holds it, whatever the number; what comes back is no one else's.
+    match unsafe { fcntl(number, F_DUPFD_CLOEXEC, 3) } {
+        -1 => Err(io::Error::last_os_error()),
+        own => Ok(unsafe { File::from_raw_fd(own) }),
+    }
 }
 
-/// An error if the descriptor was closed when the program began.
-pub fn check_open(standard: Standard) -> io::Result<()> {
-    match CLOSED[standard as usize].load(Ordering::Relaxed) {
-        true => Err(io::Error::other("it is closed")),
-        false => Ok(()),
-    }
+/// A write beyond the length that a file may have is an error like any other, and does not end the run.
+pub fn limits_are_errors() {
+    set_action(SIGXFSZ, SIG_IGN);
 }
 
 /// The files to remove, as many as a run may have open for writing.
 static DOOMED: [AtomicPtr<c_char>; 2] = [AtomicPtr::new(null_mut()), AtomicPtr::new(null_mut())];
 
-/// While this is alive, a signal that ends the run removes the file first.
+/// While this is alive, a signal that ends the run removes the file of this name first.
 pub struct Doomed(usize);
 
 impl Doomed {
@@ -62,7 +83,10 @@ impl Doomed {
         let name = CString::new(path.as_os_str().as_bytes())?.into_raw();
         let free = |place: &AtomicPtr<c_char>| place.compare_exchange(null_mut(), name, Ordering::AcqRel, Ordering::Acquire).is_ok();
         let place = DOOMED.iter().position(free).expect("a run writes two files at most");
-        [SIGHUP, SIGINT, SIGTERM].into_iter().for_each(watch);
+        // A signal that is ignored, as nohup has it, stays ignored.
+        ENDING.into_iter().filter(|number| action_of(*number) == SIG_DFL).for_each(|number| {
+            set_action(number, remove_and_end as extern "C" fn(c_int) as usize);
+        });
         Ok(Doomed(place))
     }
 }
@@ -75,17 +99,22 @@ impl Drop for Doomed {
     }
 }
 
-/// A signal that is ignored, as nohup has it, stays ignored.
-fn watch(number: c_int) {
-    // SAFETY: the action that is set is a function of the type that signal takes, and it does only what a signal's action may.
-    unsafe {
-        if signal(number, remove_and_end as extern "C" fn(c_int) as usize) == SIG_IGN {
-            signal(number, SIG_IGN);
-        }
-    }
+fn action_of(number: c_int) -> usize {
+    let mut old = Action { handler: SIG_DFL, mask: [0; 16], flags: 0, restorer: 0 };
+    // SAFETY: without a new action the old one is only told.
+    unsafe { sigaction(number, null(), &mut old) };
+    old.handler
 }
 
-/// `unlink`, `signal` and `raise` are among the functions that may be called here.
+/// While an action runs every other signal waits.
+fn set_action(number: c_int, handler: usize) {
+    let action = Action { handler, mask: [u64::MAX; 16], flags: SA_RESTART, restorer: 0 };
+    // SAFETY: the handler is the default, nothing, or a function of the type that is wanted, which does only what such a function may.
+    unsafe { sigaction(number, &action, null_mut()) };
+}
+
+/// All that is called here may be called in a signal's action. The signal's own action comes back and ends the run; the first process of a
+/// container has none that does, and ends by itself.
 extern "C" fn remove_and_end(number: c_int) {
     for place in &DOOMED {
         let name = place.load(Ordering::Acquire);
@@ -94,9 +123,11 @@ extern "C" fn remove_and_end(number: c_int) {
             unsafe { unlink(name) };
         }
     }
-    // SAFETY: the signal's own action comes back and ends the run once this has returned.
+    set_action(number, SIG_DFL);
+    // SAFETY: the signal is raised while it waits, and comes when no signal waits any more.
     unsafe {
-        signal(number, SIG_DFL);
         raise(number);
+        sigprocmask(SIG_SETMASK, &[0; 16], null_mut());
+        _exit(128 + number)
     }
 }

@@ -87,9 +87,13 @@ fn broken(cell: &[u8]) -> Said<'_> {
 
 /// Each `&` of a text with what stands from there to its `;`, or to the end of the text.
 fn references(text: &[u8]) -> impl Iterator<Item = &[u8]> {
-    text.split_inclusive(|byte| *byte == b';').filter_map(|part| {
-        let start = part.iter().position(|byte| *byte == b'&')?;
-        Some(&part[start..])
+    let mut rest = text;
+    std::iter::from_fn(move || {
+        let start = rest.iter().position(|byte| *byte == b'&')?;
+        let length = rest[start..].iter().position(|byte| *byte == b';').map_or(rest.len() - start, |end| end + 1);
+        let (reference, after) = rest[start..].split_at(length);
+        rest = after;
+        Some(reference)
     })
 }
 
