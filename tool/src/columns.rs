@@ -1,5 +1,5 @@
-//! The columns as declarations name them: kinds, lengths, names and nulls, read off once the proved `declare` has accepted the text; and the
-//! element that it refused, for messages.
+//! The columns as declarations name them: kinds, lengths, names and nulls, read off once the proved `declare` has accepted the text; and
+//! the element that it refused, for messages.
 
 use crate::{declare, Refused};
 

@@ -1,7 +1,8 @@
 //! Sailmortar converts the rows of VOTable tables between TABLEDATA, BINARY and BINARY2, any to any, with base64 as a step of its own.
 //!
-//! The converter is proved: whatever bytes come in, the answer is rows or one numbered refusal with its row and column, the good rows before it
-//! stand whole in the output, and every byte after them is untouched. This crate is the thin, unproved layer over it: slices in, results out.
+//! The converter is proved: whatever bytes come in, the answer is rows or one numbered refusal with its row and column, the good rows
+//! before it stand whole in the output, and every byte after them is untouched. This crate is the thin, unproved layer over it: slices in,
+//! results out.
 //!
 //! ```
 //! # fn main() -> Result<(), sailmortar::Error> {

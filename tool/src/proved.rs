@@ -83,8 +83,8 @@ fn encode_in(input: &[u8], out: &mut Room) -> Result<Done, Refused> {
 
 /// Converts rows, from the kind `from` to the kind `to`, into `out`.
 ///
-/// `decls` is the text of the FIELD elements. Accepted or refused, the rows done stand whole in `out`, and every byte after them is as it was.
-/// A row that does not fit is refusal 17; [`convert_to_vec`](crate::convert_to_vec) makes the room itself.
+/// `decls` is the text of the FIELD elements. Accepted or refused, the rows done stand whole in `out`, and every byte after them is as it
+/// was. A row that does not fit is refusal 17; [`convert_to_vec`](crate::convert_to_vec) makes the room itself.
 pub fn convert(decls: &[u8], from: Rows, to: Rows, input: &[u8], out: &mut [u8]) -> Result<Done, Refused> {
     convert_in(decls, from, to, input, room_of(out))
 }

@@ -295,8 +295,8 @@ fn waiting(scratch: &Scratch, mut command: Command) -> Child {
     child
 }
 
-fn send(signal: &str, child: &Child) {
-    let sent = Command::new("kill").args([format!("-{signal}"), child.id().to_string()]).status().expect("kill runs");
+fn send(signal: &str, process: &str) {
+    let sent = Command::new("sh").args(["-c", &format!("kill -{signal} {process}")]).status().expect("sh runs");
     assert!(sent.success());
 }
 
@@ -311,7 +311,7 @@ fn a_signal_ends_the_run_and_leaves_nothing() {
         let mut child = waiting(&scratch, scratch.command(&format!("{TO_OUT} --rest rest")));
         let parts = scratch.parts();
         assert!(parts.len() == 2 && parts[0].starts_with("out.") && parts[1].starts_with("rest."), "{parts:?}");
-        send(signal, &child);
+        send(signal, &child.id().to_string());
         assert_eq!(child.wait().expect("it ends").signal(), Some(number), "the shell sees what ended it");
         assert_eq!((scratch.names(), scratch.get("out")), (before, b"yesterday".to_vec()), "{signal}");
     }
@@ -323,7 +323,7 @@ fn a_signal_that_is_ignored_stays_ignored() {
     let mut shell = Command::new("sh");
     shell.args(["-c", &format!("trap '' HUP; exec {PROGRAM} {TO_OUT}")]);
     let mut child = waiting(&scratch, shell);
-    send("HUP", &child);
+    send("HUP", &child.id().to_string());
     thread::sleep(Duration::from_millis(50));
     drop(child.stdin.take());
     assert_eq!(Said::of(child.wait_with_output().expect("it ends")), Said::good(b""));
@@ -501,7 +501,7 @@ fn a_file_that_is_replaced_keeps_its_owner_where_that_is_allowed() {
 #[test]
 fn a_signal_ends_the_first_process_of_a_container_too() {
     let scratch = Scratch::new("first_process");
-    let unshared = Command::new("unshare").args(["-pf", "true"]).output();
+    let unshared = Command::new("unshare").args(["-pf", "--kill-child", "true"]).output();
     if !unshared.is_ok_and(|output| output.status.success()) {
         eprintln!("no namespaces can be made here: not run");
         return;
@@ -511,8 +511,8 @@ fn a_signal_ends_the_first_process_of_a_container_too() {
     command.args(["-pf", "--kill-child", PROGRAM]).args(TO_OUT.split_whitespace());
     let mut child = waiting(&scratch, command);
     // The process that has the number 1 inside is the child of the one that was started.
-    let sent = Command::new("pkill").args(["-TERM", "-P", &child.id().to_string()]).status().expect("pkill runs");
-    assert!(sent.success());
+    let children = fs::read_to_string(format!("/proc/{0}/task/{0}/children", child.id())).expect("the system tells children");
+    send("TERM", children.trim());
     let waited = Instant::now();
     while child.try_wait().expect("it can be asked").is_none() {
         assert!(waited.elapsed() < Duration::from_secs(60), "it ends");

@@ -125,8 +125,8 @@ impl Outputs {
         Ok(Report { lines: vec![said], facts, is_urgent: is_emptied })
     }
 
-    /// A row is refused: keeps what stands before it, and answers what became of that. The rest is written first: only where it stands whole is
-    /// the output moved.
+    /// A row is refused: keeps what stands before it, and answers what became of that. The rest is written first: only where it stands
+    /// whole is the output moved.
     fn stop(&mut self, input: &[u8], refused: &Refused) -> Result<Stands, Trouble> {
         if let Some(rest) = &mut self.rest {
             rest.write_all(&input[refused.offset..]).map_err(|cause| rest.trouble(cause))?;

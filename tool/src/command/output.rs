@@ -160,8 +160,8 @@ fn sync_folder(path: &Path) {
     let _ = File::open(folder(path)).and_then(|folder| folder.sync_all());
 }
 
-/// A second name for the new file, the first of `.rows`, `.rows.1`, .. that is free; the file's own name goes when `moving` does. What is there
-/// is never replaced. Where there are no links the file is copied.
+/// A second name for the new file, the first of `.rows`, `.rows.1`, .. that is free; the file's own name goes when `moving` does. What is
+/// there is never replaced. Where there are no links the file is copied.
 fn link_beside(moving: &Moving, taken: Option<&Path>) -> io::Result<PathBuf> {
     for attempt in 0.. {
         let ending = if attempt == 0 { ".rows".to_string() } else { format!(".rows.{attempt}") };
@@ -211,7 +211,8 @@ fn open_named(path: &Path) -> io::Result<Output> {
     Ok(output)
 }
 
-/// A file that is written anew keeps its permissions, as it would if it were written in place; and its owner and group, where that is allowed.
+/// A file that is written anew keeps its permissions, as it would if it were written in place; and its owner and group, where that is
+/// allowed.
 fn keep(file: &File, old: &Metadata) -> io::Result<()> {
     let new = file.metadata()?;
     if (new.uid(), new.gid()) != (old.uid(), old.gid()) {
@@ -261,8 +262,8 @@ fn folder(path: &Path) -> &Path {
     }
 }
 
-/// A new file in the folder of `target`, named after it, so that moving it is one step. Processes of two systems that share a folder may have
-/// one number, and a killed run may have left its file: the time is in the name, too.
+/// A new file in the folder of `target`, named after it, so that moving it is one step. Processes of two systems that share a folder may
+/// have one number, and a killed run may have left its file: the time is in the name, too.
 fn create_beside(target: PathBuf) -> io::Result<(File, Moving)> {
     loop {
         let time = SystemTime::now().duration_since(UNIX_EPOCH).unwrap_or_default().as_nanos() as u64;

@@ -1,5 +1,5 @@
-//! What std has no word for: descriptors by their numbers, closed ones among them, and files to remove when a signal ends the run. All that is
-//! unsafe in the command is in this file.
+//! What std has no word for: descriptors by their numbers, closed ones among them, and files to remove when a signal ends the run. All that
+//! is unsafe in the command is in this file.
 
 use std::ffi::{c_char, c_int, CString};
 use std::fs::File;
