@@ -23,6 +23,7 @@ const HELD: usize = 3 << 14;
 /// A writer that encodes what is written to it and hands the letters to another. Its memory does not grow, and its output has no bound.
 ///
 /// Once the other has failed, letters may be missing, and every later call fails too.
+#[must_use = "the last letters are written by finish"]
 #[derive(Debug)]
 pub struct Base64Writer<W: Write> {
     inner: W,

@@ -115,6 +115,11 @@ fn a_night_that_is_replaced_by_nothing_is_said() {
     let line = "sailmortar: standard input: 0 rows, 0 bytes read, 0 bytes written to out\n";
     assert_eq!(scratch.run_with(words, b""), Said { status: 0, out: vec![], err: line.to_string() });
     assert_eq!(scratch.get("out"), b"", "a table without rows is a table");
+    for (way, done) in [("encode", "encoded"), ("decode", "decoded")] {
+        scratch.put("out", b"yesterday");
+        let line = format!("sailmortar: standard input: 0 bytes {done}, 0 bytes written to out\n");
+        assert_eq!(scratch.run_with(&format!("base64 {way} -o out"), b"").err, line);
+    }
     // What the fields have read of a pipe the rows cannot have.
     scratch.put("out", b"yesterday");
     for fields in ["/dev/stdin", "/dev/fd/0", "/proc/self/fd/0"] {

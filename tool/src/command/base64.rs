@@ -24,8 +24,7 @@ pub fn encode(encoding: &Encoding) -> Result<Report, End> {
         letters.finish().map(drop)
     });
     letters.map_err(|cause| output.trouble(cause))?;
-    output.finish()?;
-    Ok(accepted(&input, "encoded", &output))
+    accepted(&input, "encoded", output)
 }
 
 pub fn decode(files: &Files) -> Result<Report, End> {
@@ -36,8 +35,7 @@ pub fn decode(files: &Files) -> Result<Report, End> {
     let text = read(&mut input, STEP)?;
     let bytes = decoded(&input.name, text)?;
     output.write_all(&bytes).map_err(|cause| output.trouble(cause))?;
-    output.finish()?;
-    Ok(accepted(&input, "decoded", &output))
+    accepted(&input, "decoded", output)
 }
 
 /// What a message says of the step.
@@ -49,11 +47,14 @@ fn open(files: &Files) -> Result<(Input, Output), End> {
     Ok((input, output))
 }
 
-fn accepted(input: &Input, done: &str, output: &Output) -> Report {
+/// All is good. That a file is replaced by nothing at all is said even where no one asked.
+fn accepted(input: &Input, done: &str, mut output: Output) -> Result<Report, End> {
+    let is_urgent = input.read == 0 && output.replaces_something();
+    output.finish()?;
     let [read, written] = [input.read as u64, output.written].map(|bytes| counted(bytes, "byte", "bytes"));
     let line = format!("{}: {read} {done}, {written} written to {}", shown(&input.name), shown(&output.name));
     let facts = [("read", input.read as u64), ("bytes", output.written)].map(|(name, number)| (name, Value::Number(number)));
-    Report { lines: vec![line], facts: facts.to_vec(), is_urgent: false }
+    Ok(Report { lines: vec![line], facts: facts.to_vec(), is_urgent })
 }
 
 /// Someone who forgot `-o` has a screen full of letters, and a terminal that acts on some of them.

@@ -114,7 +114,7 @@ impl Outputs {
 
     /// All rows are good. That a night is replaced by nothing at all is said even where no one asked.
     fn finish(mut self, input: &Input, done: &Done) -> Result<Report, End> {
-        let is_emptied = input.read == 0 && self.output.replaces_something();
+        let is_urgent = input.read == 0 && self.output.replaces_something();
         self.output.finish()?;
         let [read, bytes] = [input.read as u64, self.output.written].map(|bytes| counted(bytes, "byte", "bytes"));
         let rows = counted(done.rows, "row", "rows");
@@ -122,7 +122,7 @@ impl Outputs {
         let counts = [("rows", done.rows), ("read", input.read as u64), ("bytes", self.output.written)];
         let mut facts: Vec<_> = counts.into_iter().map(|(name, number)| (name, Value::Number(number))).collect();
         facts.push(named("output", &self.output));
-        Ok(Report { lines: vec![said], facts, is_urgent: is_emptied })
+        Ok(Report { lines: vec![said], facts, is_urgent })
     }
 
     /// A row is refused: keeps what stands before it, and answers what became of that. The rest is written first: only where it stands
