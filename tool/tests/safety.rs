@@ -287,14 +287,14 @@ fn a_long_file_is_refused_by_its_size_and_not_read() {
     assert!(said.status == 1 && said.err.contains("refusal 7"), "one NUL is left, and it is no letter of base64: {said:?}");
 }
 
-/// A run that has opened its output and waits for more of its input.
-fn waiting(scratch: &Scratch, mut command: Command) -> Child {
+/// A run that has opened so many outputs and waits for more of its input.
+fn waiting(scratch: &Scratch, mut command: Command, outputs: usize) -> Child {
     command.current_dir(&scratch.0).stdin(Stdio::piped()).stdout(Stdio::piped()).stderr(Stdio::piped());
     let mut child = command.spawn().expect("it runs");
     child.stdin.as_mut().expect("a pipe").write_all(BINARY).expect("it reads");
     let waited = Instant::now();
-    while scratch.parts().is_empty() {
-        assert!(waited.elapsed() < Duration::from_secs(60), "it opens its output before it has all of its input");
+    while scratch.parts().len() < outputs {
+        assert!(waited.elapsed() < Duration::from_secs(60), "it opens its outputs before it has all of its input");
         thread::sleep(Duration::from_millis(5));
     }
     child
@@ -305,6 +305,20 @@ fn send(signal: &str, process: &str) {
     assert!(sent.success());
 }
 
+/// Runs a program with the signals' own actions: a shell that started the tests in the background has it ignore some of them.
+const UNTRAPPED: &str = "
+import os, signal, sys
+for name in ('HUP', 'INT', 'QUIT', 'USR1', 'USR2', 'ALRM', 'TERM', 'XCPU'):
+    signal.signal(getattr(signal, 'SIG' + name), signal.SIG_DFL)
+os.execv(sys.argv[1], sys.argv[1:])
+";
+
+fn untrapped(words: &str) -> Command {
+    let mut command = Command::new("python3");
+    command.args(["-c", UNTRAPPED, PROGRAM]).args(words.split_whitespace());
+    command
+}
+
 const TO_OUT: &str = "convert --fields fields --from binary --to tabledata -o out";
 
 #[test]
@@ -313,7 +327,7 @@ fn a_signal_ends_the_run_and_leaves_nothing() {
     for (signal, number) in [("INT", 2), ("TERM", 15), ("HUP", 1), ("QUIT", 3), ("USR1", 10), ("USR2", 12), ("ALRM", 14), ("XCPU", 24)] {
         scratch.put("out", b"yesterday");
         let before = scratch.names();
-        let mut child = waiting(&scratch, scratch.command(&format!("{TO_OUT} --rest rest")));
+        let mut child = waiting(&scratch, untrapped(&format!("{TO_OUT} --rest rest")), 2);
         let parts = scratch.parts();
         assert!(parts.len() == 2 && parts[0].starts_with("out.") && parts[1].starts_with("rest."), "{parts:?}");
         send(signal, &child.id().to_string());
@@ -327,7 +341,7 @@ fn a_signal_that_is_ignored_stays_ignored() {
     let scratch = Scratch::new("ignored");
     let mut shell = Command::new("sh");
     shell.args(["-c", &format!("trap '' HUP; exec {PROGRAM} {TO_OUT}")]);
-    let mut child = waiting(&scratch, shell);
+    let mut child = waiting(&scratch, shell, 1);
     send("HUP", &child.id().to_string());
     thread::sleep(Duration::from_millis(50));
     drop(child.stdin.take());
@@ -339,7 +353,7 @@ fn a_signal_that_is_ignored_stays_ignored() {
 fn a_killed_run_leaves_the_output_as_it_was() {
     let scratch = Scratch::new("killed");
     scratch.put("out", b"yesterday");
-    let mut child = waiting(&scratch, scratch.command(TO_OUT));
+    let mut child = waiting(&scratch, scratch.command(TO_OUT), 1);
     child.kill().expect("it runs");
     child.wait().expect("it is gone");
     assert_eq!(scratch.get("out"), b"yesterday");
@@ -513,8 +527,8 @@ fn a_signal_ends_the_first_process_of_a_container_too() {
     }
     scratch.put("out", b"yesterday");
     let mut command = Command::new("unshare");
-    command.args(["-pf", "--kill-child", PROGRAM]).args(TO_OUT.split_whitespace());
-    let mut child = waiting(&scratch, command);
+    command.args(["-pf", "--kill-child", "python3", "-c", UNTRAPPED, PROGRAM]).args(TO_OUT.split_whitespace());
+    let mut child = waiting(&scratch, command, 1);
     // The process that has the number 1 inside is the child of the one that was started.
     let children = fs::read_to_string(format!("/proc/{0}/task/{0}/children", child.id())).expect("the system tells children");
     send("TERM", children.trim());
