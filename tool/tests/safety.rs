@@ -56,6 +56,28 @@ fn good_rows_never_take_the_place_of_others() {
     assert_eq!((scratch.get("n"), scratch.get("n.rows")), (BINARY2[..13].to_vec(), b"yesterday's good rows".to_vec()));
 }
 
+/// A C library's `linkat` as it is on a file system that has no links.
+const NO_LINKS: &str = "#include <errno.h>\nint linkat(int a, const char *b, int c, const char *d, int e) {\n\
+    (void)a; (void)b; (void)c; (void)d; (void)e; errno = EPERM; return -1;\n}\n";
+
+#[test]
+fn good_rows_are_kept_where_the_file_system_has_no_links() {
+    let scratch = Scratch::new("in_place_no_links");
+    scratch.put("links.c", NO_LINKS.as_bytes());
+    let made = scratch.shell("cc -shared -fPIC links.c -o links.so");
+    assert!(made.status.success(), "{}", String::from_utf8_lossy(&made.stderr));
+    scratch.put("n", &BINARY2[..13]);
+    scratch.put("n.rows", b"yesterday's good rows");
+    let words = "LD_PRELOAD=./links.so \"$PROGRAM\" convert --fields fields --from binary2 --to tabledata n -o n";
+    let said = Said::of(scratch.shell(words));
+    assert_eq!(what_stands(&said), "sailmortar: the 1 row before it is written to n.rows.1, and n is left as it was");
+    assert_eq!((scratch.get("n"), scratch.get("n.rows.1")), (BINARY2[..13].to_vec(), FIRST_ROW.to_vec()));
+    assert_eq!((scratch.get("n.rows"), scratch.parts()), (b"yesterday's good rows".to_vec(), vec![]));
+    // A disk that is full shows while the new file is written, and then there is no other.
+    let said = Said::of(scratch.shell(&format!("ulimit -f 0; {words}")));
+    assert_eq!((said.status, scratch.has("n.rows.2"), scratch.parts()), (3, false, vec![]), "{}", said.err);
+}
+
 #[test]
 fn a_wrong_kind_does_not_cost_the_input_that_is_the_output() {
     let scratch = Scratch::new("in_place_wrong_kind");

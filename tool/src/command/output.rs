@@ -110,8 +110,12 @@ impl Output {
         let Some(mut moving) = self.moving.take() else {
             return Ok(());
         };
-        let moved = is_still(&self.file, &moving.part).and_then(|()| fs::rename(&moving.part, &moving.target));
-        moved.map_err(|cause| self.trouble(cause))?;
+        if let Err(cause) = is_still(&self.file, &moving.part) {
+            // What stands there is someone else's.
+            moving.doomed = None;
+            return Err(self.trouble(cause));
+        }
+        fs::rename(&moving.part, &moving.target).map_err(|cause| self.trouble(cause))?;
         moving.doomed = None;
         sync_folder(&moving.target);
         Ok(())
@@ -160,8 +164,8 @@ fn sync_folder(path: &Path) {
     let _ = File::open(folder(path)).and_then(|folder| folder.sync_all());
 }
 
-/// A second name for the new file, the first of `.rows`, `.rows.1`, .. that is free; the file's own name goes when `moving` does. What is
-/// there is never replaced. Where there are no links the file is copied.
+/// A second name for the new file, the first of `.rows`, `.rows.1`, .. that is free; the file's own name goes when `moving` does. Where the
+/// file system has no links the file is moved: either way it is whole under its new name, or not there.
 fn link_beside(moving: &Moving, taken: Option<&Path>) -> io::Result<PathBuf> {
     for attempt in 0.. {
         let ending = if attempt == 0 { ".rows".to_string() } else { format!(".rows.{attempt}") };
@@ -173,7 +177,7 @@ fn link_beside(moving: &Moving, taken: Option<&Path>) -> io::Result<PathBuf> {
             Ok(()) => return Ok(beside),
             Err(cause) if cause.kind() == ErrorKind::AlreadyExists => {}
             Err(_) if fs::symlink_metadata(&beside).is_ok() => {}
-            Err(_) => return fs::copy(&moving.part, &beside).map(|_| beside),
+            Err(_) => return fs::rename(&moving.part, &beside).map(|()| beside),
         }
     }
     Err(ErrorKind::AlreadyExists.into())
