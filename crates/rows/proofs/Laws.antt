@@ -10,11 +10,12 @@ use mathlib.Core.Path.{_∙_, _≡_, ap, refl, subst, sym}
 use lib.Dec.{lit<, lit≤}
 use lib.IntN.{pos, ℤ}
 use lib.ListN.{length, length-map}
-use mir.Val.{bits}
 use Rattle.binary.proofs.Laws.{binary-cell-back, binary-fails, binary-less, binary2-cell-back, binary2-fails, binary2-fits, front-back, front-fails, front-is, front-less, length-pack, unpack-fails, unpack-pack, write-binary-fails}
 use Rattle.binary.specs.Binary.{bitBytes, content, contentBytes, countIn, front, pack, readBinary, readBinary2, shows, unpack}
-use Rattle.rows.specs.Contracts.{Bounded, Within}
-use Rattle.rows.specs.Stream.{Table, atEnd, bit, finished, flag, flagsLeft, isEmpty, isOne, read, readCell, readCells, readEnd, readF, readRow, readStart, row, rowThen, stopped, writeCell, writeCells, writeEnd, writeRow, writeStart}
+use Rattle.rows.proofs.Sequences.{AllRows, Stops, sequence-all, sequence-fuel, sequence-step, sequence-stops}
+use Rattle.rows.specs.Bounds.{Bounded, Within}
+use Rattle.rows.specs.Sequence.{finished, row, rowThen, sequence, sequenceF}
+use Rattle.rows.specs.Stream.{atEnd, bit, flag, flagsLeft, isEmpty, isOne, read, readCell, readCells, readEnd, readRow, readStart, writeCell, writeCells, writeEnd, writeRow, writeStart}
 use Rattle.table.proofs.Laws.{Numbered, all-weaken, bad-good, cond-cases, each-length, empty-fits, fails-as, fails-bind, fails-weaken, holds-any, holds-as, holds-at, holds-bind, holds-weaken, skip-le, tag-fails, tag-le}
 use Rattle.table.specs.All.{All, AreBytes}
 use Rattle.table.specs.Bytes.{after, ends, isWhite, skipWhite, tag}
@@ -223,41 +224,17 @@ pub row-less : (from : Rows) (cs : List Column) (s : List ℕ) → AreColumns cs
     → Holds (λ (p : List Cell × List ℕ). length (p .1) < length s) (readRow from cs s)
 row-less from cs s i = within-less from cs s (columns-within cs i)
 
--- ---- any bound that is large enough gives the same table
+-- ---- a stream is its first row and what the rest says
 
-at-end : (from : Rows) (s : List ℕ) → length s ≤ 0 → atEnd from s ≡ true
-unfolding atEnd isEmpty skipWhite
-at-end from [] h = elim from as (λ (r : Rows). atEnd r [] ≡ true) [ TableData ↦ refl | Binary ↦ refl | Binary2 ↦ refl ]
-at-end from (b ∷ s) h = absurd (not-suc-le-zero h)
-
-then-same : (r : Result Refusal (List Cell × List ℕ)) (m n : List ℕ → Table) → Holds (λ (p : List Cell × List ℕ). m (p .1) ≡ n (p .1)) r → rowThen r m ≡ rowThen r n
-unfolding rowThen
-then-same r m n (holds {a = p} h) = ap (row (p .0)) h
-then-same r m n refuses = refl
-
-module _ (from : Rows) (cs : List Column) (i : Within cs) where
-  within-fuel : (f g : ℕ) (s : List ℕ) → length s ≤ f → length s ≤ g → readF f from cs s ≡ readF g from cs s
-  unfolding readF
-  within-fuel zero zero s a b = refl
-  within-fuel zero (suc g) s a b = rw (at-end from s a)
-  within-fuel (suc f) zero s a b = rw (at-end from s b)
-  within-fuel (suc f) (suc g) s a b =
-      ap (cond (atEnd from s) finished)
-      (then-same (readRow from cs s) (λ rest. readF f from cs rest) (λ rest. readF g from cs rest)
-      (holds-weaken (within-less from cs s i) (λ p h. within-fuel f g (p .1) (omega arith) (omega arith))))
-
-  -- a stream is its first row and what the rest says
-  pub within-step : (s : List ℕ) → read from cs s ≡ cond (atEnd from s) finished (rowThen (readRow from cs s) (read from cs))
-  unfolding readF read
-  within-step s =
-      within-fuel (length s) (suc (length s)) s (le-refl _) (omega arith)
-      ∙ ap (cond (atEnd from s) finished)
-      (then-same (readRow from cs s) (λ rest. readF (length s) from cs rest) (read from cs)
-      (holds-weaken (within-less from cs s i) (λ p h. within-fuel (length s) (length (p .1)) (p .1) (omega arith) (le-refl _))))
+pub within-step : (from : Rows) (cs : List Column) → Within cs → (s : List ℕ) → read from cs s ≡ cond (atEnd from s) finished (rowThen (readRow from cs s) (read from cs))
+unfolding read
+within-step from cs i = sequence-step (atEnd from) (readRow from cs) (λ s. within-less from cs s i)
 
 module _ (from : Rows) (cs : List Column) (i : AreColumns cs) where
-  pub fuel : (f g : ℕ) (s : List ℕ) → length s ≤ f → length s ≤ g → readF f from cs s ≡ readF g from cs s
-  fuel = within-fuel from cs (columns-within cs i)
+  -- the bound on rows never ends a stream
+  pub fuel : (f : ℕ) (s : List ℕ) → length s < f → sequenceF f (atEnd from) (readRow from cs) s ≡ read from cs s
+  unfolding read
+  fuel = sequence-fuel (atEnd from) (readRow from cs) (λ s. row-less from cs s i)
 
   pub read-step : (s : List ℕ) → read from cs s ≡ cond (atEnd from s) finished (rowThen (readRow from cs s) (read from cs))
   read-step = within-step from cs (columns-within cs i)
@@ -296,16 +273,6 @@ newline-read Binary2 cs i s = refl
 
 -- ---- what is read fits its columns
 
-abbrev pub AllRows : (List Cell → Type 0) → Table → Type 0
-AllRows P finished = Unit {0}
-AllRows P (stopped n) = Unit {0}
-AllRows P (row xs more) = P xs × AllRows P more
-
-pub rows-weaken : (P Q : List Cell → Type 0) → ((xs : List Cell) → P xs → Q xs) → (t : Table) → AllRows P t → AllRows Q t
-rows-weaken P Q f finished h = tt
-rows-weaken P Q f (stopped n) h = tt
-rows-weaken P Q f (row xs t) h = (f xs (h .0), rows-weaken P Q f t (h .1))
-
 module _ (from : Rows) (P : Column → Cell → Type 0) (In : List ℕ → Type 0)
     (cell : (c : Column) (flagged : Bool) (s : List ℕ) → In s → Holds (λ (p : Cell × List ℕ). P c (p .0) × In (p .1)) (readCell from c flagged s))
     (start : (n : ℕ) (s : List ℕ) → In s → Holds (λ (p : List Bool × List ℕ). In (p .1)) (readStart from n s))
@@ -324,34 +291,25 @@ module _ (from : Rows) (P : Column → Cell → Type 0) (In : List ℕ → Type 
       holds-bind (cells-are cs (p .0) 0 (p .1) h) (λ x g.
       holds-bind (holds-as (at (length cs)) (stop (x .1) (g .1))) (λ t e. holds (g .0, e))))
 
-  then-is : (cs : List Column) (r : Result Refusal (List Cell × List ℕ)) (more : List ℕ → Table)
-      → Holds (λ (p : List Cell × List ℕ). Each P cs (p .0) × AllRows (Each P cs) (more (p .1))) r → AllRows (Each P cs) (rowThen r more)
-  unfolding rowThen
-  then-is cs r more (holds h) = h
-  then-is cs r more refuses = tt
-
-  table-is : (cs : List Column) (f : ℕ) (s : List ℕ) → In s → AllRows (Each P cs) (readF f from cs s)
-  unfolding readF
-  table-is cs zero s i = tt
-  table-is cs (suc f) s i =
-      cond-cases (AllRows (Each P cs)) (atEnd from s) finished (rowThen (readRow from cs s) (λ rest. readF f from cs rest)) (λ _. tt)
-      (λ _. then-is cs (readRow from cs s) (λ rest. readF f from cs rest) (holds-weaken (row-is cs s i) (λ p h. (h .0, table-is cs f (p .1) (h .1)))))
+  table-is : (cs : List Column) (s : List ℕ) → In s → AllRows (Each P cs) (read from cs s)
+  unfolding read
+  table-is cs s i = sequence-all (atEnd from) (readRow from cs) (Each P cs) In (row-is cs) s i
 
 pub read-fits : (from : Rows) (cs : List Column) (s : List ℕ) → AreBytes s → AllRows (FitsAll cs) (read from cs s)
 unfolding read readCell readStart readEnd readBinary
 read-fits TableData cs s a =
-    table-is TableData Fits (λ s. Unit {0}) (λ c f s i. holds-weaken (text-fits c s) (λ p h. (h .fits, tt))) (λ n s i. holds-any _) (λ s i. holds-any _) cs (length s) s tt
+    table-is TableData Fits (λ s. Unit {0}) (λ c f s i. holds-weaken (text-fits c s) (λ p h. (h .fits, tt))) (λ n s i. holds-any _) (λ s i. holds-any _) cs s tt
 read-fits Binary cs s a =
-    table-is Binary Fits AreBytes (λ c f s i. holds-bind (binary2-fits c false s i) (λ p h. holds (empty-fits c (p .0) (h .0), h .1))) (λ n s i. holds i) (λ s i. holds i) cs (length s) s a
+    table-is Binary Fits AreBytes (λ c f s i. holds-bind (binary2-fits c false s i) (λ p h. holds (empty-fits c (p .0) (h .0), h .1))) (λ n s i. holds i) (λ s i. holds i) cs s a
 read-fits Binary2 cs s a =
     table-is Binary2 Fits AreBytes (λ c f s i. binary2-fits c f s i)
-    (λ n s i. holds-bind (front-is (bitBytes n) s i) (λ p h. holds-bind (holds-any (unpack n (p .0))) (λ bits _. holds (h .2)))) (λ s i. holds i) cs (length s) s a
+    (λ n s i. holds-bind (front-is (bitBytes n) s i) (λ p h. holds-bind (holds-any (unpack n (p .0))) (λ bits _. holds (h .2)))) (λ s i. holds i) cs s a
 
 -- a cell that a text shows has a text again
 pub text-rows : (cs : List Column) (s : List ℕ) → AllRows (Each TextFits cs) (read TableData cs s)
 unfolding read readCell readStart readEnd
 text-rows cs s =
-    table-is TableData TextFits (λ s. Unit {0}) (λ c f s i. holds-weaken (text-fits c s) (λ p h. (h, tt))) (λ n s i. holds-any _) (λ s i. holds-any _) cs (length s) s tt
+    table-is TableData TextFits (λ s. Unit {0}) (λ c f s i. holds-weaken (text-fits c s) (λ p h. (h, tt))) (λ n s i. holds-any _) (λ s i. holds-any _) cs s tt
 
 -- ---- the numbers and columns of its refusals
 
@@ -411,24 +369,7 @@ pub write-row-fails : (to : Rows) (cs : List Column) (xs : List Cell) → Fails 
 unfolding writeRow
 write-row-fails to cs xs = fails-bind (fails-weaken (write-cells-fails to cs xs 0) (λ e h. (h .0, omega (arith, h .1)))) (λ b. gives)
 
--- how a stream stops: with a refusal of reading
-abbrev pub Stops : (Refusal → Type 0) → Table → Type 0
-Stops P finished = Unit {0}
-Stops P (stopped e) = P e
-Stops P (row xs more) = Stops P more
-
-stops-then : (P : Refusal → Type 0) (r : Result Refusal (List Cell × List ℕ)) (more : List ℕ → Table) → Fails P r → ((t : List ℕ) → Stops P (more t)) → Stops P (rowThen r more)
-unfolding rowThen
-stops-then P (good p) more f h = h (p .1)
-stops-then P (bad e) more (fails h) g = h
-
-stops-within : (from : Rows) (cs : List Column) (f : ℕ) (s : List ℕ) → Stops (Placed 8 13 (length cs)) (readF f from cs s)
-unfolding readF
-stops-within from cs zero s = tt
-stops-within from cs (suc f) s =
-    cond-cases (Stops (Placed 8 13 (length cs))) (atEnd from s) finished (rowThen (readRow from cs s) (λ rest. readF f from cs rest)) (λ _. tt)
-    (λ _. stops-then (Placed 8 13 (length cs)) (readRow from cs s) (λ rest. readF f from cs rest) (read-row-fails from cs s) (λ t. stops-within from cs f t))
-
+-- a stream stops with a refusal of reading
 pub read-stops : (from : Rows) (cs : List Column) (s : List ℕ) → Stops (Placed 8 13 (length cs)) (read from cs s)
-unfolding read
-read-stops from cs s = stops-within from cs (length s) s
+unfolding read at
+read-stops from cs s = sequence-stops (atEnd from) (readRow from cs) (Placed 8 13 (length cs)) ((lit≤ tt, lit≤ tt), zero-le) (read-row-fails from cs) s

@@ -1,10 +1,2 @@
+pub mod Sequences
 pub mod Laws
-pub mod Lists
-pub mod Holding
-pub mod Loops
-pub mod HeldForm
-pub mod Parts
-pub mod Grown
-pub mod Sizes
-pub mod Ways
-pub mod Calls

@@ -4,8 +4,8 @@ use mathlib.Core.Bool.{Bool, cond, false, true}
 use mathlib.Core.List.{List, [], _++_, _∷_, map}
 use lib.Dec.{ltb}
 use lib.ListN.{length}
-use mir.Val.{bits}
 use Rattle.binary.specs.Binary.{bitBytes, front, pack, readBinary, readBinary2, unpack, writeBinary, writeBinary2}
+use Rattle.rows.specs.Sequence.{Sequence, finished, row, sequence, stopped}
 use Rattle.table.specs.Bytes.{bytes, skipWhite, tag}
 use Rattle.table.specs.Cell.{Cell, isNull}
 use Rattle.table.specs.Outcome.{Outcome, Refusal, accepted, at, refused}
@@ -71,10 +71,8 @@ readRow from cs s = do
 
 -- ---- what a stream says: its rows, and how it ends
 
-pub data Table : Type 0 where
-  finished : Table
-  stopped : Refusal → Table
-  row : List Cell → Table → Table
+abbrev pub Table : Type 0
+Table = Sequence (List Cell)
 
 unfoldable pub isEmpty : List ℕ → Bool
 isEmpty [] = true
@@ -86,17 +84,14 @@ atEnd TableData s = isEmpty (skipWhite s)
 atEnd Binary s = isEmpty s
 atEnd Binary2 s = isEmpty s
 
-unfoldable pub rowThen : Result Refusal (List Cell × List ℕ) → (List ℕ → Table) → Table
-rowThen (good p) more = row (p .0) (more (p .1))
-rowThen (bad r) more = stopped r
-
--- the first number bounds the rows: each takes at least a byte
-unfoldable pub readF : ℕ → Rows → List Column → List ℕ → Table
-readF zero from cs s = finished
-readF (suc f) from cs s = cond (atEnd from s) finished (rowThen (readRow from cs s) (λ rest. readF f from cs rest))
-
 unfoldable pub read : Rows → List Column → List ℕ → Table
-read from cs s = readF (length s) from cs s
+read from cs s = sequence (atEnd from) (readRow from cs) s
+
+-- a stream whose rows are only passed over: how many there are from row r on, or the refusal of the first that does not read
+unfoldable pub passed : ℕ → Table → Outcome
+passed r finished = accepted r []
+passed r (stopped e) = refused e r []
+passed r (row xs more) = passed (r + 1) more
 
 -- ---- writing a row
 

@@ -1,0 +1,4 @@
+pub mod Lists
+pub mod Holding
+pub mod Measuring
+pub mod Converting

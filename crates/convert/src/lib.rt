@@ -1,0 +1,391 @@
+// Rows of one kind to rows of another: a loop over rows with a loop over columns inside.
+use fields::declare;
+use flags::add_flag;
+use row_reading::Begin;
+use row_reading::Close;
+use row_reading::at_end;
+use row_reading::begin_row;
+use row_reading::end_row;
+use row_reading::flag_of;
+use row_reading::read_cell;
+use row_writing::Holding;
+use row_writing::frame_size;
+use row_writing::put_row;
+use row_writing::size_cell;
+use table::Answer;
+use table::Column;
+use table::Columns;
+use table::Found;
+use table::Rows;
+use table::Size;
+ghost use mathlib.Core.Path.{_≡_};
+ghost use Prim.Native.Nat.{_+_, _<_, _^_, _≤_};
+ghost use lib.ListN.{drop, length};
+ghost use Rattle.table.specs.Cell.{bound};
+ghost use Rattle.table.specs.Contracts.{sizeAs};
+ghost use Rattle.table.specs.Outcome.{answerOf, at, bufferOf};
+ghost use Rattle.table.specs.Result.{refusedAs};
+ghost use Rattle.fields.specs.Contracts.{listed};
+ghost use Rattle.row_writing.specs.Contracts.{SizeWithin};
+ghost use Rattle.rows.specs.Bounds.{Within};
+ghost use Rattle.rows.specs.Convert.{Converts};
+ghost use Rattle.rows.specs.Stream.{readCell, run};
+ghost use Rattle.convert.specs.Contracts.{FormWithin, GrownBy, MeasuredBy, addedTo, formAs, heldWith, placeOf};
+
+// A place in the input, where the next row begins.
+struct Cursor {
+    at: usize,
+}
+
+impl Cursor {
+    fn start() -> Self
+        ensures { λ r. ⌜ r .at ≡ 0 ⌝ }
+    {
+        Cursor { at: 0 }
+    }
+
+    // The state after a row that ends at `next`.
+    fn after(self, next: usize) -> Cursor
+        ensures { λ r. ⌜ r .at ≡ next ⌝ }
+    {
+        Cursor { at: next }
+    }
+}
+
+// The rows done and the bytes written.
+struct Progress {
+    rows: u64,
+    bytes: usize,
+}
+
+impl Progress {
+    fn start() -> Self
+        ensures { λ r. ⌜ (r .rows ≡ 0) × (r .bytes ≡ 0) ⌝ }
+    {
+        Progress { rows: 0, bytes: 0 }
+    }
+
+    // The state after a row that took `size` bytes of the output.
+    fn after(self, size: usize) -> Progress
+        requires { ⌜ (self .bytes + size < 2 ^ 64) × (self .rows + 1 < 2 ^ 64) ⌝ }
+        ensures { λ r. ⌜ (r .rows ≡ self .rows + 1) × (r .bytes ≡ self .bytes + size) ⌝ }
+    {
+        Progress {
+            rows: self.rows + 1,
+            bytes: self.bytes + size,
+        }
+    }
+}
+
+// What a row will be written as, so far: the bytes of its cells, or the first refusal in writing with its column.
+enum Form {
+    Bytes(usize),
+    Refused(u64, usize),
+}
+
+// A row while it is measured: its null cells as a word of flags, what its cells will be written as, and what of them the scratch holds.
+struct Measured {
+    nulls: u64,
+    form: Form,
+    holding: Holding,
+}
+
+// A cell more: where it ends, and the row with it; or the number of its refusal.
+enum Turn {
+    Next(usize, Measured),
+    Refused(u64),
+}
+
+// What stops the loop over rows: a refusal's number, row and column, as the answer has them; all are 0 where no row is left.
+struct Stop {
+    number: u64,
+    row: u64,
+    column: usize,
+}
+
+// How many elements a cell has at most, and what the scratch holds: cells while a cell of any size has room behind them.
+const MOST_ELEMENTS: usize = 4096;
+
+const SCRATCH: usize = 8192;
+
+// What stands in the scratch for a cell that is null, in the place of its count.
+const NULL: i64 = -1;
+
+// ---- a cell of a row
+
+// Where the next cell is held: behind those that are, while a cell of any size has room there.
+fn place_for(holding: Holding) -> usize
+    ensures { λ r. ⌜ (r ≡ placeOf holding) × (r < 4096) ⌝ }
+{
+    match holding {
+        Holding::Holds(n) => { if n < MOST_ELEMENTS { n } else { 0 } }
+        Holding::Lost => 0,
+    }
+}
+
+// What is held with a cell of n elements more.
+fn held_with(holding: Holding, n: usize) -> Holding
+    requires { ⌜ n ≤ 4096 ⌝ }
+    ensures { λ r. ⌜ r ≡ heldWith holding n ⌝ }
+{
+    match holding {
+        Holding::Holds(h) => {
+            if h < MOST_ELEMENTS {
+                Holding::Holds(h + 1 + n)
+            } else {
+                Holding::Lost
+            }
+        }
+        Holding::Lost => Holding::Lost,
+    }
+}
+
+// What column i's cell takes, added; the first refusal stays.
+fn added(form: Form, i: usize, size: Size) -> Form
+    requires { ⌜ FormWithin i form × (i < 64) × SizeWithin size ⌝ }
+    ensures { λ r. ⌜ (formAs r ≡ addedTo (formAs form) (refusedAs (at i) (sizeAs size))) × FormWithin (i + 1) r ⌝ }
+{
+    match form {
+        Form::Bytes(m) => match size {
+            Size::Bytes(n) => Form::Bytes(m + n),
+            Size::NoForm(k) => Form::Refused(k, i),
+        },
+        Form::Refused(k, j) => Form::Refused(k, j),
+    }
+}
+
+impl Measured {
+    fn start() -> Self
+        ensures { λ r. ⌜ r ≡ record { nulls = 0; form = Form.Bytes 0; holding = Holding.Holds 0 } ⌝ }
+    {
+        Measured {
+            nulls: 0,
+            form: Form::Bytes(0),
+            holding: Holding::Holds(0),
+        }
+    }
+
+    // One more cell: column i's, null or not, of n elements, which takes so much.
+    fn after(self, i: usize, null: bool, n: usize, size: Size) -> Measured
+        requires { ⌜ FormWithin i (self .form) × (i < 64) × SizeWithin size × (n ≤ 4096) ⌝ }
+        ensures { λ q. ⌜ GrownBy i null n size self q ⌝ }
+    {
+        let word = self.nulls;
+        let so_far = self.form;
+        let held = self.holding;
+        let nulls = add_flag(word, i, null);
+        let form = added(so_far, i, size);
+        let holding = held_with(held, n);
+        Measured {
+            nulls,
+            form,
+            holding,
+        }
+    }
+}
+
+// Reads column i's cell into the scratch, holds it there, and says what it will take.
+fn measure(
+    at: usize,
+    m: Measured,
+    i: usize,
+    from: Rows,
+    to: Rows,
+    column: Column,
+    flagged: bool,
+    s: &[u8],
+    scratch: &mut [i64],
+) -> Turn
+    requires { ⌜ (at ≤ length (now s)) × (i < 64) × FormWithin i (m .form) × (bound (column .len) ≤ 4096) × (8192 ≤ length (now scratch)) ⌝ }
+    ensures { λ t. ⌜ MeasuredBy to column i (readCell from column flagged (drop at (now (s .entry)))) (now (s .entry)) at m (now (scratch .entry)) (now (scratch .exit)) t ⌝ }
+    ensures { λ _. ⌜ length (now (scratch .exit)) ≡ length (now (scratch .entry)) ⌝ }
+{
+    let holding = m.holding;
+    let place = place_for(holding);
+    let first = place + 1;
+    let found = read_cell(from, s, at, column, flagged, &mut scratch[first..]);
+    match found {
+        Found::Refused(n) => Turn::Refused(n),
+        Found::Null(next) => {
+            scratch[place] = NULL;
+            let size = size_cell(to, column, true, 0, scratch);
+            Turn::Next(next, m.after(i, true, 0, size))
+        }
+        Found::Shown(n, next) => {
+            scratch[place] = n as i64;
+            let size = size_cell(to, column, false, n, &scratch[first..]);
+            Turn::Next(next, m.after(i, false, n, size))
+        }
+    }
+}
+
+// ---- the converter
+
+// The rows of the input: a loop over rows with a loop over columns inside, left by label at the first refusal with its row and column.
+fn convert_rows(
+    cols: Columns,
+    from: Rows,
+    to: Rows,
+    s: &[u8],
+    out: &mut [u8],
+    scratch: &mut [i64],
+) -> Answer
+    requires { ⌜ Within (listed cols) × (8192 ≤ length (now scratch)) ⌝ }
+    ensures { λ r. ⌜ r ≡ answerOf (run from to (listed cols) (length (now (out .entry))) (now (s .entry))) ⌝ }
+    ensures { λ _. ⌜ now (out .exit) ≡ bufferOf (run from to (listed cols) (length (now (out .entry))) (now (s .entry))) (now (out .entry)) ⌝ }
+{
+    let count = cols.count;
+    let around = frame_size(to, count);
+    let mut cursor = Cursor::start();
+    let mut p = Progress::start();
+    let mut stop = Stop {
+        number: 0,
+        row: 0,
+        column: 0,
+    };
+    'rows: while !at_end(from, s, cursor.at) {
+        let start = cursor.at;
+        let b = begin_row(from, s, start, count);
+        let flags: u64;
+        let body: usize;
+        match b {
+            Begin::Refused(n) => {
+                stop = Stop {
+                    number: n,
+                    row: p.rows,
+                    column: 0,
+                };
+                break 'rows;
+            }
+            Begin::Row(f, a) => {
+                flags = f;
+                body = a;
+            }
+        }
+        let mut at = body;
+        let mut m = Measured::start();
+        let mut i: usize = 0;
+        while i < count {
+            let c = cols.list[i];
+            let flagged = flag_of(from, flags, count, i);
+            let t = measure(at, m, i, from, to, c, flagged, s, scratch);
+            match t {
+                Turn::Refused(n) => {
+                    stop = Stop {
+                        number: n,
+                        row: p.rows,
+                        column: i,
+                    };
+                    break 'rows;
+                }
+                Turn::Next(a, q) => {
+                    at = a;
+                    m = q;
+                }
+            }
+            i += 1;
+        }
+        let e = end_row(from, s, at);
+        let next: usize;
+        match e {
+            Close::Refused(n) => {
+                stop = Stop {
+                    number: n,
+                    row: p.rows,
+                    column: count,
+                };
+                break 'rows;
+            }
+            Close::Closed(a) => {
+                next = a;
+            }
+        }
+        let form = m.form;
+        let cells: usize;
+        match form {
+            Form::Refused(n, k) => {
+                stop = Stop {
+                    number: n,
+                    row: p.rows,
+                    column: k,
+                };
+                break 'rows;
+            }
+            Form::Bytes(n) => {
+                cells = n;
+            }
+        }
+        let size = around + cells;
+        let room = out.len() - p.bytes;
+        if room < size {
+            stop = Stop {
+                number: 17,
+                row: p.rows,
+                column: 0,
+            };
+            break 'rows;
+        }
+        let nulls = m.nulls;
+        let holding = m.holding;
+        put_row(
+            cols,
+            from,
+            to,
+            s,
+            flags,
+            body,
+            nulls,
+            holding,
+            out,
+            p.bytes,
+            scratch,
+        );
+        cursor = cursor.after(next);
+        p = p.after(size);
+    }
+    Answer {
+        number: stop.number,
+        row: stop.row,
+        column: stop.column as u64,
+        rows: p.rows,
+        bytes: p.bytes as u64,
+    }
+}
+
+// Rows under a column list.
+pub fn convert_columns(cols: Columns, from: Rows, to: Rows, s: &[u8], out: &mut [u8]) -> Answer
+    requires { ⌜ Within (listed cols) ⌝ }
+    ensures { λ r. ⌜ r ≡ answerOf (run from to (listed cols) (length (now (out .entry))) (now (s .entry))) ⌝ }
+    ensures { λ _. ⌜ now (out .exit) ≡ bufferOf (run from to (listed cols) (length (now (out .entry))) (now (s .entry))) (now (out .entry)) ⌝ }
+{
+    let mut scratch = [0i64; SCRATCH];
+    convert_rows(cols, from, to, s, out, &mut scratch)
+}
+
+// Rows of one kind to rows of another: the declarations first, then the input's size, then the rows.
+pub fn convert(decls: &[u8], from: Rows, to: Rows, input: &[u8], out: &mut [u8]) -> Answer
+    ensures { λ r. ⌜ Converts (now (decls .entry)) from to (now (input .entry)) (now (out .entry)) r (now (out .exit)) ⌝ }
+{
+    let d = declare(decls);
+    let number = d.number;
+    if number != 0 {
+        return Answer {
+            number,
+            row: 0,
+            column: d.place as u64,
+            rows: 0,
+            bytes: 0,
+        };
+    }
+    if 1073741824 < input.len() {
+        return Answer {
+            number: 6,
+            row: 0,
+            column: 0,
+            rows: 0,
+            bytes: 0,
+        };
+    }
+    let cols = d.columns;
+    convert_columns(cols, from, to, input, out)
+}

@@ -1,0 +1,4 @@
+pub mod Ways
+pub mod CellsFit
+pub mod Parts
+pub mod PassedRows

@@ -1,0 +1,43 @@
+-- Rows that are passed over, one after the other: the count for the whole stream is the count of going on from here. Cited by pass_rows.
+use Prim.Native.Nat.{_+_, _<_, _≤_, ℕ}
+use native.Mathlib.Omega.{arith}
+use mathlib.Core.Bool.{cond, false, true}
+use mathlib.Core.List.{List}
+use mathlib.Core.Path.{_∙_, _≡_, ap, refl}
+use lib.ListN.{drop, length}
+use Rattle.rows.proofs.Laws.{within-step}
+use Rattle.rows.specs.Bounds.{Within}
+use Rattle.rows.specs.Sequence.{rowThen}
+use Rattle.rows.specs.Stream.{atEnd, passed, read, readRow}
+use Rattle.table.specs.Cell.{Cell}
+use Rattle.table.specs.Outcome.{Outcome, accepted, answerOf, at, refused}
+use Rattle.table.specs.Result.{bad, good}
+use Rattle.table.specs.declared.Column.{Column}
+use Rattle.table.specs.declared.Rows.{Rows}
+
+pub record RowsPassed (from : Rows) (cols : List Column) (s : List ℕ) (place rows : ℕ) : Type 0 where
+  pub inside : place ≤ length s
+  pub fewer : rows ≤ place
+  pub ahead : passed 0 (read from cols s) ≡ passed rows (read from cols (drop place s))
+
+module _ (from : Rows) (cols : List Column) (s : List ℕ) where
+  pub pass-start : RowsPassed from cols s 0 0
+  pass-start = record { inside = omega arith; fewer = omega arith; ahead = refl }
+
+  module _ (are : Within cols) (place rows : ℕ) (inv : RowsPassed from cols s place rows) where
+    pub pass-end : atEnd from (drop place s) ≡ true → record { number = 0; row = 0; column = 0; rows = rows; bytes = 0 } ≡ answerOf (passed 0 (read from cols s))
+    unfolding answerOf passed
+    pass-end h = rw (inv .ahead, within-step from cols are (drop place s), h)
+
+    module _ (more : atEnd from (drop place s) ≡ false) where
+      pub pass-stop : (n k : ℕ) → readRow from cols (drop place s) ≡ bad (at k n) → record { number = n; row = rows; column = k; rows = rows; bytes = 0 } ≡ answerOf (passed 0 (read from cols s))
+      unfolding answerOf passed rowThen at
+      pass-stop n k e = rw (inv .ahead, within-step from cols are (drop place s), more, e)
+
+      pub pass-more : (xs : List Cell) (next : ℕ) → readRow from cols (drop place s) ≡ good (xs, drop next s) → place < next → next ≤ length s → RowsPassed from cols s next (rows + 1)
+      unfolding passed rowThen
+      pass-more xs next e lo hi = record {
+        inside = hi;
+        fewer = omega (arith, inv .fewer);
+        ahead = inv .ahead ∙ rw (within-step from cols are (drop place s), more, e);
+      }

@@ -1,0 +1,38 @@
+-- How long what begins a row is, by the kind of rows.
+use Prim.Native.Nat.{_≤_}
+use mathlib.Core.Path.{refl}
+use lib.Dec.{lit≤}
+use Rattle.row_writing.specs.Contracts.{startBytes}
+use Rattle.tabledata.specs.TableData.{open-TR}
+use Rattle.row_writing.proofs.Sizes.{start-length-binary2}
+use native.Mathlib.Omega.{arith}
+use borrow.Author.Needs.{needs}
+use Rattle.row_writing.proofs.start_size.Statement.{statement}
+use Rattle.row_writing.proofs.start_size.Tie as tie
+
+enum-told : tie.Need-enum-told
+enum-told c = search needs
+
+enum-told-2 : tie.Need-enum-told-2
+enum-told-2 c = search needs
+
+enum-told-3 : tie.Need-enum-told-3
+enum-told-3 c = search needs
+
+add-result : tie.Need-add-result
+add-result c = search needs
+
+returns : tie.Need-returns
+unfolding startBytes open-TR
+returns c = rw (c .enum-told .given .1) (lit≤ tt, λ nulls. refl)
+
+returns-2 : tie.Need-returns-2
+unfolding startBytes
+returns-2 c = rw (c .enum-told2 .given .1) (lit≤ tt, λ nulls. refl)
+
+returns-3 : tie.Need-returns-3
+returns-3 c = rw (c .enum-told3 .given .1) (omega (arith, c .before .before .pre), start-length-binary2 _)
+
+pub start-size-spec : {M : Type 1} → statement M
+start-size-spec =
+    tie.close (tie.spec enum-told enum-told-2 enum-told-3 add-result returns returns-2 returns-3)
