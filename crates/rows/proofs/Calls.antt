@@ -5,11 +5,12 @@ use mathlib.Core.List.{List, []}
 use mathlib.Core.Path.{_∙_, _≡_, ap, refl, sym}
 use lib.ListN.{length}
 use borrow.Author.Tests.{le-ltb, lt-ltb}
-use Rattle.fields.proofs.Answers.{listed-holding}
+use Rattle.table.proofs.ColumnList.{listed-holding}
 use Rattle.fields.proofs.Refusals.{AtPlace, declare-fails}
-use Rattle.fields.specs.Contracts.{answered, listed}
+use Rattle.declaring.specs.Contracts.{answered}
+use Rattle.table.specs.ColumnList.{listed}
 use Rattle.fields.specs.Fields.{declare}
-use Rattle.fields.specs.declared.Declared.{Declared}
+use Rattle.declaring.specs.declared.Declared.{Declared}
 use Rattle.rows.specs.Convert.{Converts, convert, converting, runSized, underColumns}
 use Rattle.rows.specs.Stream.{run}
 use Rattle.table.specs.Outcome.{Call, Refusal, answerOf, at, bufferOf, ending, mostInput, refused, written}

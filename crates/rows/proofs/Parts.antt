@@ -10,8 +10,8 @@ use lib.ListN.{drop, getD, length, length-append, length-drop, take-append-drop}
 use borrow.Author.Tests.{leb-true}
 use lib.Seq.{sets}
 use Rattle.binary.specs.Binary.{pack}
-use Rattle.fields.proofs.Answers.{listed-next}
-use Rattle.fields.specs.Contracts.{listed, noColumn}
+use Rattle.table.proofs.ColumnList.{listed-next}
+use Rattle.table.specs.ColumnList.{listed, noColumn}
 use Rattle.number.proofs.Places.{wrote-then}
 use Rattle.number.specs.Number.{toDigits}
 use Rattle.rows.proofs.Holding.{HeldInv, heldRow}

@@ -10,7 +10,7 @@ use lib.ListN.{drop, length, take}
 use lib.Seq.{sets}
 use Rattle.binary.specs.Binary.{pack, writeBinary, writeBinary2}
 use Rattle.flags.specs.Contracts.{flagBit}
-use Rattle.fields.specs.Contracts.{listed}
+use Rattle.table.specs.ColumnList.{listed}
 use Rattle.number.specs.Number.{toDigits}
 use Rattle.rows.specs.Stream.{bit, flag, flagsLeft, isOne, readCell, readEnd, readStart, writeCell, writeEnd}
 use Rattle.rows.specs.declared.Begin.{Begin}

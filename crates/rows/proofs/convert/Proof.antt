@@ -5,14 +5,14 @@ use Rattle.rows.proofs.Calls.{undeclared, declared-are, oversized, rows
 use Rattle.fields.proofs.Laws.{declare-is}
 use Rattle.table.proofs.Laws.{holds-at}
 use Rattle.table.specs.Outcome.{mostInput}
-use Rattle.fields.specs.Contracts.{listed}
+use Rattle.table.specs.ColumnList.{listed}
 use native.Mathlib.Omega.{arith}
 use borrow.Author.Needs.{needs}
 use Rattle.rows.proofs.convert.Statement.{statement}
 use Rattle.rows.proofs.convert.Tie as tie
 use Rattle.rows.proofs.convert.Reads as reads
 use Rattle.rows.proofs.convert.Lts as lts
-use Rattle.fields.proofs.declare.Reads as declare-reads
+use Rattle.declaring.proofs.declare.Reads as declare-reads
 use Rattle.rows.proofs.convert_rows.Reads as convert-rows-reads
 
 declare-requires : tie.Need-declare-requires

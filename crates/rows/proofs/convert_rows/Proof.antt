@@ -12,7 +12,7 @@ use denote.Ref.{now}
 use native.Mathlib.Omega.{arith}
 use Rattle.table.specs.Result.{good}
 use Rattle.table.specs.Outcome.{at}
-use Rattle.fields.specs.Contracts.{listed, noColumn}
+use Rattle.table.specs.ColumnList.{listed, noColumn}
 use Rattle.table.specs.declared.Columns.{Columns}
 use Rattle.table.specs.declared.Rows.{Rows}
 use Rattle.rows.specs.declared.Close.{Close}
@@ -21,7 +21,7 @@ use Rattle.rows.specs.Stream.{atEnd, readRow, readCells, writeRow, write
 use Rattle.rows.specs.Contracts.{flagsIn, startBytes, rowBytes, putForm, Closes, Within}
 use Rattle.rows.proofs.Loops.{ReadInv, RowsInv, rows-start, read-start, read-held, read-unheld, read-stop, read-more, read-end, acceptance, read-refused, write-refused, room-refused, row-done}
 use Rattle.rows.proofs.Holding.{HeldInv}
-use Rattle.fields.proofs.Answers.{listed-length, listed-next}
+use Rattle.table.proofs.ColumnList.{listed-length, listed-next}
 use Rattle.rows.proofs.Parts.{listed-bound, row-unbegun, begun-within, row-stopped, row-open, row-closed, closed-within, row-onward, row-cannot, cells, cells-length, row-wrote, cells-form, cells-put, held-bounds}
 use Rattle.rows.proofs.convert_rows.Statement.{statement}
 use Rattle.rows.proofs.convert_rows.Tie as tie

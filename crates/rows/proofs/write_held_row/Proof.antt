@@ -10,8 +10,8 @@ use lib.Seq.{length-sets, sets}
 use native.Mathlib.Numerals.{add-one}
 use denote.Ref.{now}
 use native.Mathlib.Omega.{arith}
-use Rattle.fields.proofs.Answers.{listed-length, listed-next}
-use Rattle.fields.specs.Contracts.{listed, noColumn}
+use Rattle.table.proofs.ColumnList.{listed-length, listed-next}
+use Rattle.table.specs.ColumnList.{listed, noColumn}
 use Rattle.rows.proofs.HeldForm.{no-flag}
 use Rattle.rows.proofs.Loops.{WriteInv, write-fits, write-more, write-start, written-end, written-to}
 use Rattle.rows.proofs.Parts.{listed-bound, row-bytes-length, row-stored}

@@ -6,13 +6,13 @@ use lib.ListN.{length, drop, getD}
 use lib.Seq.{sets, length-sets}
 use denote.Ref.{now}
 use native.Mathlib.Omega.{arith}
-use Rattle.fields.specs.Contracts.{listed, noColumn}
+use Rattle.table.specs.ColumnList.{listed, noColumn}
 use Rattle.rows.specs.Stream.{writeEnd}
 use Rattle.rows.specs.Contracts.{flagsIn, readForm, startBytes}
 use Rattle.rows.specs.Stream.{readCell}
 use Rattle.rows.proofs.Loops.{WriteInv, write-start, write-fits, write-more, written-end, written-to}
 use Rattle.tabledata_writing.proofs.Writing.{wrote-long}
-use Rattle.fields.proofs.Answers.{listed-length, listed-next}
+use Rattle.table.proofs.ColumnList.{listed-length, listed-next}
 use Rattle.rows.proofs.Parts.{listed-bound, row-bytes-length, row-stored}
 use Rattle.rows.proofs.write_row.Statement.{statement}
 use Rattle.rows.proofs.write_row.Tie as tie

@@ -1,0 +1,139 @@
+// The attributes of a tag. A value is known by where it stands.
+ghost use mathlib.Core.Path.{_≡_};
+ghost use Prim.Native.Nat.{_<_, _≤_};
+ghost use lib.ListN.{drop, length};
+ghost use Rattle.fields.specs.Fields.{readValue};
+ghost use Rattle.declaring.specs.Readers.{AttributesIs, QuotedIs, assigned, isQuote, metAgain, withAttribute};
+use crate::spans::Class;
+use crate::spans::Place;
+use crate::spans::ends;
+use crate::spans::is_word;
+use crate::spans::span_end;
+
+// A value as written: where it begins and where it ends.
+pub enum Value {
+    Absent,
+    Present(usize, usize),
+}
+
+// How often an attribute was met, and its value if once.
+pub enum Met {
+    Never,
+    Once(usize, usize),
+    Often,
+}
+
+// The attributes that count in some tag; all others are skipped.
+pub struct Tally {
+    pub datatype: Met,
+    pub arraysize: Met,
+    pub null: Met,
+}
+
+// The attributes of a tag, and the place behind them.
+pub enum Attributes {
+    Broken,
+    Tallied(Tally, usize),
+}
+
+fn is_quote(c: u8) -> bool
+    ensures { λ r. ⌜ r ≡ isQuote c ⌝ }
+{
+    match c {
+        34 | 39 => true,
+        _ => false,
+    }
+}
+
+// The value that a quote at `from` opens.
+fn read_quoted(s: &[u8], from: usize) -> Value
+    requires { ⌜ from < length (now s) ⌝ }
+    ensures { λ r. ⌜ QuotedIs (now (s .entry)) from (readValue (drop from (now (s .entry)))) r ⌝ }
+{
+    let quote = s[from];
+    if !is_quote(quote) {
+        return Value::Absent;
+    }
+    let end = span_end(s, from + 1, Class::Quoted(quote));
+    if s.len() <= end {
+        return Value::Absent;
+    }
+    if s[end] == quote {
+        return Value::Present(from + 1, end);
+    }
+    Value::Absent
+}
+
+// `=` and the value behind it.
+fn read_value(s: &[u8], at: usize) -> Value
+    requires { ⌜ at ≤ length (now s) ⌝ }
+    ensures { λ r. ⌜ QuotedIs (now (s .entry)) at (assigned (drop at (now (s .entry)))) r ⌝ }
+{
+    let Place::At(i) = ends(s, at, b"=") else {
+        return Value::Absent;
+    };
+    let from = span_end(s, i, Class::White);
+    if from < s.len() {
+        return read_quoted(s, from);
+    }
+    Value::Absent
+}
+
+fn met_again(m: Met, counts: bool, start: usize, end: usize) -> Met
+    ensures { λ r. ⌜ r ≡ metAgain counts m start end ⌝ }
+{
+    if counts {
+        match m {
+            Met::Never => Met::Once(start, end),
+            Met::Once(_, _) => Met::Often,
+            Met::Often => Met::Often,
+        }
+    } else {
+        m
+    }
+}
+
+fn with_attribute(t: Tally, name: &[u8], start: usize, end: usize) -> Tally
+    ensures { λ r. ⌜ r ≡ withAttribute t (now (name .entry)) start end ⌝ }
+{
+    let d = t.datatype;
+    let a = t.arraysize;
+    let n = t.null;
+    let datatype = met_again(d, is_word(name, b"datatype"), start, end);
+    let arraysize = met_again(a, is_word(name, b"arraysize"), start, end);
+    let null = met_again(n, is_word(name, b"null"), start, end);
+    Tally {
+        datatype,
+        arraysize,
+        null,
+    }
+}
+
+pub fn read_attributes(s: &[u8], from: usize) -> Attributes
+    requires { ⌜ from ≤ length (now s) ⌝ }
+    ensures { λ r. ⌜ AttributesIs (now (s .entry)) from r ⌝ }
+{
+    let mut at = from;
+    let mut t = Tally {
+        datatype: Met::Never,
+        arraysize: Met::Never,
+        null: Met::Never,
+    };
+    loop {
+        let name = span_end(s, at, Class::White);
+        let name_end = span_end(s, name, Class::Name);
+        if name == at {
+            return Attributes::Tallied(t, at);
+        }
+        if name_end == name {
+            return Attributes::Tallied(t, at);
+        }
+        match read_value(s, name_end) {
+            Value::Absent => return Attributes::Broken,
+            Value::Present(start, end) => {
+                t = with_attribute(t, &s[name..name_end], start, end);
+                at = end + 1;
+            }
+        }
+    }
+}
