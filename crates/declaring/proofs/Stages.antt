@@ -7,19 +7,19 @@ use mathlib.Core.Path.{_∙_, _≡_, ap, refl, sym}
 use lib.Dec.{eqb}
 use lib.ListN.{drop, length, length-append, length-replicate, replicate, set}
 use borrow.Author.Tests.{eq-eqb, le-ltb, lt-ltb, ne-eqb}
-use Rattle.declaring.proofs.spans.Scan.{done, next1, skip-at}
 use Rattle.declaring.specs.Contracts.{answered}
 use Rattle.table.specs.ColumnList.{holding, noColumn}
-use Rattle.declaring.specs.Readers.{FieldIs, SpanEnd, elementOf}
+use Rattle.declaring.specs.Readers.{FieldIs, elementOf}
 use Rattle.fields.specs.Fields.{declare, fieldsF, fieldsThen, judge, readField}
-use Rattle.declaring.specs.declared.spans.Class.the-variants as of-class
 use Rattle.declaring.specs.declared.Declared.{Declared}
 use Rattle.declaring.specs.declared.elements.Element.{Element}
 use Rattle.declaring.specs.declared.elements.FieldRead.the-variants as of-field
+use Rattle.table.proofs.Places.{done, next1}
 use Rattle.table.specs.Outcome.{Refusal, at, mostDeclarations}
 use Rattle.table.specs.Result.{Result, _>>=_, bad, good, refusedAs}
 use Rattle.table.specs.declared.Column.{Column}
 use Rattle.table.specs.declared.Columns.{Columns}
+use Rattle.text.specs.Contracts.{Skipped}
 
 abbrev pub behind : List Column → List Column → Result Refusal (List Column)
 behind cs ds = good (cs ++ ds)
@@ -50,13 +50,13 @@ pub too-long : (s : List ℕ) → 65536 < length s → declare s ≡ bad (at 0 6
 unfolding declare mostDeclarations
 too-long s h = rw (lt-ltb 65536 (length s) h)
 
-pub stage-start : (s : List ℕ) (place : ℕ) (columns : Columns) → length s ≤ 65536 → SpanEnd of-class.White s 0 place → columns ≡ holding [] → Stage s place 0 columns
+pub stage-start : (s : List ℕ) (place : ℕ) (columns : Columns) → length s ≤ 65536 → Skipped s 0 place → columns ≡ holding [] → Stage s place 0 columns
 unfolding declare mostDeclarations fieldsF
 stage-start s place columns h white e = record {
   so-far = [];
   counted = refl;
   stored = ap (λ (x : Columns). x .list) e;
-  onward = rw (le-ltb 65536 (length s) h) (rw (skip-at s 0 place white) (alone (fieldsThen 0 (drop place s) (rest 0))));
+  onward = rw (le-ltb 65536 (length s) h) (rw (white .rest) (alone (fieldsThen 0 (drop place s) (rest 0))));
 }
   where
     alone : (r : Result Refusal (List Column)) → r ≡ (r >>= behind [])
@@ -71,11 +71,11 @@ field-then : (s : List ℕ) (place k : ℕ) (more : List ℕ → Result Refusal 
 unfolding fieldsThen
 field-then s place k more h = rw (next1 s place h)
 
-rest-next : (s : List ℕ) (k from next : ℕ) → k ≤ 64 → SpanEnd of-class.White s from next → rest k (drop from s) ≡ fieldsThen (k + 1) (drop next s) (rest (k + 1))
+rest-next : (s : List ℕ) (k from next : ℕ) → k ≤ 64 → Skipped s from next → rest k (drop from s) ≡ fieldsThen (k + 1) (drop next s) (rest (k + 1))
 unfolding fieldsF
 rest-next s k from next h white =
     let q : 65 - k ≡ suc (65 - (k + 1)) = omega arith in
-    ap (λ (n : ℕ). fieldsF n (k + 1) (drop from s)) q ∙ rw (skip-at s from next white)
+    ap (λ (n : ℕ). fieldsF n (k + 1) (drop from s)) q ∙ rw (white .rest)
 
 join : (r : Result Refusal (List Column)) (c : Column) (cs : List Column) → ((r >>= λ ds. good (c ∷ ds)) >>= behind cs) ≡ (r >>= behind (cs ++ (c ∷ [])))
 join (good ds) c cs = ap good (sym (append-assoc cs (c ∷ []) ds))
@@ -93,7 +93,7 @@ module _ (s : List ℕ) (place k : ℕ) (columns : Columns) (g : Stage s place k
       pub stage-full : k ≡ 64 → declare s ≡ bad (at 64 5)
       stage-full q = g .onward ∙ rw (field-then s place k (rest k) h) (rw (f .rest, j, eq-eqb k 64 q))
 
-      pub stage-more : (next : ℕ) (now : Columns) → k ≤ 64 → (k ≡ 64 → ⊥) → SpanEnd of-class.White s (e .next) next → now .list ≡ set (columns .list) k c → Stage s next (k + 1) now
+      pub stage-more : (next : ℕ) (now : Columns) → k ≤ 64 → (k ≡ 64 → ⊥) → Skipped s (e .next) next → now .list ≡ set (columns .list) k c → Stage s next (k + 1) now
       unfolding elementOf
       stage-more next now l n white w = record {
         so-far = g .so-far ++ (c ∷ []);

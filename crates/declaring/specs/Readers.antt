@@ -1,6 +1,6 @@
 -- What the private functions answer, in the terms of Fields: the code knows a value by where it stands, the definitions by its bytes.
 use Prim.Native.Nat.{_+_, _-_, _<_, _≤_, suc, ℕ}
-use mathlib.Core.Bool.{Bool, _&&_, _||_, cond, false, not, true}
+use mathlib.Core.Bool.{Bool, _||_, cond, not}
 use mathlib.Core.List.{List, [], _∷_}
 use mathlib.Core.Option.{Option, none, some}
 use mathlib.Core.Path.{_≡_}
@@ -28,8 +28,6 @@ use Rattle.declaring.specs.declared.attributes.Met.{Met}
 use Rattle.declaring.specs.declared.attributes.Met.the-variants as of-met
 use Rattle.declaring.specs.declared.columns.NullRead.{NullRead}
 use Rattle.declaring.specs.declared.columns.NullRead.the-variants as of-null
-use Rattle.declaring.specs.declared.spans.Place.{Place}
-use Rattle.declaring.specs.declared.spans.Place.the-variants as of-place
 use Rattle.declaring.specs.declared.attributes.Tally.{Tally}
 use Rattle.declaring.specs.declared.attributes.Value.{Value}
 use Rattle.declaring.specs.declared.attributes.Value.the-variants as of-value
@@ -42,6 +40,8 @@ use Rattle.table.specs.declared.Len.{Len}
 use Rattle.table.specs.declared.Len.the-variants.{Fixed}
 use Rattle.table.specs.declared.Null.{Null}
 use Rattle.table.specs.declared.Null.the-variants.{Undeclared}
+use Rattle.text.specs.Contracts.{TagIs}
+use Rattle.text.specs.declared.Tag.{Tag}
 
 -- ---- parts of a text
 
@@ -50,7 +50,6 @@ abbrev pub part : List ℕ → ℕ → ℕ → List ℕ
 part s a b = take (b - a) (drop a s)
 
 abbrev pub inClass : Class → ℕ → Bool
-inClass of-class.White b = isWhite b
 inClass of-class.Name b = isNameByte b
 inClass (of-class.Quoted quote) b = not (eqb b quote || eqb b (byte "<"))
 inClass of-class.Word b = not (isWhite b)
@@ -65,25 +64,9 @@ pub record SpanEnd (class : Class) (s : List ℕ) (from r : ℕ) : Type 0 where
   pub onward : from ≤ r
   pub inside : r ≤ length s
 
--- a text begins with a word
-unfoldable pub starts : List ℕ → List ℕ → Bool
-starts [] s = true
-starts (w ∷ word) [] = false
-starts (w ∷ word) (b ∷ s) = eqb w b && starts word s
-
--- ---- what follows a place
-
-abbrev pub placeOf : List ℕ → Place → Result ℕ (List ℕ)
-placeOf s of-place.Broken = bad 1
-placeOf s (of-place.At j) = good (drop j s)
-
-abbrev pub PlaceIn : List ℕ → ℕ → Place → Type 0
-PlaceIn s from of-place.Broken = Unit {0}
-PlaceIn s from (of-place.At j) = (from ≤ j) × (j ≤ length s)
-
-pub record PlaceIs (s : List ℕ) (from : ℕ) (p : Result ℕ (List ℕ)) (r : Place) : Type 0 where
-  pub rest : p ≡ placeOf s r
-  pub places : PlaceIn s from r
+-- white space, then a word, from a place on
+abbrev pub EndsIs : List ℕ → List ℕ → ℕ → Tag → Type 0
+EndsIs word s from r = TagIs (λ n. ends n word (drop from s)) s from r
 
 -- ---- values
 

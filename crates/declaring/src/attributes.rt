@@ -5,10 +5,11 @@ ghost use lib.ListN.{drop, length};
 ghost use Rattle.fields.specs.Fields.{readValue};
 ghost use Rattle.declaring.specs.Readers.{AttributesIs, QuotedIs, assigned, isQuote, metAgain, withAttribute};
 use crate::spans::Class;
-use crate::spans::Place;
-use crate::spans::ends;
-use crate::spans::is_word;
 use crate::spans::span_end;
+use text::Tag;
+use text::ends;
+use text::same_bytes;
+use text::skip_white;
 
 // A value as written: where it begins and where it ends.
 pub enum Value {
@@ -69,10 +70,10 @@ fn read_value(s: &[u8], at: usize) -> Value
     requires { ⌜ at ≤ length (now s) ⌝ }
     ensures { λ r. ⌜ QuotedIs (now (s .entry)) at (assigned (drop at (now (s .entry)))) r ⌝ }
 {
-    let Place::At(i) = ends(s, at, b"=") else {
+    let Tag::At(i) = ends(s, at, b"=") else {
         return Value::Absent;
     };
-    let from = span_end(s, i, Class::White);
+    let from = skip_white(s, i);
     if from < s.len() {
         return read_quoted(s, from);
     }
@@ -99,9 +100,9 @@ fn with_attribute(t: Tally, name: &[u8], start: usize, end: usize) -> Tally
     let d = t.datatype;
     let a = t.arraysize;
     let n = t.null;
-    let datatype = met_again(d, is_word(name, b"datatype"), start, end);
-    let arraysize = met_again(a, is_word(name, b"arraysize"), start, end);
-    let null = met_again(n, is_word(name, b"null"), start, end);
+    let datatype = met_again(d, same_bytes(b"datatype", name), start, end);
+    let arraysize = met_again(a, same_bytes(b"arraysize", name), start, end);
+    let null = met_again(n, same_bytes(b"null", name), start, end);
     Tally {
         datatype,
         arraysize,
@@ -120,7 +121,7 @@ pub fn read_attributes(s: &[u8], from: usize) -> Attributes
         null: Met::Never,
     };
     loop {
-        let name = span_end(s, at, Class::White);
+        let name = skip_white(s, at);
         let name_end = span_end(s, name, Class::Name);
         if name == at {
             return Attributes::Tallied(t, at);

@@ -10,13 +10,14 @@ ghost use Rattle.declaring.specs.Readers.{ElementIn, ValueIn, asWritten,
 use crate::attributes::Value;
 use crate::elements::Element;
 use crate::spans::Class;
-use crate::spans::is_word;
 use crate::spans::span_end;
 use number::Integer;
 use table::Column;
 use table::Kind;
 use table::Len;
 use table::Null;
+use text::same_bytes;
+use text::skip_white;
 use words::Reading;
 
 // What an attribute's value says, or that it says nothing.
@@ -48,25 +49,25 @@ pub enum Judged {
 fn kind_of(t: &[u8]) -> KindRead
     ensures { λ r. ⌜ kindOf kinds (now (t .entry)) ≡ kindRead r ⌝ }
 {
-    if is_word(t, b"boolean") {
+    if same_bytes(b"boolean", t) {
         return KindRead::Carried(Kind::Boolean);
     }
-    if is_word(t, b"bit") {
+    if same_bytes(b"bit", t) {
         return KindRead::Carried(Kind::Bit);
     }
-    if is_word(t, b"unsignedByte") {
+    if same_bytes(b"unsignedByte", t) {
         return KindRead::Carried(Kind::UnsignedByte);
     }
-    if is_word(t, b"short") {
+    if same_bytes(b"short", t) {
         return KindRead::Carried(Kind::Short);
     }
-    if is_word(t, b"int") {
+    if same_bytes(b"int", t) {
         return KindRead::Carried(Kind::Int);
     }
-    if is_word(t, b"long") {
+    if same_bytes(b"long", t) {
         return KindRead::Carried(Kind::Long);
     }
-    if is_word(t, b"char") {
+    if same_bytes(b"char", t) {
         return KindRead::Carried(Kind::Char);
     }
     KindRead::NotCarried
@@ -173,9 +174,9 @@ fn null_word(word: &[u8], kind: Integer) -> NullRead
 fn null_value(t: &[u8], kind: Integer) -> NullRead
     ensures { λ r. ⌜ nullValue (isSigned kind) (widthOf kind) (words (now (t .entry))) ≡ nullRead r ⌝ }
 {
-    let start = span_end(t, 0, Class::White);
+    let start = skip_white(t, 0);
     let end = span_end(t, start, Class::Word);
-    let behind = span_end(t, end, Class::White);
+    let behind = skip_white(t, end);
     if behind == t.len() {
         return null_word(&t[start..end], kind);
     }

@@ -8,9 +8,9 @@ use crate::attributes::Attributes;
 use crate::attributes::Met;
 use crate::attributes::Value;
 use crate::attributes::read_attributes;
-use crate::spans::Place;
-use crate::spans::begins;
-use crate::spans::ends;
+use text::Tag;
+use text::ends;
+use text::goes_on;
 
 // A null value as written, and the place behind what holds it.
 enum Body {
@@ -51,7 +51,7 @@ fn read_values(s: &[u8], at: usize) -> Body
     let Attributes::Tallied(t, i) = read_attributes(s, at) else {
         return Body::Broken;
     };
-    let Place::At(next) = ends(s, i, b"/>") else {
+    let Tag::At(next) = ends(s, i, b"/>") else {
         return Body::Broken;
     };
     let m = t.null;
@@ -63,10 +63,10 @@ fn read_end_tag(s: &[u8], at: usize, value: Value) -> Body
     requires { ⌜ (at ≤ length (now s)) × ValueIn (now s) value ⌝ }
     ensures { λ r. ⌜ BodyIs (now (s .entry)) at (endTag (asWritten (now (s .entry)) value) (drop at (now (s .entry)))) r ⌝ }
 {
-    let Place::At(i) = ends(s, at, b"</FIELD") else {
+    let Tag::At(i) = ends(s, at, b"</FIELD") else {
         return Body::Broken;
     };
-    let Place::At(next) = ends(s, i, b">") else {
+    let Tag::At(next) = ends(s, i, b">") else {
         return Body::Broken;
     };
     Body::Holds(value, next)
@@ -77,7 +77,7 @@ fn read_body(s: &[u8], at: usize) -> Body
     requires { ⌜ at ≤ length (now s) ⌝ }
     ensures { λ r. ⌜ BodyIs (now (s .entry)) at (fieldBody (drop at (now (s .entry)))) r ⌝ }
 {
-    let Place::At(i) = ends(s, at, b"<VALUES") else {
+    let Tag::At(i) = ends(s, at, b"<VALUES") else {
         return read_end_tag(s, at, Value::Absent);
     };
     let Body::Holds(value, next) = read_values(s, i) else {
@@ -92,10 +92,10 @@ fn read_rest(s: &[u8], at: usize) -> Body
     ensures { λ r. ⌜ BodyIs (now (s .entry)) at (fieldEnd (drop at (now (s .entry)))) r ⌝ }
 {
     match ends(s, at, b"/>") {
-        Place::At(next) => Body::Holds(Value::Absent, next),
-        Place::Broken => match ends(s, at, b">") {
-            Place::At(i) => read_body(s, i),
-            Place::Broken => Body::Broken,
+        Tag::At(next) => Body::Holds(Value::Absent, next),
+        Tag::Broken => match ends(s, at, b">") {
+            Tag::At(i) => read_body(s, i),
+            Tag::Broken => Body::Broken,
         },
     }
 }
@@ -131,10 +131,10 @@ pub fn read_field(s: &[u8], at: usize) -> FieldRead
     requires { ⌜ at ≤ length (now s) ⌝ }
     ensures { λ r. ⌜ FieldIs (now (s .entry)) at (readField (drop at (now (s .entry)))) r ⌝ }
 {
-    if !begins(s, at, b"<FIELD") {
+    let Tag::At(from) = goes_on(s, at, b"<FIELD") else {
         return FieldRead::Broken;
-    }
-    let Attributes::Tallied(t, i) = read_attributes(s, at + 6) else {
+    };
+    let Attributes::Tallied(t, i) = read_attributes(s, from) else {
         return FieldRead::Broken;
     };
     let Body::Holds(null, next) = read_rest(s, i) else {

@@ -16,13 +16,12 @@ use columns::Judged;
 use columns::judge;
 use elements::FieldRead;
 use elements::read_field;
-use spans::Class;
-use spans::span_end;
 use table::Column;
 use table::Columns;
 use table::Kind;
 use table::Len;
 use table::Null;
+use text::skip_white;
 
 // The answer: number 0 and the columns, or a refusal's number and place and no column.
 pub struct Declared {
@@ -62,7 +61,7 @@ pub fn declare(text: &[u8]) -> Declared
         return refuse(6, 0);
     }
     let mut columns = no_columns();
-    let mut at = span_end(text, 0, Class::White);
+    let mut at = skip_white(text, 0);
     let mut k: usize = 0;
     while at < text.len() {
         let FieldRead::Whole(e) = read_field(text, at) else {
@@ -79,7 +78,7 @@ pub fn declare(text: &[u8]) -> Declared
                 k += 1;
             }
         }
-        at = span_end(text, next, Class::White);
+        at = skip_white(text, next);
     }
     if k == 0 {
         return refuse(5, 0);

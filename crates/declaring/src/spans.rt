@@ -1,32 +1,16 @@
-// The bytes of a text at a place: spans of bytes that stand together, and words.
+// Spans of bytes that stand together at a place of a text.
 ghost use mathlib.Core.Path.{_≡_};
 ghost use Prim.Native.Nat.{_≤_};
-ghost use lib.ListN.{drop, length};
-ghost use Rattle.table.specs.Bytes.{ends, isWhite, same};
+ghost use lib.ListN.{length};
 ghost use Rattle.fields.specs.Fields.{isNameByte};
-ghost use Rattle.declaring.specs.Readers.{PlaceIs, SpanEnd, inClass, starts};
+ghost use Rattle.declaring.specs.Readers.{SpanEnd, inClass};
+use text::is_white;
 
-// Bytes that stand together: white space, a name, what a quote holds, a word.
+// Bytes that stand together: a name, what a quote holds, a word.
 pub enum Class {
-    White,
     Name,
     Quoted(u8),
     Word,
-}
-
-// The place behind what was looked for.
-pub enum Place {
-    Broken,
-    At(usize),
-}
-
-fn is_white(c: u8) -> bool
-    ensures { λ r. ⌜ r ≡ isWhite c ⌝ }
-{
-    match c {
-        9 | 10 | 13 | 32 => true,
-        _ => false,
-    }
 }
 
 fn is_name_byte(c: u8) -> bool
@@ -43,7 +27,6 @@ fn belongs(class: Class, c: u8) -> bool
     ensures { λ r. ⌜ r ≡ inClass class c ⌝ }
 {
     match class {
-        Class::White => is_white(c),
         Class::Name => is_name_byte(c),
         Class::Quoted(quote) => {
             if c == quote {
@@ -51,7 +34,7 @@ fn belongs(class: Class, c: u8) -> bool
             }
             c != 60
         }
-        Class::Word => !is_white(c),
+        Class::Word => !is_white(c as u32),
     }
 }
 
@@ -69,42 +52,4 @@ pub fn span_end(s: &[u8], from: usize, class: Class) -> usize
         }
     }
     i
-}
-
-pub fn begins(s: &[u8], at: usize, word: &[u8]) -> bool
-    requires { ⌜ at ≤ length (now s) ⌝ }
-    ensures { λ r. ⌜ r ≡ starts (now (word .entry)) (drop at (now (s .entry))) ⌝ }
-{
-    let mut k = 0;
-    while k < word.len() {
-        if s.len() - at <= k {
-            return false;
-        }
-        if s[at + k] != word[k] {
-            return false;
-        }
-        k += 1;
-    }
-    true
-}
-
-pub fn is_word(t: &[u8], word: &[u8]) -> bool
-    ensures { λ r. ⌜ r ≡ same (now (word .entry)) (now (t .entry)) ⌝ }
-{
-    if t.len() == word.len() {
-        return begins(t, 0, word);
-    }
-    false
-}
-
-// White space, then the word.
-pub fn ends(s: &[u8], at: usize, word: &[u8]) -> Place
-    requires { ⌜ at ≤ length (now s) ⌝ }
-    ensures { λ r. ⌜ PlaceIs (now (s .entry)) at (ends 1 (now (word .entry)) (drop at (now (s .entry)))) r ⌝ }
-{
-    let i = span_end(s, at, Class::White);
-    if begins(s, i, word) {
-        return Place::At(i + word.len());
-    }
-    Place::Broken
 }

@@ -5,18 +5,20 @@ use native.Mathlib.Omega.{arith}
 use mathlib.Core.Bool.{Bool, _&&_, cond, false, true}
 use mathlib.Core.List.{List, [], _∷_}
 use mathlib.Core.Option.{Option, none, some}
-use mathlib.Core.Path.{_∙_, _≡_, ap, refl}
+use mathlib.Core.Path.{_∙_, _≡_, ap, refl, sym}
 use lib.ListN.{drop, length, length-drop, length-take}
-use Rattle.declaring.proofs.spans.Scan.{name-at, skip-at}
-use Rattle.declaring.specs.Readers.{MetIn, QuotedIs, SpanEnd, Tallied, TallyIn, metAgain, assigned, metOf, withAttribute, part, span, tallied, talliedIn, tallyOf}
+use Rattle.declaring.proofs.spans.Scan.{name-at}
+use Rattle.declaring.specs.Readers.{MetIn, QuotedIs, SpanEnd, Tallied, TallyIn, another, metAgain, assigned, metOf, withAttribute, part, span, tallied, talliedIn, tallyOf}
 use Rattle.fields.specs.Fields.{Attribute, atMostOne, attributeComes, attributes, attributesF, isNameByte, nameComes, readAttribute, readValue, someName, valuesOf}
 use Rattle.declaring.specs.declared.spans.Class.the-variants as of-class
 use Rattle.declaring.specs.declared.attributes.Met.{Met}
 use Rattle.declaring.specs.declared.attributes.Met.the-variants as of-met
 use Rattle.declaring.specs.declared.attributes.Tally.{Tally}
 use Rattle.declaring.specs.declared.attributes.Value.the-variants as of-value
+use Rattle.table.proofs.Laws.{skip-le}
 use Rattle.table.specs.Bytes.{bytes, ends, isWhite, same, skipWhite}
 use Rattle.table.specs.Result.{Result, _>>=_, bad, good}
+use Rattle.text.specs.Contracts.{Skipped}
 
 -- ---- a name, met again and again
 
@@ -118,6 +120,9 @@ tally-in s t name a b h k i = record {
   null-in = met-in s (same (bytes "null") name) (t .null) a b h k (i .null-in);
 }
 
+pub met-again-is : (counts : Bool) (m of : Met) (a b : ℕ) → counts ≡ true → m ≡ of → another of a b ≡ metAgain counts m a b
+met-again-is counts m of a b e f = sym (ap (λ (t : Bool). metAgain t m a b) e ∙ ap (λ (x : Met). another x a b) f)
+
 abbrev pub sums : Tallied → List Attribute × List ℕ → Result ℕ (Tallied × List ℕ)
 sums t r = good (gathered t (r .0), r .1)
 
@@ -181,21 +186,21 @@ module _ (s : List ℕ) (from at : ℕ) (t : Tally) (inside : at ≤ length s) w
 
 -- ---- whether an attribute comes
 
-comes-none : (t : List ℕ) → span isWhite t ≡ 0 → attributeComes t ≡ false
-unfolding attributeComes span
+comes-none : (t : List ℕ) → length (skipWhite t) ≡ length t → attributeComes t ≡ false
+unfolding attributeComes skipWhite
 comes-none [] h = refl
 comes-none (b ∷ t) h = go (isWhite b) h
   where
-    go : (w : Bool) → cond w (suc (span isWhite t)) 0 ≡ 0 → (w && nameComes (skipWhite t)) ≡ false
-    go true e = absurd (omega arith)
+    go : (w : Bool) → length (cond w (skipWhite t) (b ∷ t)) ≡ suc (length t) → (w && nameComes (skipWhite t)) ≡ false
+    go true e = absurd (omega (arith, skip-le t))
     go false e = refl
 
-comes-name : (t : List ℕ) → 0 < span isWhite t → attributeComes t ≡ nameComes (skipWhite t)
-unfolding attributeComes span skipWhite
+comes-name : (t : List ℕ) → length (skipWhite t) < length t → attributeComes t ≡ nameComes (skipWhite t)
+unfolding attributeComes skipWhite
 comes-name [] h = absurd (omega arith)
 comes-name (b ∷ t) h = go (isWhite b) h
   where
-    go : (w : Bool) → 0 < cond w (suc (span isWhite t)) 0 → (w && nameComes (skipWhite t)) ≡ nameComes (cond w (skipWhite t) (b ∷ t))
+    go : (w : Bool) → length (cond w (skipWhite t) (b ∷ t)) < suc (length t) → (w && nameComes (skipWhite t)) ≡ nameComes (cond w (skipWhite t) (b ∷ t))
     go true e = refl
     go false e = absurd (omega arith)
 
@@ -217,17 +222,19 @@ name-some (b ∷ t) h = go (isNameByte b) h
     go true e = refl
     go false e = absurd (omega arith)
 
-module _ (s : List ℕ) (at name end : ℕ) (white : SpanEnd of-class.White s at name) (bytes-of : SpanEnd of-class.Name s name end) where
+module _ (s : List ℕ) (at name end : ℕ) (white : Skipped s at name) (bytes-of : SpanEnd of-class.Name s name end) where
   pub comes-not : name ≡ at → attributeComes (drop at s) ≡ false
-  comes-not e = comes-none (drop at s) (omega (arith, white .count))
+  comes-not e = comes-none (drop at s) (rw (white .rest, e))
+
+  comes-as : (name ≡ at → ⊥) → attributeComes (drop at s) ≡ nameComes (drop name s)
+  comes-as n =
+      comes-name (drop at s) (rw (white .rest) (simp length-drop (omega (arith, white .low, white .high, n)))) ∙ ap nameComes (white .rest)
 
   pub comes-nameless : (name ≡ at → ⊥) → end ≡ name → attributeComes (drop at s) ≡ false
-  comes-nameless n e =
-      comes-name (drop at s) (omega (arith, white .count, white .onward)) ∙ rw (skip-at s at name white) (name-none (drop name s) (omega (arith, bytes-of .count)))
+  comes-nameless n e = comes-as n ∙ name-none (drop name s) (omega (arith, bytes-of .count))
 
   pub comes-yes : (name ≡ at → ⊥) → (end ≡ name → ⊥) → attributeComes (drop at s) ≡ true
-  comes-yes n e =
-      comes-name (drop at s) (omega (arith, white .count, white .onward)) ∙ rw (skip-at s at name white) (name-some (drop name s) (omega (arith, bytes-of .count, bytes-of .onward)))
+  comes-yes n e = comes-as n ∙ name-some (drop name s) (omega (arith, bytes-of .count, bytes-of .onward))
 
 -- ---- an attribute
 
@@ -236,11 +243,12 @@ unfolding someName
 some-name [] t h = absurd (omega arith)
 some-name (b ∷ n) t h = refl
 
-module _ (s : List ℕ) (at name end : ℕ) (white : SpanEnd of-class.White s at name) (bytes-of : SpanEnd of-class.Name s name end) (some-bytes : end ≡ name → ⊥) where
+module _ (s : List ℕ) (at name end : ℕ) (white : Skipped s at name) (bytes-of : SpanEnd of-class.Name s name end) (some-bytes : end ≡ name → ⊥) where
   attribute-is : readAttribute (skipWhite (drop at s)) ≡ (assigned (drop end s) >>= named (part s name end))
   unfolding readAttribute assigned
   attribute-is =
-      rw (skip-at s at name white, name-at s name end bytes-of, some-name (part s name end) (drop end s) (simp (length-take, length-drop) (omega (arith, bytes-of .onward, bytes-of .inside, some-bytes))))
+      let long : 0 < length (part s name end) = simp (length-take, length-drop) (omega (arith, bytes-of .onward, bytes-of .inside, some-bytes)) in
+      rw (white .rest, name-at s name end bytes-of, some-name (part s name end) (drop end s) long)
       (go (ends 1 (bytes "=") (drop end s)))
     where
       go : (r : Result ℕ (List ℕ)) → (r >>= λ u. readValue (skipWhite u) >>= named (part s name end)) ≡ ((r >>= λ u. readValue (skipWhite u)) >>= named (part s name end))

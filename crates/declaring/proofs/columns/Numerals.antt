@@ -10,8 +10,8 @@ use mathlib.Core.Path.{_∙_, _≡_, ap, refl, sym}
 use lib.Dec.{leb, lit<}
 use lib.ListN.{drop, getD, length, take}
 use borrow.Author.Tests.{eq-eqb, le-leb, lt-leb, ne-eqb}
-use Rattle.declaring.proofs.spans.Scan.{done, next1}
-use Rattle.declaring.proofs.spans.Tests.{between-no}
+use Rattle.table.proofs.Bytes.{between-no}
+use Rattle.table.proofs.Places.{done, next1}
 use Rattle.fields.specs.Fields.{beforeStar, boundedLen, lengthOf}
 use Rattle.number.specs.Number.{Fault, Unwritten, digit, numeral}
 use Rattle.table.proofs.Laws.{between-is, between-yes}

@@ -7,19 +7,22 @@ use mathlib.Core.Path.{_∙_, _≡_, ap, refl, sym}
 use lib.Dec.{eqb, leb}
 use borrow.Author.Tests.{eqb-false, eqb-true, leb-false, leb-true}
 use mathlib.Core.Option.{some}
-use lib.ListN.{drop, drop-of-length-le, length, length-drop, length-take, take}
+use lib.ListN.{drop, length, length-drop, length-take, take}
 use Rattle.declaring.proofs.spans.Scan.{drop-span, span-le, take-span}
 use Rattle.declaring.specs.Readers.{SpanEnd, nullOfScalar, part, span}
 use Rattle.fields.specs.Fields.{nullOf, nullValue}
 use Rattle.declaring.specs.declared.spans.Class.the-variants as of-class
 use Rattle.number.specs.Number.{readInteger}
 use Rattle.table.proofs.Laws.{not-empty}
-use Rattle.table.specs.Bytes.{attach, isWhite, notEmpty, pieces, words}
+use Rattle.table.proofs.Places.{done}
+use Rattle.table.proofs.Words.{words-none, words-skip}
+use Rattle.table.specs.Bytes.{attach, isWhite, notEmpty, pieces, skipWhite, words}
 use Rattle.table.specs.Cell.{isScalar}
 use Rattle.table.specs.Result.{bad, good}
 use Rattle.table.specs.Shape.{Bits, Shape, Text, Truths, Whole, Width}
 use Rattle.table.specs.declared.Len.{Len}
 use Rattle.table.specs.declared.Null.the-variants.{Undeclared}
+use Rattle.text.specs.Contracts.{Skipped}
 
 abbrev inWord : ℕ → Bool
 inWord b = not (isWhite b)
@@ -32,17 +35,6 @@ span-stops test (b ∷ s) = go (test b) refl (span-stops test s)
     go : (t : Bool) → test b ≡ t → span test (drop (span test s) s) ≡ 0 → span test (drop (cond t (suc (span test s)) 0) (b ∷ s)) ≡ 0
     go true e h = h
     go false e h = rw e
-
--- ---- white space at the front
-
-words-skip : (s : List ℕ) → words s ≡ words (drop (span isWhite s) s)
-unfolding words pieces notEmpty span
-words-skip [] = refl
-words-skip (b ∷ s) = go (isWhite b) refl (words-skip s)
-  where
-    go : (t : Bool) → isWhite b ≡ t → words s ≡ words (drop (span isWhite s) s) → words (b ∷ s) ≡ words (drop (cond t (suc (span isWhite s)) 0) (b ∷ s))
-    go true e h = rw e h
-    go false e h = refl
 
 -- ---- a word at the front
 
@@ -75,60 +67,59 @@ words-word s h =
     rw (pieces-word s, not-empty (take (span inWord s) s) (piecesAfter (drop (span inWord s) s)) (simp length-take (omega (arith, span-le inWord s))))
     (ap (λ (ws : List (List ℕ)). take (span inWord s) s ∷ ws) (words-after (drop (span inWord s) s) (span-stops inWord s)))
 
--- ---- what is not white space begins a word
+-- ---- what follows white space begins a word
 
-dark-span : (s : List ℕ) → span isWhite s ≡ 0 → 0 < length s → 0 < span inWord s
-unfolding span
-dark-span [] h k = absurd (omega arith)
-dark-span (b ∷ s) h k = go (isWhite b) h
+skip-dark : (s : List ℕ) → 0 < length (skipWhite s) → 0 < span inWord (skipWhite s)
+unfolding skipWhite span
+skip-dark [] h = absurd (omega arith)
+skip-dark (b ∷ s) h = go (isWhite b) refl h (skip-dark s)
   where
-    go : (t : Bool) → cond t (suc (span isWhite s)) 0 ≡ 0 → 0 < cond (not t) (suc (span inWord s)) 0
-    go true e = absurd (omega arith)
-    go false e = omega arith
+    go : (t : Bool) → isWhite b ≡ t → 0 < length (cond t (skipWhite s) (b ∷ s)) → (0 < length (skipWhite s) → 0 < span inWord (skipWhite s))
+        → 0 < span inWord (cond t (skipWhite s) (b ∷ s))
+    go true e h k = k h
+    go false e h k = rw e (omega arith)
 
-words-blank : (s : List ℕ) → length s ≤ span isWhite s → words s ≡ []
-unfolding words pieces notEmpty
-words-blank s h = words-skip s ∙ rw (drop-of-length-le s h)
+module _ (t : List ℕ) (from at : ℕ) (white : Skipped t from at) where
+  words-at : words (drop from t) ≡ words (drop at t)
+  words-at = sym (words-skip (drop from t)) ∙ ap words (white .rest)
 
-words-more : (s : List ℕ) → span isWhite s < length s → (w : List ℕ) × (ws : List (List ℕ)) × (words s ≡ w ∷ ws)
-words-more s h =
-    let t = drop (span isWhite s) s in
-    let d = dark-span t (span-stops isWhite s) (simp length-drop (omega arith)) in
-    (take (span inWord t) t, words (drop (span inWord t) t), words-skip s ∙ words-word t d)
+  words-blank : length t ≤ at → words (drop from t) ≡ []
+  words-blank h = words-at ∙ ap words (done t at h) ∙ words-none
+
+  word-begins : at < length t → 0 < span inWord (drop at t)
+  word-begins h =
+      let long : 0 < length (skipWhite (drop from t)) = rw (white .rest) (simp length-drop (omega arith)) in
+      rw (sym (white .rest)) (skip-dark (drop from t) long)
 
 -- ---- the spans of a text
 
-module _ (t : List ℕ) (a b e : ℕ) (front : SpanEnd of-class.White t 0 a) (word : SpanEnd of-class.Word t a b) (behind : SpanEnd of-class.White t b e) where
-  none-at : b ≡ a → words t ≡ []
-  none-at h = go (leb (length t) a) refl
-    where
-      go : (x : Bool) → leb (length t) a ≡ x → words t ≡ []
-      go true l = words-blank t (omega (arith, front .count, leb-true (length t) a l))
-      go false l =
-          let d : 0 < span inWord (drop a t) = dark-span (drop a t) (rw (sym (drop-span of-class.White t 0 a front)) (span-stops isWhite t)) (simp length-drop (omega (arith, leb-false (length t) a l))) in
-          absurd (omega (arith, word .count, d))
-
+module _ (t : List ℕ) (a b e : ℕ) (front : Skipped t 0 a) (word : SpanEnd of-class.Word t a b) (behind : Skipped t b e) where
   first-at : (b ≡ a → ⊥) → words t ≡ part t a b ∷ words (drop b t)
   first-at n =
-      words-skip t ∙ rw (drop-span of-class.White t 0 a front)
-      (words-word (drop a t) (omega (arith, word .count, word .onward)) ∙ rw (take-span of-class.Word t a b word, drop-span of-class.Word t a b word))
+      words-at t 0 a front ∙ words-word (drop a t) (omega (arith, word .count, word .onward))
+      ∙ rw (take-span of-class.Word t a b word, drop-span of-class.Word t a b word)
 
-  -- the text is one word with white space around it, or nothing but white space
-  pub one-word : e ≡ length t → (b ≡ a → ⊥) → words t ≡ part t a b ∷ []
-  one-word h n = first-at n ∙ ap (λ (ws : List (List ℕ)). part t a b ∷ ws) (words-blank (drop b t) (simp length-drop (omega (arith, behind .count))))
+  -- the text is nothing but white space, or one word with white space around it
+  no-word : b ≡ a → words t ≡ []
+  no-word h = go (leb (length t) a) refl
+    where
+      go : (x : Bool) → leb (length t) a ≡ x → words t ≡ []
+      go true l = words-blank t 0 a front (leb-true (length t) a l)
+      go false l = absurd (omega (arith, word .count, word-begins t 0 a front (omega (arith, leb-false (length t) a l))))
 
-  pub no-word : b ≡ a → words t ≡ []
-  no-word h = none-at h
+  one-word : e ≡ length t → (b ≡ a → ⊥) → words t ≡ part t a b ∷ []
+  one-word h n = first-at n ∙ ap (λ (ws : List (List ℕ)). part t a b ∷ ws) (words-blank t b e behind (omega arith))
 
   -- or it has two
-  pub two-words : (e ≡ length t → ⊥) → (b ≡ a → ⊥) → (w : List ℕ) × (ws : List (List ℕ)) × (words t ≡ part t a b ∷ w ∷ ws)
+  two-words : (e ≡ length t → ⊥) → (b ≡ a → ⊥) → (w : List ℕ) × (ws : List (List ℕ)) × (words t ≡ part t a b ∷ w ∷ ws)
   two-words h n =
-      let m = words-more (drop b t) (simp length-drop (omega (arith, behind .count, behind .inside, behind .onward, h))) in
-      (m .0, m .1, first-at n ∙ ap (λ (ws : List (List ℕ)). part t a b ∷ ws) (m .2))
+      let u : List ℕ = drop e t in
+      let second : words (drop b t) ≡ take (span inWord u) u ∷ words (drop (span inWord u) u) = words-at t b e behind ∙ words-word u (word-begins t b e behind (omega (arith, behind .high, h))) in
+      (take (span inWord u) u, words (drop (span inWord u) u), first-at n ∙ ap (λ (ws : List (List ℕ)). part t a b ∷ ws) second)
 
 -- ---- the null value
 
-module _ (g : Bool) (v : Width) (t : List ℕ) (a b e : ℕ) (front : SpanEnd of-class.White t 0 a) (word : SpanEnd of-class.Word t a b) (behind : SpanEnd of-class.White t b e) where
+module _ (g : Bool) (v : Width) (t : List ℕ) (a b e : ℕ) (front : Skipped t 0 a) (word : SpanEnd of-class.Word t a b) (behind : Skipped t b e) where
   pub null-one : e ≡ length t → nullValue g v (words t) ≡ nullValue g v (part t a b ∷ [])
   unfolding nullValue readInteger
   null-one h = go (eqb b a) refl

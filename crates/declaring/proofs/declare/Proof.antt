@@ -1,11 +1,8 @@
--- The whole text: the columns so far, in front of what is declared from here on, are what the text declares.
+-- declaring::declare: the whole text: the columns so far, in front of what is declared from here on, are what the text declares.
 use Prim.Native.Nat.{_-_, _≤_}
-use Rattle.declaring.proofs.spans.Scan.{span-end}
 use Rattle.declaring.proofs.Stages.{Stage, stage-broken, stage-done, stage-full, stage-more, stage-none, stage-refused, stage-start, stored-long, too-long}
 use Rattle.declaring.specs.Contracts.{answered}
 use Rattle.declaring.specs.Readers.{FieldIs, judged}
-use Rattle.fields.specs.Fields.{judge}
-use Rattle.table.specs.Outcome.{at}
 use borrow.Author.Needs.{needs}
 use lib.Dec.{lit≤}
 use lib.ListN.{length}
@@ -29,13 +26,13 @@ returns c = c .refuse .ensures ∙ ap answered (sym (too-long _ (c .before .if1 
 no-columns-requires : tie.Need-no-columns-requires Inv-loop μ-loop
 no-columns-requires c κs = search needs
 
-span-end-requires : tie.Need-span-end-requires Inv-loop μ-loop
-span-end-requires c κs = search needs
+skip-white-requires : tie.Need-skip-white-requires Inv-loop μ-loop
+skip-white-requires c κs = search needs
 
 loop-holds : tie.Need-loop-holds Inv-loop μ-loop
 loop-holds c =
     let at-no-columns = c .before in let at-if1 = at-no-columns .before in
-    (c .span-end .ensures .inside, lit≤ tt, stage-start _ _ _ (at-if1 .if1 .left) (c .span-end .ensures) (at-no-columns .no-columns .ensures))
+    (c .skip-white .ensures .high, lit≤ tt, stage-start _ _ _ (at-if1 .if1 .left) (c .skip-white .ensures) (at-no-columns .no-columns .ensures))
 
 read-field-requires : tie.Need-read-field-requires Inv-loop μ-loop
 read-field-requires c κs = search needs
@@ -99,8 +96,8 @@ element-set-from-c c =
 add-k : tie.Need-add-k Inv-loop μ-loop
 add-k c = search needs
 
-span-end-requires-2 : tie.Need-span-end-requires-2 Inv-loop μ-loop
-span-end-requires-2 c κs =
+skip-white-requires-2 : tie.Need-skip-white-requires-2 Inv-loop μ-loop
+skip-white-requires-2 c κs =
     let at-e = c .before .before .before .before .before .before in let at-read-field = at-e .before .before in
     (subst (FieldIs _ _ _) (at-e .e .given .1) (at-read-field .read-field .ensures)) .places .1
 
@@ -108,17 +105,17 @@ loop-less : tie.Need-loop-less Inv-loop μ-loop
 loop-less c =
     let at-e = c .before .before .before .before .before .before .before in let at-read-field = at-e .before .before in
     let f = (subst (FieldIs _ _ _) (at-e .e .given .1) (at-read-field .read-field .ensures)) in
-    omega (arith, f .places .0, f .places .1, c .span-end2 .ensures .onward, c .span-end2 .ensures .inside)
+    omega (arith, f .places .0, f .places .1, c .skip-white2 .ensures .low, c .skip-white2 .ensures .high)
 
 loop-again : tie.Need-loop-again Inv-loop μ-loop
 loop-again c =
     let at-if2 = c .before in let at-c = at-if2 .before .before in let at-judge = at-c .before .before in let at-e = at-judge .before .before in
     let at-read-field = at-e .before .before in let at-loop-test = at-read-field .before in let at-loop = at-loop-test .before in (
-      c .span-end2 .ensures .inside,
+      c .skip-white2 .ensures .high,
       omega (arith, at-if2 .if2 .left),
       stage-more _ _ _ _ (at-loop .loop .inv .2) (at-loop-test .loop-test .taken) _
           (subst (FieldIs _ _ _) (at-e .e .given .1) (at-read-field .read-field .ensures)) _ (at-judge .judge .ensures ∙ ap judged
-          (at-c .c .given .1)) _ _ (at-loop .loop .inv .1) (at-if2 .if2 .left) (c .span-end2 .ensures) refl,
+          (at-c .c .given .1)) _ _ (at-loop .loop .inv .1) (at-if2 .if2 .left) (c .skip-white2 .ensures) refl,
     )
 
 refuse-requires-5 : tie.Need-refuse-requires-5 Inv-loop μ-loop
@@ -135,4 +132,6 @@ returns-6 c = stage-done _ _ _ _ (c .before .before .loop .inv .2) (c .before .l
 pub declare-spec : {M : Type 1} → statement M
 declare-spec =
     tie.close
-    (tie.spec Inv-loop μ-loop refuse-requires returns no-columns-requires span-end-requires loop-holds read-field-requires enum-known-e enum-told refuse-requires-2 returns-2 judge-requires enum-known-number refuse-requires-3 returns-3 enum-known-c refuse-requires-4 returns-4 mul-c element-set-from-c add-k span-end-requires-2 loop-less loop-again refuse-requires-5 returns-5 returns-6)
+    (tie.spec Inv-loop μ-loop refuse-requires returns no-columns-requires skip-white-requires loop-holds read-field-requires enum-known-e
+    enum-told refuse-requires-2 returns-2 judge-requires enum-known-number refuse-requires-3 returns-3 enum-known-c refuse-requires-4
+    returns-4 mul-c element-set-from-c add-k skip-white-requires-2 loop-less loop-again refuse-requires-5 returns-5 returns-6)

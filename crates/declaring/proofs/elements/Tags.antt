@@ -1,14 +1,11 @@
 -- A FIELD from its tags: each definition as what follows the part that was read last.
-use Prim.Native.Nat.{_+_, _≤_, ℕ}
+use Prim.Native.Nat.{_<_, _≤_, ℕ}
 use native.Mathlib.Omega.{arith}
-use mathlib.Core.Bool.{false, true}
 use mathlib.Core.List.{List, [], _∷_}
 use mathlib.Core.Option.{Option, none, some}
-use mathlib.Core.Path.{_∙_, _≡_, refl}
-use lib.ListN.{drop, length}
-use lib.Seq.{drop-drop}
-use Rattle.declaring.proofs.spans.Scan.{after-starts, starts-at}
-use Rattle.declaring.specs.Readers.{AttributesIs, BodyIs, FieldIs, MetIn, PlaceIs, Tallied, ValueIn, assembled, endTag, elementOf, fieldEnd, valuesBody, metOf, starts, tallied, talliedIn, tallyOf, asWritten, valuesBehind}
+use mathlib.Core.Path.{_∙_, _≡_, ap, refl, sym}
+use lib.ListN.{drop, length-drop}
+use Rattle.declaring.specs.Readers.{AttributesIs, BodyIs, EndsIs, FieldIs, MetIn, Tallied, ValueIn, asWritten, assembled, elementOf, endTag, fieldEnd, metOf, tallied, talliedIn, tallyOf, valuesBehind, valuesBody}
 use Rattle.fields.specs.Fields.{Attribute, Field, atMostOne, attributes, begins, exactlyOne, fieldBody, readField, readValues, valuesOf}
 use Rattle.declaring.specs.declared.attributes.Attributes.the-variants as of-attributes
 use Rattle.declaring.specs.declared.elements.Body.{Body}
@@ -16,12 +13,15 @@ use Rattle.declaring.specs.declared.elements.Body.the-variants as of-bod
 use Rattle.declaring.specs.declared.elements.FieldRead.the-variants as of-field
 use Rattle.declaring.specs.declared.attributes.Met.{Met}
 use Rattle.declaring.specs.declared.attributes.Met.the-variants as of-met
-use Rattle.declaring.specs.declared.spans.Place.the-variants as of-place
 use Rattle.declaring.specs.declared.attributes.Tally.{Tally}
 use Rattle.declaring.specs.declared.attributes.Value.{Value}
 use Rattle.declaring.specs.declared.attributes.Value.the-variants as of-value
+use Rattle.table.proofs.Laws.{after-le, holds-at}
 use Rattle.table.specs.Bytes.{after, bytes, ends}
 use Rattle.table.specs.Result.{Result, _>>=_, bad, good}
+use Rattle.text.specs.Contracts.{TagIs}
+use Rattle.text.specs.declared.Tag.{Tag}
+use Rattle.text.specs.declared.Tag.the-variants.{At, Broken}
 
 pub body-from : (s : List ℕ) (from at : ℕ) (p q : Result ℕ (Option (List ℕ) × List ℕ)) (r : Body) → from ≤ at → p ≡ q → BodyIs s at q r → BodyIs s from p r
 body-from s from at p q of-body.Broken h e b = record { rest = e ∙ b .rest; places = tt }
@@ -33,18 +33,18 @@ body-broken s from p e = record { rest = e; places = tt }
 -- ---- the end tag
 
 module _ (s : List ℕ) (from : ℕ) (v : Value) where
-  pub end-tag-no : PlaceIs s from (ends 1 (bytes "</FIELD") (drop from s)) of-place.Broken → BodyIs s from (endTag (asWritten s v) (drop from s)) of-body.Broken
+  pub end-tag-no : EndsIs (bytes "</FIELD") s from Broken → BodyIs s from (endTag (asWritten s v) (drop from s)) of-body.Broken
   unfolding endTag
-  end-tag-no h = body-broken s from _ (rw (h .rest))
+  end-tag-no h = body-broken s from _ (rw (h .found 1))
 
-  module _ (i : ℕ) (h : PlaceIs s from (ends 1 (bytes "</FIELD") (drop from s)) (of-place.At i)) where
-    pub end-tag-open : PlaceIs s i (ends 1 (bytes ">") (drop i s)) of-place.Broken → BodyIs s from (endTag (asWritten s v) (drop from s)) of-body.Broken
+  module _ (i : ℕ) (h : EndsIs (bytes "</FIELD") s from (At i)) where
+    pub end-tag-open : EndsIs (bytes ">") s i Broken → BodyIs s from (endTag (asWritten s v) (drop from s)) of-body.Broken
     unfolding endTag
-    end-tag-open k = body-broken s from _ (rw (h .rest, k .rest))
+    end-tag-open k = body-broken s from _ (rw (h .found 1, k .found 1))
 
-    pub end-tag-yes : (next : ℕ) → PlaceIs s i (ends 1 (bytes ">") (drop i s)) (of-place.At next) → ValueIn s v → BodyIs s from (endTag (asWritten s v) (drop from s)) (of-body.Holds v next)
+    pub end-tag-yes : (next : ℕ) → EndsIs (bytes ">") s i (At next) → ValueIn s v → BodyIs s from (endTag (asWritten s v) (drop from s)) (of-body.Holds v next)
     unfolding endTag
-    end-tag-yes next k w = record { rest = rw (h .rest, k .rest); places = (omega (arith, h .places .0, k .places .0), k .places .1, w) }
+    end-tag-yes next k w = record { rest = rw (h .found 1, k .found 1); places = (omega (arith, h .within .0, k .within .0), k .within .1, w) }
 
 -- ---- VALUES
 
@@ -54,17 +54,17 @@ module _ (s : List ℕ) (from : ℕ) where
   values-broken h = body-broken s from _ (rw (h .rest))
 
   module _ (t : Tally) (i : ℕ) (h : AttributesIs s from (of-attributes.Tallied t i)) where
-    pub values-open : PlaceIs s i (ends 1 (bytes "/>") (drop i s)) of-place.Broken → BodyIs s from (valuesBehind (drop from s)) of-body.Broken
+    pub values-open : EndsIs (bytes "/>") s i Broken → BodyIs s from (valuesBehind (drop from s)) of-body.Broken
     unfolding valuesBehind
-    values-open k = body-broken s from _ (rw (h .rest, k .rest))
+    values-open k = body-broken s from _ (rw (h .rest, k .found 1))
 
-    pub values-at : (next : ℕ) → PlaceIs s i (ends 1 (bytes "/>") (drop i s)) (of-place.At next) → BodyIs s from (valuesBehind (drop from s)) (valuesBody (t .null) next)
+    pub values-at : (next : ℕ) → EndsIs (bytes "/>") s i (At next) → BodyIs s from (valuesBehind (drop from s)) (valuesBody (t .null) next)
     unfolding valuesBehind tallyOf
-    values-at next k = go (t .null) (h .places .2 .null-in) (rw (h .rest, k .rest))
+    values-at next k = go (t .null) (h .places .2 .null-in) (rw (h .rest, k .found 1))
       where
         go : (m : Met) → MetIn s m → valuesBehind (drop from s) ≡ (metOf s m >>= λ v. good (v, drop next s)) → BodyIs s from (valuesBehind (drop from s)) (valuesBody m next)
-        go of-met.Never w e = record { rest = e; places = (omega (arith, h .places .0, k .places .0), k .places .1, tt) }
-        go (of-met.Once a b) w e = record { rest = e; places = (omega (arith, h .places .0, k .places .0), k .places .1, w) }
+        go of-met.Never w e = record { rest = e; places = (omega (arith, h .places .0, k .within .0), k .within .1, tt) }
+        go (of-met.Once a b) w e = record { rest = e; places = (omega (arith, h .places .0, k .within .0), k .within .1, w) }
         go of-met.Often w e = record { rest = e; places = tt }
 
 abbrev tail : List Attribute × List ℕ → Result ℕ (Option (List ℕ) × List ℕ)
@@ -95,36 +95,43 @@ module _ (s : List ℕ) (from : ℕ) where
   unfolding fieldBody endTag
   body-is = refl
 
-  pub body-none : (r : Body) → PlaceIs s from (ends 1 (bytes "<VALUES") (drop from s)) of-place.Broken → BodyIs s from (endTag none (drop from s)) r → BodyIs s from (fieldBody (drop from s)) r
+  pub body-none : (r : Body) → EndsIs (bytes "<VALUES") s from Broken → BodyIs s from (endTag none (drop from s)) r → BodyIs s from (fieldBody (drop from s)) r
   unfolding begins
-  body-none r h b = body-from s from from _ _ r (omega arith) (body-is ∙ rw (h .rest)) b
+  body-none r h b = body-from s from from _ _ r (omega arith) (body-is ∙ rw (h .found 1)) b
 
-  module _ (i : ℕ) (h : PlaceIs s from (ends 1 (bytes "<VALUES") (drop from s)) (of-place.At i)) where
+  module _ (i : ℕ) (h : EndsIs (bytes "<VALUES") s from (At i)) where
     body-then : fieldBody (drop from s) ≡ (valuesBehind (drop i s) >>= λ r. endTag (r .0) (r .1))
     unfolding begins
-    body-then = body-is ∙ rw (values-after (drop from s), h .rest)
+    body-then = body-is ∙ rw (values-after (drop from s), h .found 1)
 
     pub body-values-broken : BodyIs s i (valuesBehind (drop i s)) of-body.Broken → BodyIs s from (fieldBody (drop from s)) of-body.Broken
     body-values-broken b = body-broken s from _ (body-then ∙ rw (b .rest))
 
-    pub body-values : (v : Value) (k : ℕ) (r : Body) → BodyIs s i (valuesBehind (drop i s)) (of-body.Holds v k) → BodyIs s k (endTag (asWritten s v) (drop k s)) r → BodyIs s from (fieldBody (drop from s)) r
-    body-values v k r b d = body-from s from k _ _ r (omega (arith, h .places .0, b .places .0)) (body-then ∙ rw (b .rest)) d
+    pub body-values : (v : Value) (k : ℕ) (r : Body) → BodyIs s i (valuesBehind (drop i s)) (of-body.Holds v k)
+        → BodyIs s k (endTag (asWritten s v) (drop k s)) r → BodyIs s from (fieldBody (drop from s)) r
+    body-values v k r b d = body-from s from k _ _ r (omega (arith, h .within .0, b .places .0)) (body-then ∙ rw (b .rest)) d
 
 -- ---- what follows the attributes of a FIELD
 
 module _ (s : List ℕ) (from : ℕ) where
-  pub rest-empty : (next : ℕ) → PlaceIs s from (ends 1 (bytes "/>") (drop from s)) (of-place.At next) → BodyIs s from (fieldEnd (drop from s)) (of-body.Holds of-value.Absent next)
+  pub rest-empty : (next : ℕ) → EndsIs (bytes "/>") s from (At next) → BodyIs s from (fieldEnd (drop from s)) (of-body.Holds of-value.Absent next)
   unfolding fieldEnd
-  rest-empty next h = record { rest = rw (h .rest); places = (h .places .0, h .places .1, tt) }
+  rest-empty next h = record { rest = rw (h .found 1); places = (h .within .0, h .within .1, tt) }
 
-  module _ (h : PlaceIs s from (ends 1 (bytes "/>") (drop from s)) of-place.Broken) where
-    pub rest-broken : PlaceIs s from (ends 1 (bytes ">") (drop from s)) of-place.Broken → BodyIs s from (fieldEnd (drop from s)) of-body.Broken
+  module _ (h : EndsIs (bytes "/>") s from Broken) where
+    pub rest-broken : EndsIs (bytes ">") s from Broken → BodyIs s from (fieldEnd (drop from s)) of-body.Broken
     unfolding fieldEnd
-    rest-broken k = body-broken s from _ (rw (h .rest, k .rest))
+    rest-broken k = body-broken s from _ (rw (h .found 1, k .found 1))
 
-    pub rest-body : (i : ℕ) (r : Body) → PlaceIs s from (ends 1 (bytes ">") (drop from s)) (of-place.At i) → BodyIs s i (fieldBody (drop i s)) r → BodyIs s from (fieldEnd (drop from s)) r
+    pub rest-body : (i : ℕ) (r : Body) → EndsIs (bytes ">") s from (At i) → BodyIs s i (fieldBody (drop i s)) r → BodyIs s from (fieldEnd (drop from s)) r
     unfolding fieldEnd
-    rest-body i r k b = body-from s from i _ _ r (k .places .0) (rw (h .rest, k .rest)) b
+    rest-body i r k b = body-from s from i _ _ r (k .within .0) (rw (h .found 1, k .found 1)) b
+
+pub values-body-is : (m of : Met) (next : ℕ) → m ≡ of → valuesBody of next ≡ valuesBody m next
+values-body-is m of next e = sym (ap (λ (x : Met). valuesBody x next) e)
+
+pub assembled-is : (d p a q : Met) (v : Value) (next : ℕ) → d ≡ p → a ≡ q → assembled p q v next ≡ assembled d a v next
+assembled-is d p a q v next e f = sym (ap (λ (x : Met). assembled x a v next) e ∙ ap (λ (x : Met). assembled p x v next) f)
 
 -- ---- a FIELD
 
@@ -139,11 +146,14 @@ needed-one [] = refl
 needed-one (v ∷ []) = refl
 needed-one (v ∷ w ∷ vs) = refl
 
+abbrev fieldWith : Result ℕ (List ℕ) → Result ℕ (Option (List ℕ)) → Option (List ℕ) × List ℕ → Result ℕ Field
+fieldWith datatype arraysize b = datatype >>= λ d. arraysize >>= λ l. good (record { datatype = d; arraysize = l; null = b .0; rest = b .1 })
+
 abbrev fieldOf : Tallied × List ℕ → Option (List ℕ) × List ℕ → Result ℕ Field
-fieldOf r b = needed (r .0 .datatype) >>= λ d. r .0 .arraysize >>= λ l. good (record { datatype = d; arraysize = l; null = b .0; rest = b .1 })
+fieldOf r b = fieldWith (needed (r .0 .datatype)) (r .0 .arraysize) b
 
 abbrev written : List Attribute → Option (List ℕ) × List ℕ → Result ℕ Field
-written attrs b = exactlyOne (valuesOf (bytes "datatype") attrs) >>= λ d. atMostOne (valuesOf (bytes "arraysize") attrs) >>= λ l. good (record { datatype = d; arraysize = l; null = b .0; rest = b .1 })
+written attrs b = fieldWith (exactlyOne (valuesOf (bytes "datatype") attrs)) (atMostOne (valuesOf (bytes "arraysize") attrs)) b
 
 field-after : (s : List ℕ) → readField s ≡ (after 1 (bytes "<FIELD") s >>= λ t. talliedIn t >>= λ r. fieldEnd (r .1) >>= λ b. fieldOf r b)
 unfolding readField talliedIn tallied fieldEnd
@@ -164,39 +174,46 @@ field-after s = outer (after 1 (bytes "<FIELD") s)
 pub field-broken : (s : List ℕ) (from : ℕ) (p : Result ℕ Field) → p ≡ bad 1 → FieldIs s from p of-field.Broken
 field-broken s from p e = record { rest = e; places = tt }
 
-module _ (s : List ℕ) (from : ℕ) (inside : from ≤ length s) where
-  pub field-not : starts (bytes "<FIELD") (drop from s) ≡ false → FieldIs s from (readField (drop from s)) of-field.Broken
-  field-not e = field-broken s from _ (field-after (drop from s) ∙ rw (after-starts 1 (bytes "<FIELD") (drop from s)) (rw e))
+abbrev pub StartIs : List ℕ → ℕ → Tag → Type 0
+StartIs s from r = TagIs (λ n. after n (bytes "<FIELD") (drop from s)) s from r
 
-  module _ (e : starts (bytes "<FIELD") (drop from s) ≡ true) where
-    field-then : readField (drop from s) ≡ (talliedIn (drop (from + 6) s) >>= λ r. fieldEnd (r .1) >>= λ b. fieldOf r b)
-    field-then = field-after (drop from s) ∙ rw (after-starts 1 (bytes "<FIELD") (drop from s)) (rw (e, drop-drop 6 from s))
+module _ (s : List ℕ) (from : ℕ) where
+  pub field-not : StartIs s from Broken → FieldIs s from (readField (drop from s)) of-field.Broken
+  field-not e = field-broken s from _ (field-after (drop from s) ∙ rw (e .found 1))
 
-    pub field-fits : from + 6 ≤ length s
-    field-fits = starts-at (bytes "<FIELD") s from inside e
+  module _ (behind : ℕ) (e : StartIs s from (At behind)) where
+    field-then : readField (drop from s) ≡ (talliedIn (drop behind s) >>= λ r. fieldEnd (r .1) >>= λ b. fieldOf r b)
+    field-then = field-after (drop from s) ∙ rw (e .found 1)
 
-    pub field-attributes-broken : AttributesIs s (from + 6) of-attributes.Broken → FieldIs s from (readField (drop from s)) of-field.Broken
+    field-on : from < behind
+    field-on = omega (arith, holds-at (after-le 1 (bytes "<FIELD") (drop from s)) (e .found 1), length-drop behind s, length-drop from s, e .within)
+
+    pub field-attributes-broken : AttributesIs s behind of-attributes.Broken → FieldIs s from (readField (drop from s)) of-field.Broken
     field-attributes-broken h = field-broken s from _ (field-then ∙ rw (h .rest))
 
-    module _ (t : Tally) (i : ℕ) (h : AttributesIs s (from + 6) (of-attributes.Tallied t i)) where
+    module _ (t : Tally) (i : ℕ) (h : AttributesIs s behind (of-attributes.Tallied t i)) where
       pub field-open : BodyIs s i (fieldEnd (drop i s)) of-body.Broken → FieldIs s from (readField (drop from s)) of-field.Broken
       field-open b = field-broken s from _ (field-then ∙ rw (h .rest, b .rest))
 
-      pub field-at : (v : Value) (next : ℕ) → BodyIs s i (fieldEnd (drop i s)) (of-body.Holds v next) → FieldIs s from (readField (drop from s)) (assembled (t .datatype) (t .arraysize) v next)
-      unfolding tallyOf elementOf
-      field-at v next b = go (t .datatype) (t .arraysize) (h .places .2 .datatype-in) (h .places .2 .arraysize-in) (field-then ∙ rw (h .rest, b .rest))
-        where
-          go : (d a : Met) → MetIn s d → MetIn s a
-              → readField (drop from s) ≡ (needed (metOf s d) >>= λ x. metOf s a >>= λ l. good (record { datatype = x; arraysize = l; null = asWritten s v; rest = drop next s }))
-              → FieldIs s from (readField (drop from s)) (assembled d a v next)
-          go of-met.Never a w z q = field-broken s from _ q
-          go (of-met.Once x y) of-met.Never w z q = record {
-            rest = q;
-            places = (omega (arith, h .places .0, b .places .0), b .places .1, record { datatype-from = w .0; datatype-to = w .1; arraysize-in = tt; null-in = b .places .2 });
-          }
-          go (of-met.Once x y) (of-met.Once m n) w z q = record {
-            rest = q;
-            places = (omega (arith, h .places .0, b .places .0), b .places .1, record { datatype-from = w .0; datatype-to = w .1; arraysize-in = z; null-in = b .places .2 });
-          }
-          go (of-met.Once x y) of-met.Often w z q = field-broken s from _ q
-          go of-met.Often a w z q = field-broken s from _ q
+      module _ (v : Value) (next : ℕ) (b : BodyIs s i (fieldEnd (drop i s)) (of-body.Holds v next)) where
+        far : from < next
+        far = omega (arith, field-on, h .places .0, b .places .0)
+
+        pub field-at : FieldIs s from (readField (drop from s)) (assembled (t .datatype) (t .arraysize) v next)
+        unfolding tallyOf elementOf
+        field-at = go (t .datatype) (t .arraysize) (h .places .2 .datatype-in) (h .places .2 .arraysize-in) (field-then ∙ rw (h .rest, b .rest))
+          where
+            go : (d a : Met) → MetIn s d → MetIn s a
+                → readField (drop from s) ≡ fieldWith (needed (metOf s d)) (metOf s a) (asWritten s v, drop next s)
+                → FieldIs s from (readField (drop from s)) (assembled d a v next)
+            go of-met.Never a w z q = field-broken s from _ q
+            go (of-met.Once x y) of-met.Never w z q = record {
+              rest = q;
+              places = (far, b .places .1, record { datatype-from = w .0; datatype-to = w .1; arraysize-in = tt; null-in = b .places .2 });
+            }
+            go (of-met.Once x y) (of-met.Once m n) w z q = record {
+              rest = q;
+              places = (far, b .places .1, record { datatype-from = w .0; datatype-to = w .1; arraysize-in = z; null-in = b .places .2 });
+            }
+            go (of-met.Once x y) of-met.Often w z q = field-broken s from _ q
+            go of-met.Often a w z q = field-broken s from _ q

@@ -1,4 +1,4 @@
--- A refusal hands out no column.
+-- declaring::refuse: a refusal hands out no column.
 use Rattle.declaring.specs.Contracts.{answered}
 use Rattle.table.specs.Outcome.{at}
 use borrow.Author.Needs.{needs}

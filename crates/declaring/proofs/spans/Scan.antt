@@ -1,30 +1,25 @@
--- The text at a place: a span of bytes, a word, a name and a value, each read from what is left of it, are found by index.
+-- The text at a place: a span of bytes, a name and a value, each read from what is left of it, are found by index.
 use Prim.Native.Nat.{_+_, _-_, _<_, _≤_, suc, zero-le, ℕ}
-use native.Mathlib.Numerals.{towards-suc}
 use native.Mathlib.Omega.{arith}
-use mathlib.Core.Bool.{Bool, _&&_, _||_, cond, false, false≢true, not, true}
+use mathlib.Core.Bool.{Bool, _||_, cond, false, not, true}
 use mathlib.Core.List.{List, [], _∷_}
 use mathlib.Core.Path.{_∙_, _≡_, ap, refl, sym}
 use lib.Dec.{eqb}
-use lib.ListN.{drop, drop-of-length-le, getD, length, length-drop, take}
-use lib.Seq.{drop-cons, drop-drop}
+use lib.ListN.{drop, getD, length, take}
+use lib.Seq.{drop-drop}
 use borrow.Author.Tests.{eq-eqb, ne-eqb}
-use Rattle.declaring.specs.Readers.{PlaceIs, QuotedIs, SpanEnd, assigned, inClass, isQuote, part, span, starts}
+use Rattle.declaring.specs.Readers.{EndsIs, QuotedIs, SpanEnd, assigned, inClass, isQuote, part, span}
 use Rattle.fields.specs.Fields.{isNameByte, readValue, spanName, spanValue}
 use Rattle.declaring.specs.declared.spans.Class.{Class}
 use Rattle.declaring.specs.declared.spans.Class.the-variants as of-class
-use Rattle.declaring.specs.declared.spans.Place.the-variants as of-place
 use Rattle.declaring.specs.declared.attributes.Value.{Value}
 use Rattle.declaring.specs.declared.attributes.Value.the-variants as of-value
-use Rattle.table.proofs.Laws.{and-both, cond-cases}
-use Rattle.table.specs.Bytes.{after, bytes, ends, isWhite, same, skipWhite}
+use Rattle.table.proofs.Laws.{cond-cases}
+use Rattle.table.proofs.Places.{done, next1}
+use Rattle.table.specs.Bytes.{bytes}
 use Rattle.table.specs.Result.{Result, _>>=_, bad, good}
-
-pub next1 : (s : List ℕ) (i : ℕ) → i < length s → drop i s ≡ getD s i 0 ∷ drop (i + 1) s
-next1 s i h = simp towards-suc (drop-cons s i 0 h)
-
-pub done : (s : List ℕ) (i : ℕ) → length s ≤ i → drop i s ≡ []
-done s i h = drop-of-length-le s h
+use Rattle.text.specs.Contracts.{Skipped}
+use Rattle.text.specs.declared.Tag.the-variants.{At, Broken}
 
 -- ---- a span
 
@@ -47,15 +42,6 @@ module _ (test : ℕ → Bool) where
   span-le (b ∷ s) = cond-cases (λ (n : ℕ). n ≤ suc (length s)) (test b) (suc (span test s)) 0 (λ _. omega (arith, span-le s)) (λ _. zero-le)
 
 -- what a span leaves is what the definitions leave
-pub skip-span : (s : List ℕ) → skipWhite s ≡ drop (span isWhite s) s
-unfolding span skipWhite
-skip-span [] = refl
-skip-span (b ∷ s) = go (isWhite b) (skip-span s)
-  where
-    go : (t : Bool) → skipWhite s ≡ drop (span isWhite s) s → cond t (skipWhite s) (b ∷ s) ≡ drop (cond t (suc (span isWhite s)) 0) (b ∷ s)
-    go true e = e
-    go false e = refl
-
 abbrev pub split : ℕ → List ℕ → List ℕ × List ℕ
 split n s = (take n s, drop n s)
 
@@ -103,63 +89,6 @@ value-span quote (b ∷ s) = go (eqb b quote) refl (eqb b 60) (value-span quote 
     go false e true h = rw e
     go false e false h = rw h (before (take (span (plain quote) s) s) (drop (span (plain quote) s) s))
 
--- ---- a word
-
-pub starts-yes : (w s : List ℕ) (k : ℕ) → length w ≤ k → starts (drop k w) s ≡ true
-unfolding starts
-starts-yes w s k h = rw (done w k h)
-
-pub starts-end : (w s : List ℕ) (k j : ℕ) → k < length w → length s ≤ j → starts (drop k w) (drop j s) ≡ false
-unfolding starts
-starts-end w s k j h e = rw (next1 w k h, done s j e)
-
-pub starts-no : (w s : List ℕ) (k j : ℕ) → k < length w → j < length s → (getD w k 0 ≡ getD s j 0 → ⊥) → starts (drop k w) (drop j s) ≡ false
-unfolding starts
-starts-no w s k j h g n = rw (next1 w k h, next1 s j g) (rw (ne-eqb (getD w k 0) (getD s j 0) n))
-
-pub starts-more : (w s : List ℕ) (k j : ℕ) → k < length w → j < length s → getD w k 0 ≡ getD s j 0 → starts (drop k w) (drop j s) ≡ starts (drop (k + 1) w) (drop (j + 1) s)
-unfolding starts
-starts-more w s k j h g e = rw (next1 w k h, next1 s j g) (rw (eq-eqb (getD w k 0) (getD s j 0) e))
-
-pub starts-long : (w s : List ℕ) → starts w s ≡ true → length w ≤ length s
-unfolding starts
-starts-long [] s e = zero-le
-starts-long (w ∷ ws) [] e = absurd (false≢true e)
-starts-long (w ∷ ws) (b ∷ s) e = omega (arith, starts-long ws s (and-both (eqb w b) (starts ws s) e .1))
-
-pub starts-at : (w s : List ℕ) (i : ℕ) → i ≤ length s → starts w (drop i s) ≡ true → i + length w ≤ length s
-starts-at w s i h e = omega (arith, starts-long w (drop i s) e, length-drop i s)
-
-pub after-starts : (n : ℕ) (w s : List ℕ) → after n w s ≡ cond (starts w s) (good (drop (length w) s)) (bad n)
-unfolding after starts
-after-starts n [] s = refl
-after-starts n (w ∷ ws) [] = refl
-after-starts n (w ∷ ws) (b ∷ s) = go (eqb w b) (after-starts n ws s)
-  where
-    go : (t : Bool) → after n ws s ≡ cond (starts ws s) (good (drop (length ws) s)) (bad n)
-        → cond t (after n ws s) (bad n) ≡ cond (t && starts ws s) (good (drop (length ws) s)) (bad n)
-    go true e = e
-    go false e = refl
-
--- texts of one length are the same when one begins with the other
-pub same-starts : (w s : List ℕ) → length s ≡ length w → starts w s ≡ same w s
-unfolding same starts
-same-starts [] [] h = refl
-same-starts [] (b ∷ s) h = absurd (omega arith)
-same-starts (w ∷ ws) [] h = absurd (omega arith)
-same-starts (w ∷ ws) (b ∷ s) h = ap (λ t. eqb w b && t) (same-starts ws s (omega arith))
-
-pub same-long : (w s : List ℕ) → (length s ≡ length w → ⊥) → same w s ≡ false
-unfolding same
-same-long [] [] h = absurd (h refl)
-same-long [] (b ∷ s) h = refl
-same-long (w ∷ ws) [] h = refl
-same-long (w ∷ ws) (b ∷ s) h = go (eqb w b) (same-long ws s (λ e. h (omega arith)))
-  where
-    go : (t : Bool) → same ws s ≡ false → (t && same ws s) ≡ false
-    go true e = e
-    go false e = refl
-
 -- ---- the same, from a place to a place
 
 pub drop-span : (class : Class) (s : List ℕ) (from r : ℕ) → SpanEnd class s from r → drop (span (inClass class) (drop from s)) (drop from s) ≡ drop r s
@@ -169,29 +98,12 @@ pub take-span : (class : Class) (s : List ℕ) (from r : ℕ) → SpanEnd class 
 take-span class s from r h =
     let e : span (inClass class) (drop from s) ≡ r - from = omega (arith, h .count) in ap (λ (n : ℕ). take n (drop from s)) e
 
-pub skip-at : (s : List ℕ) (from r : ℕ) → SpanEnd of-class.White s from r → skipWhite (drop from s) ≡ drop r s
-skip-at s from r h = skip-span (drop from s) ∙ drop-span of-class.White s from r h
-
 pub name-at : (s : List ℕ) (from r : ℕ) → SpanEnd of-class.Name s from r → _≡_ {A = List ℕ × List ℕ} (spanName (drop from s)) (part s from r, drop r s)
 name-at s from r h = name-span (drop from s) ∙ rw (take-span of-class.Name s from r h, drop-span of-class.Name s from r h)
 
 pub value-at : (quote : ℕ) (s : List ℕ) (from r : ℕ) → SpanEnd (of-class.Quoted quote) s from r → spanValue quote (drop from s) ≡ untilQuote quote (part s from r) (drop r s)
 value-at quote s from r h =
     value-span quote (drop from s) ∙ rw (take-span (of-class.Quoted quote) s from r h, drop-span (of-class.Quoted quote) s from r h)
-
--- ---- white space, then a word
-
-module _ (w s : List ℕ) (from i : ℕ) (white : SpanEnd of-class.White s from i) where
-  pub ends-yes : starts w (drop i s) ≡ true → PlaceIs s from (ends 1 w (drop from s)) (of-place.At (i + length w))
-  unfolding ends
-  ends-yes e = record {
-    rest = rw (skip-at s from i white) (after-starts 1 w (drop i s) ∙ rw e (ap good (drop-drop (length w) i s)));
-    places = (omega (arith, white .onward), starts-at w s i (white .inside) e);
-  }
-
-  pub ends-no : starts w (drop i s) ≡ false → PlaceIs s from (ends 1 w (drop from s)) of-place.Broken
-  unfolding ends
-  ends-no e = record { rest = rw (skip-at s from i white) (after-starts 1 w (drop i s) ∙ rw e); places = tt }
 
 -- ---- a value in its quotes
 
@@ -226,18 +138,18 @@ quoted-from s from at p of-value.Absent h q = record { rest = q .rest; places = 
 quoted-from s from at p (of-value.Present a b) h q = record { rest = q .rest; places = (omega (arith, q .places), q .places .1, q .places .2) }
 
 module _ (s : List ℕ) (from : ℕ) where
-  pub assigned-not : PlaceIs s from (ends 1 (bytes "=") (drop from s)) of-place.Broken → QuotedIs s from (assigned (drop from s)) of-value.Absent
+  pub assigned-not : EndsIs (bytes "=") s from Broken → QuotedIs s from (assigned (drop from s)) of-value.Absent
   unfolding assigned
-  assigned-not h = record { rest = rw (h .rest); places = tt }
+  assigned-not h = record { rest = rw (h .found 1); places = tt }
 
-  module _ (i : ℕ) (h : PlaceIs s from (ends 1 (bytes "=") (drop from s)) (of-place.At i)) (at : ℕ) (white : SpanEnd of-class.White s i at) where
+  module _ (i : ℕ) (h : EndsIs (bytes "=") s from (At i)) (at : ℕ) (white : Skipped s i at) where
     behind : assigned (drop from s) ≡ readValue (drop at s)
     unfolding assigned
-    behind = rw (h .rest, skip-at s i at white)
+    behind = rw (h .found 1, white .rest)
 
     pub assigned-none : length s ≤ at → QuotedIs s from (assigned (drop from s)) of-value.Absent
     unfolding readValue
     assigned-none g = record { rest = behind ∙ rw (done s at g); places = tt }
 
     pub assigned-at : (r : Value) → QuotedIs s at (readValue (drop at s)) r → QuotedIs s from (assigned (drop from s)) r
-    assigned-at r q = rw behind (quoted-from s from at _ r (omega (arith, h .places, white .onward)) q)
+    assigned-at r q = rw behind (quoted-from s from at _ r (omega (arith, h .within .0, white .low)) q)

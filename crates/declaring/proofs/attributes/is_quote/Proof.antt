@@ -1,4 +1,4 @@
--- A quote is one of two bytes.
+-- declaring::attributes::is_quote: a quote is one of two bytes.
 use Rattle.declaring.specs.Readers.{isQuote}
 use borrow.Author.Tests.{ne-eqb}
 use mathlib.Core.Logic.{inl, inr, ⊎-elim}

@@ -1,5 +1,5 @@
--- An attribute met once more: by the cases of how often it was met before.
-use Rattle.declaring.proofs.spans.Tests.{met-again-is}
+-- declaring::attributes::met_again: an attribute met once more: by the cases of how often it was met before.
+use Rattle.declaring.proofs.attributes.Tallies.{met-again-is}
 use borrow.Author.Needs.{needs}
 use Rattle.declaring.proofs.attributes.met_again.Statement.{statement}
 use Rattle.declaring.proofs.attributes.met_again.Tie as tie

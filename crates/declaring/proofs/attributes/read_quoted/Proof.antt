@@ -1,5 +1,5 @@
--- A value in its quotes: the span of its bytes ends at the quote, or there is none.
-use Rattle.declaring.proofs.spans.Scan.{quoted-less, quoted-none, quoted-open, quoted-yes, span-end}
+-- declaring::attributes::read_quoted: a value in its quotes: the span of its bytes ends at the quote, or there is none.
+use Rattle.declaring.proofs.spans.Scan.{quoted-less, quoted-none, quoted-open, quoted-yes}
 use borrow.Author.Needs.{needs}
 use borrow.Author.Tests.{not-false, not-true}
 use denote.Ref.{now}

@@ -1,7 +1,6 @@
--- `=` and the value behind it, with white space around the `=`.
-use Rattle.declaring.proofs.spans.Scan.{assigned-at, assigned-none, assigned-not, span-end}
-use Rattle.declaring.specs.Readers.{PlaceIs}
-use Rattle.table.specs.Bytes.{ends}
+-- declaring::attributes::read_value: `=` and the value behind it, with white space around the `=`.
+use Rattle.declaring.proofs.spans.Scan.{assigned-at, assigned-none, assigned-not}
+use Rattle.text.specs.Contracts.{TagIs}
 use borrow.Author.Needs.{needs}
 use mathlib.Core.Path.{subst}
 use Rattle.declaring.proofs.attributes.read_value.Statement.{statement}
@@ -20,27 +19,27 @@ enum-told : tie.Need-enum-told
 enum-told c = search needs
 
 returns : tie.Need-returns
-returns c = assigned-not _ _ (subst (PlaceIs _ _ _) (c .enum-told .given .1) (c .before .before .ends .ensures))
+returns c = assigned-not _ _ (subst (TagIs _ _ _) (c .enum-told .given .1) (c .before .before .ends .ensures))
 
-span-end-requires : tie.Need-span-end-requires
-span-end-requires c κs =
+skip-white-requires : tie.Need-skip-white-requires
+skip-white-requires c κs =
     let at-i = c .before in let at-ends = at-i .before .before in
-    subst (PlaceIs _ _ _) (at-i .i .given .1) (at-ends .ends .ensures) .places .1
+    subst (TagIs _ _ _) (at-i .i .given .1) (at-ends .ends .ensures) .within .1
 
 read-quoted-requires : tie.Need-read-quoted-requires
 read-quoted-requires c κs = search needs
 
 returns-2 : tie.Need-returns-2
 returns-2 c =
-    let at-span-end = c .before .before in let at-i = at-span-end .before .before in let at-ends = at-i .before .before in
-    assigned-at _ _ _ (subst (PlaceIs _ _ _) (at-i .i .given .1)
-    (at-ends .ends .ensures)) _ (at-span-end .span-end .ensures) _ (c .read-quoted .ensures)
+    let at-skip-white = c .before .before in let at-i = at-skip-white .before .before in let at-ends = at-i .before .before in
+    assigned-at _ _ _ (subst (TagIs _ _ _) (at-i .i .given .1)
+    (at-ends .ends .ensures)) _ (at-skip-white .skip-white .ensures) _ (c .read-quoted .ensures)
 
 returns-3 : tie.Need-returns-3
 returns-3 c =
-    let at-span-end = c .before in let at-i = at-span-end .before .before in let at-ends = at-i .before .before in
-    assigned-none _ _ _ (subst (PlaceIs _ _ _) (at-i .i .given .1) (at-ends .ends .ensures)) _ (at-span-end .span-end .ensures) (c .if1 .left)
+    let at-skip-white = c .before in let at-i = at-skip-white .before .before in let at-ends = at-i .before .before in
+    assigned-none _ _ _ (subst (TagIs _ _ _) (at-i .i .given .1) (at-ends .ends .ensures)) _ (at-skip-white .skip-white .ensures) (c .if1 .left)
 
 pub read-value-spec : {M : Type 1} → statement M
 read-value-spec =
-    tie.close (tie.spec slice-aggregate-ends ends-requires enum-known-i enum-told returns span-end-requires read-quoted-requires returns-2 returns-3)
+    tie.close (tie.spec slice-aggregate-ends ends-requires enum-known-i enum-told returns skip-white-requires read-quoted-requires returns-2 returns-3)

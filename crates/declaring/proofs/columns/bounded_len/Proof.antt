@@ -1,4 +1,4 @@
--- A bounded length, or none where nothing stands before the `*`.
+-- declaring::columns::bounded_len: a bounded length, or none where nothing stands before the `*`.
 use Rattle.declaring.proofs.columns.Numerals.{bounded-none, bounded-some}
 use Rattle.declaring.specs.Readers.{lengthRead}
 use borrow.Author.Needs.{needs}

@@ -1,4 +1,4 @@
--- A fixed length.
+-- declaring::columns::fixed_len: a fixed length.
 use Rattle.declaring.specs.Readers.{fixedLen, lengthRead}
 use borrow.Author.Needs.{needs}
 use mathlib.Core.Path.{_∙_, ap}

@@ -1,4 +1,4 @@
--- A column is scalar: by the cases of its length.
+-- declaring::columns::is_scalar: a column is scalar: by the cases of its length.
 use Rattle.table.specs.Cell.{isScalar}
 use borrow.Author.Needs.{needs}
 use mathlib.Core.Path.{ap, sym}

@@ -1,4 +1,4 @@
--- A FIELD's column: its kind, its length and its null value, the first that is refused first.
+-- declaring::columns::judge: a FIELD's column: its kind, its length and its null value, the first that is refused first.
 use Rattle.declaring.specs.Readers.{elementOf, kindRead, lenRead, nullRead}
 use Rattle.fields.specs.Fields.{judge}
 use borrow.Author.Needs.{needs}
@@ -80,4 +80,5 @@ returns-4 c =
 pub judge-spec : {M : Type 1} → statement M
 judge-spec =
     tie.close
-    (tie.spec sub-kind-of part-kind-of-start part-kind-of-end kind-of-requires enum-known-kind enum-told returns read-len-requires enum-known-len enum-told-2 returns-2 read-null-requires enum-known-null enum-told-3 returns-3 returns-4)
+    (tie.spec sub-kind-of part-kind-of-start part-kind-of-end kind-of-requires enum-known-kind enum-told returns read-len-requires
+    enum-known-len enum-told-2 returns-2 read-null-requires enum-known-null enum-told-3 returns-3 returns-4)

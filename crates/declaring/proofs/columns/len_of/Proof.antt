@@ -1,4 +1,4 @@
--- The length of a column as its arraysize says: by whether a `*` stands last.
+-- declaring::columns::len_of: the length of a column as its arraysize says: by whether a `*` stands last.
 use Prim.Native.Nat.{_-_}
 use Rattle.declaring.proofs.columns.Numerals.{length-none, star-no, star-none, star-yes}
 use Rattle.declaring.specs.Readers.{fixedLen}

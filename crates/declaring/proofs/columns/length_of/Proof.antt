@@ -1,4 +1,4 @@
--- A length: what the digits from `i` on make of `n` is what all of them make.
+-- declaring::columns::length_of: a length: what the digits from `i` on make of `n` is what all of them make.
 use Prim.Native.Nat.{_-_, _<_, _^_, _≤_, zero-le}
 use Rattle.declaring.proofs.columns.Numerals.{capped-more, capped-no, capped-yes, digits-grow, digits-small, length-long, length-none, length-numeral, length-zero, numeral-end, numeral-more, numeral-no}
 use Rattle.number.specs.Number.{Unwritten, digit, numeral}
@@ -96,4 +96,5 @@ returns-7 c =
 pub length-of-spec : {M : Type 1} → statement M
 length-of-spec =
     tie.close
-    (tie.spec Inv-loop μ-loop returns returns-2 shared-slice-read-if3 returns-3 loop-holds shared-slice-read-c returns-4 returns-5 mul-n cast-n add-n add-i loop-less loop-again returns-6 returns-7)
+    (tie.spec Inv-loop μ-loop returns returns-2 shared-slice-read-if3 returns-3 loop-holds shared-slice-read-c returns-4 returns-5 mul-n
+    cast-n add-n add-i loop-less loop-again returns-6 returns-7)

@@ -1,4 +1,4 @@
--- The null value of a scalar column: by its kind.
+-- declaring::columns::null_of: the null value of a scalar column: by its kind.
 use Rattle.declaring.specs.Readers.{nullOfScalar}
 use Rattle.table.specs.Shape.{shape}
 use borrow.Author.Needs.{needs}
@@ -86,4 +86,5 @@ returns-7 c =
 pub null-of-spec : {M : Type 1} → statement M
 null-of-spec =
     tie.close
-    (tie.spec enum-told enum-told-2 enum-told-3 null-value-requires enum-told-4 null-value-requires-2 enum-told-5 null-value-requires-3 enum-told-6 null-value-requires-4 enum-told-7 returns returns-2 returns-3 returns-4 returns-5 returns-6 returns-7)
+    (tie.spec enum-told enum-told-2 enum-told-3 null-value-requires enum-told-4 null-value-requires-2 enum-told-5 null-value-requires-3
+    enum-told-6 null-value-requires-4 enum-told-7 returns returns-2 returns-3 returns-4 returns-5 returns-6 returns-7)

@@ -1,4 +1,4 @@
--- A null value of one word: what the word reads as.
+-- declaring::columns::null_word: a null value of one word: what the word reads as.
 use Rattle.fields.specs.Fields.{nullValue}
 use Rattle.words.specs.Contracts.{readingOf}
 use Rattle.table.specs.Result.{good}

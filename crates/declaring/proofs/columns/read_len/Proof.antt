@@ -1,4 +1,4 @@
--- The length of a column: no arraysize is `1`.
+-- declaring::columns::read_len: the length of a column: no arraysize is `1`.
 use Rattle.declaring.specs.Readers.{ValueIn, asWritten}
 use Rattle.fields.specs.Fields.{lenOf}
 use borrow.Author.Needs.{needs}

@@ -1,4 +1,4 @@
--- The null value counts on a scalar column alone.
+-- declaring::columns::read_null: the null value counts on a scalar column alone.
 use Rattle.declaring.proofs.columns.Words.{array-null, scalar-null}
 use Rattle.declaring.specs.Readers.{ValueIn, asWritten}
 use Rattle.fields.specs.Fields.{nullOf}

@@ -1,5 +1,5 @@
--- A FIELD's datatype stands once, its arraysize at most once: by the cases of how often they were met.
-use Rattle.declaring.proofs.spans.Tests.{assembled-is}
+-- declaring::elements::assemble: a FIELD's datatype stands once, its arraysize at most once: by the cases of how often they were met.
+use Rattle.declaring.proofs.elements.Tags.{assembled-is}
 use borrow.Author.Needs.{needs}
 use mathlib.Core.Path.{refl}
 use Rattle.declaring.proofs.elements.assemble.Statement.{statement}

@@ -1,7 +1,7 @@
--- What follows `<VALUES`: its attributes, `/>`, and the null value as it was met.
+-- declaring::elements::read_values: what follows `<VALUES`: its attributes, `/>`, and the null value as it was met.
 use Rattle.declaring.proofs.elements.Tags.{values-at, values-broken, values-open}
-use Rattle.declaring.specs.Readers.{AttributesIs, PlaceIs}
-use Rattle.table.specs.Bytes.{ends}
+use Rattle.declaring.specs.Readers.{AttributesIs}
+use Rattle.text.specs.Contracts.{TagIs}
 use borrow.Author.Needs.{needs}
 use mathlib.Core.Path.{subst}
 use Rattle.declaring.proofs.elements.read_values.Statement.{statement}
@@ -38,7 +38,7 @@ enum-told-2 c = search needs
 returns-2 : tie.Need-returns-2
 returns-2 c =
     let at-ends = c .before .before in let at-t = at-ends .before .before .before in let at-read-attributes = at-t .before .before in
-    values-open _ _ _ _ (subst (AttributesIs _ _) (at-t .t .given .1) (at-read-attributes .read-attributes .ensures)) (subst (PlaceIs _ _ _)
+    values-open _ _ _ _ (subst (AttributesIs _ _) (at-t .t .given .1) (at-read-attributes .read-attributes .ensures)) (subst (TagIs _ _ _)
     (c .enum-told2 .given .1) (at-ends .ends .ensures))
 
 values-body-requires : tie.Need-values-body-requires
@@ -49,7 +49,7 @@ returns-3 c =
     let at-next = c .before .before in let at-ends = at-next .before .before in let at-t = at-ends .before .before .before in
     let at-read-attributes = at-t .before .before in
     rw (c .values-body .ensures) (values-at _ _ _ _ (subst (AttributesIs _ _) (at-t .t .given .1) (at-read-attributes .read-attributes .ensures)) _ (subst
-    (PlaceIs _ _ _) (at-next .next .given .1) (at-ends .ends .ensures)))
+    (TagIs _ _ _) (at-next .next .given .1) (at-ends .ends .ensures)))
 
 pub read-values-spec : {M : Type 1} → statement M
 read-values-spec =

@@ -1,5 +1,5 @@
--- A null value that stands once or not at all: by the cases of how often it was met.
-use Rattle.declaring.proofs.spans.Tests.{values-body-is}
+-- declaring::elements::values_body: a null value that stands once or not at all: by the cases of how often it was met.
+use Rattle.declaring.proofs.elements.Tags.{values-body-is}
 use borrow.Author.Needs.{needs}
 use Rattle.declaring.proofs.elements.values_body.Statement.{statement}
 use Rattle.declaring.proofs.elements.values_body.Tie as tie

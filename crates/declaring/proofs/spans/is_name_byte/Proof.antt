@@ -1,5 +1,5 @@
--- A byte is of a name: each arm's tests say so, or not.
-use Rattle.declaring.proofs.spans.Tests.{name-digit, name-lower, name-mark, name-no, name-upper}
+-- declaring::spans::is_name_byte: a byte is of a name: each arm's tests say so, or not.
+use Rattle.declaring.proofs.spans.NameBytes.{name-digit, name-lower, name-mark, name-no, name-upper}
 use Rattle.fields.specs.Fields.{isNameByte}
 use Rattle.table.specs.Bytes.{between}
 use mathlib.Core.Logic.{inl, inr, ⊎-elim}

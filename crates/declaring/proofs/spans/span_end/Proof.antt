@@ -1,4 +1,4 @@
--- A span of bytes: as many are still to come from `i` on as from the start, but for those that were passed.
+-- declaring::spans::span_end: a span of bytes: as many are still to come from `i` on as from the start, but for those that were passed.
 use Prim.Native.Nat.{_+_, _-_, _≤_}
 use Rattle.declaring.proofs.spans.Scan.{span-end, span-more, span-stop}
 use Rattle.declaring.specs.Readers.{inClass, span}
