@@ -28,10 +28,12 @@ use Rattle.declaring.specs.declared.attributes.Met.{Met}
 use Rattle.declaring.specs.declared.attributes.Met.the-variants as of-met
 use Rattle.declaring.specs.declared.columns.NullRead.{NullRead}
 use Rattle.declaring.specs.declared.columns.NullRead.the-variants as of-null
+use Rattle.declaring.specs.declared.attributes.Quoted.{Quoted}
+use Rattle.declaring.specs.declared.attributes.Quoted.the-variants as of-quoted
 use Rattle.declaring.specs.declared.attributes.Tally.{Tally}
 use Rattle.declaring.specs.declared.attributes.Value.{Value}
 use Rattle.declaring.specs.declared.attributes.Value.the-variants as of-value
-use Rattle.table.specs.Bytes.{byte, bytes, ends, isWhite, same, skipWhite, words}
+use Rattle.table.specs.Bytes.{byte, bytes, ends, isWhite, same, skipWhite, tag, words}
 use Rattle.table.specs.Result.{Result, _>>=_, bad, good, orElse}
 use Rattle.table.specs.Shape.{Bits, Shape, Text, Truths, Whole}
 use Rattle.table.specs.declared.Column.{Column}
@@ -71,15 +73,15 @@ EndsIs word s from r = TagIs (λ n. ends n word (drop from s)) s from r
 -- ---- values
 
 -- a value in its quotes and what follows the quote behind it, or refusal 1
-abbrev pub quotedOf : List ℕ → Value → Result ℕ (List ℕ × List ℕ)
-quotedOf s of-value.Absent = bad 1
-quotedOf s (of-value.Present a b) = good (part s a b, drop (b + 1) s)
+abbrev pub quotedOf : List ℕ → Quoted → Result ℕ (List ℕ × List ℕ)
+quotedOf s of-quoted.Broken = bad 1
+quotedOf s (of-quoted.Holds a b) = good (part s a b, drop (b + 1) s)
 
-abbrev pub QuotedIn : List ℕ → ℕ → Value → Type 0
-QuotedIn s from of-value.Absent = Unit {0}
-QuotedIn s from (of-value.Present a b) = (from < a) × (a ≤ b) × (b < length s)
+abbrev pub QuotedIn : List ℕ → ℕ → Quoted → Type 0
+QuotedIn s from of-quoted.Broken = Unit {0}
+QuotedIn s from (of-quoted.Holds a b) = (from < a) × (a ≤ b) × (b < length s)
 
-pub record QuotedIs (s : List ℕ) (from : ℕ) (p : Result ℕ (List ℕ × List ℕ)) (r : Value) : Type 0 where
+pub record QuotedIs (s : List ℕ) (from : ℕ) (p : Result ℕ (List ℕ × List ℕ)) (r : Quoted) : Type 0 where
   pub rest : p ≡ quotedOf s r
   pub places : QuotedIn s from r
 
@@ -190,7 +192,7 @@ valuesBody of-met.Often next = of-body.Broken
 
 -- the end tag, with what was read before it
 unfoldable pub endTag : Option (List ℕ) → List ℕ → Result ℕ (Option (List ℕ) × List ℕ)
-endTag v s = ends 1 (bytes "</FIELD") s >>= λ u. ends 1 (bytes ">") u >>= λ rest. good (v, rest)
+endTag v s = tag 1 (bytes "</FIELD") (skipWhite s) >>= λ rest. good (v, rest)
 
 -- what follows the attributes of a FIELD: "an empty-element tag, or a start tag, at most one VALUES as an empty-element tag, and the end tag"
 unfoldable pub fieldEnd : List ℕ → Result ℕ (Option (List ℕ) × List ℕ)

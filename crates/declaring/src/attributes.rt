@@ -17,6 +17,12 @@ pub enum Value {
     Present(usize, usize),
 }
 
+// A value in its quotes.
+enum Quoted {
+    Broken,
+    Holds(usize, usize),
+}
+
 // How often an attribute was met, and its value if once.
 pub enum Met {
     Never,
@@ -47,37 +53,37 @@ fn is_quote(c: u8) -> bool
 }
 
 // The value that a quote at `from` opens.
-fn read_quoted(s: &[u8], from: usize) -> Value
+fn read_quoted(s: &[u8], from: usize) -> Quoted
     requires { ⌜ from < length (now s) ⌝ }
     ensures { λ r. ⌜ QuotedIs (now (s .entry)) from (readValue (drop from (now (s .entry)))) r ⌝ }
 {
     let quote = s[from];
     if !is_quote(quote) {
-        return Value::Absent;
+        return Quoted::Broken;
     }
     let end = span_end(s, from + 1, Class::Quoted(quote));
     if s.len() <= end {
-        return Value::Absent;
+        return Quoted::Broken;
     }
     if s[end] == quote {
-        return Value::Present(from + 1, end);
+        return Quoted::Holds(from + 1, end);
     }
-    Value::Absent
+    Quoted::Broken
 }
 
 // `=` and the value behind it.
-fn read_value(s: &[u8], at: usize) -> Value
+fn read_value(s: &[u8], at: usize) -> Quoted
     requires { ⌜ at ≤ length (now s) ⌝ }
     ensures { λ r. ⌜ QuotedIs (now (s .entry)) at (assigned (drop at (now (s .entry)))) r ⌝ }
 {
     let Tag::At(i) = ends(s, at, b"=") else {
-        return Value::Absent;
+        return Quoted::Broken;
     };
     let from = skip_white(s, i);
     if from < s.len() {
         return read_quoted(s, from);
     }
-    Value::Absent
+    Quoted::Broken
 }
 
 fn met_again(m: Met, counts: bool, start: usize, end: usize) -> Met
@@ -130,8 +136,8 @@ pub fn read_attributes(s: &[u8], from: usize) -> Attributes
             return Attributes::Tallied(t, at);
         }
         match read_value(s, name_end) {
-            Value::Absent => return Attributes::Broken,
-            Value::Present(start, end) => {
+            Quoted::Broken => return Attributes::Broken,
+            Quoted::Holds(start, end) => {
                 t = with_attribute(t, &s[name..name_end], start, end);
                 at = end + 1;
             }

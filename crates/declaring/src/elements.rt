@@ -11,6 +11,8 @@ use crate::attributes::read_attributes;
 use text::Tag;
 use text::ends;
 use text::goes_on;
+use text::skip_white;
+use text::whole_tag;
 
 // A null value as written, and the place behind what holds it.
 enum Body {
@@ -63,10 +65,8 @@ fn read_end_tag(s: &[u8], at: usize, value: Value) -> Body
     requires { ⌜ (at ≤ length (now s)) × ValueIn (now s) value ⌝ }
     ensures { λ r. ⌜ BodyIs (now (s .entry)) at (endTag (asWritten (now (s .entry)) value) (drop at (now (s .entry)))) r ⌝ }
 {
-    let Tag::At(i) = ends(s, at, b"</FIELD") else {
-        return Body::Broken;
-    };
-    let Tag::At(next) = ends(s, i, b">") else {
+    let i = skip_white(s, at);
+    let Tag::At(next) = whole_tag(s, i, b"</FIELD") else {
         return Body::Broken;
     };
     Body::Holds(value, next)

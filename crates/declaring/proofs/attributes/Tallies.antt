@@ -14,7 +14,7 @@ use Rattle.declaring.specs.declared.spans.Class.the-variants as of-class
 use Rattle.declaring.specs.declared.attributes.Met.{Met}
 use Rattle.declaring.specs.declared.attributes.Met.the-variants as of-met
 use Rattle.declaring.specs.declared.attributes.Tally.{Tally}
-use Rattle.declaring.specs.declared.attributes.Value.the-variants as of-value
+use Rattle.declaring.specs.declared.attributes.Quoted.the-variants as of-quoted
 use Rattle.table.proofs.Laws.{skip-le}
 use Rattle.table.specs.Bytes.{bytes, ends, isWhite, same, skipWhite}
 use Rattle.table.specs.Result.{Result, _>>=_, bad, good}
@@ -255,9 +255,9 @@ module _ (s : List ℕ) (at name end : ℕ) (white : Skipped s at name) (bytes-o
       go (good u) = refl
       go (bad n) = refl
 
-  pub attribute-broken : QuotedIs s end (assigned (drop end s)) of-value.Absent → readAttribute (skipWhite (drop at s)) ≡ bad 1
+  pub attribute-broken : QuotedIs s end (assigned (drop end s)) of-quoted.Broken → readAttribute (skipWhite (drop at s)) ≡ bad 1
   attribute-broken q = attribute-is ∙ rw (q .rest)
 
-  pub attribute-at : (a b : ℕ) → QuotedIs s end (assigned (drop end s)) (of-value.Present a b)
+  pub attribute-at : (a b : ℕ) → QuotedIs s end (assigned (drop end s)) (of-quoted.Holds a b)
       → readAttribute (skipWhite (drop at s)) ≡ good (record { name = part s name end; value = part s a b }, drop (b + 1) s)
   attribute-at a b q = attribute-is ∙ rw (q .rest)

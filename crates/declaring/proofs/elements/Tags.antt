@@ -17,9 +17,9 @@ use Rattle.declaring.specs.declared.attributes.Tally.{Tally}
 use Rattle.declaring.specs.declared.attributes.Value.{Value}
 use Rattle.declaring.specs.declared.attributes.Value.the-variants as of-value
 use Rattle.table.proofs.Laws.{after-le, holds-at}
-use Rattle.table.specs.Bytes.{after, bytes, ends}
+use Rattle.table.specs.Bytes.{after, bytes, ends, tag}
 use Rattle.table.specs.Result.{Result, _>>=_, bad, good}
-use Rattle.text.specs.Contracts.{TagIs}
+use Rattle.text.specs.Contracts.{Skipped, TagIs}
 use Rattle.text.specs.declared.Tag.{Tag}
 use Rattle.text.specs.declared.Tag.the-variants.{At, Broken}
 
@@ -32,19 +32,15 @@ body-broken s from p e = record { rest = e; places = tt }
 
 -- ---- the end tag
 
-module _ (s : List ℕ) (from : ℕ) (v : Value) where
-  pub end-tag-no : EndsIs (bytes "</FIELD") s from Broken → BodyIs s from (endTag (asWritten s v) (drop from s)) of-body.Broken
+module _ (s : List ℕ) (from : ℕ) (v : Value) (i : ℕ) (white : Skipped s from i) where
+  pub end-tag-no : TagIs (λ n. tag n (bytes "</FIELD") (drop i s)) s i Broken → BodyIs s from (endTag (asWritten s v) (drop from s)) of-body.Broken
   unfolding endTag
-  end-tag-no h = body-broken s from _ (rw (h .found 1))
+  end-tag-no h = body-broken s from _ (rw (white .rest, h .found 1))
 
-  module _ (i : ℕ) (h : EndsIs (bytes "</FIELD") s from (At i)) where
-    pub end-tag-open : EndsIs (bytes ">") s i Broken → BodyIs s from (endTag (asWritten s v) (drop from s)) of-body.Broken
-    unfolding endTag
-    end-tag-open k = body-broken s from _ (rw (h .found 1, k .found 1))
-
-    pub end-tag-yes : (next : ℕ) → EndsIs (bytes ">") s i (At next) → ValueIn s v → BodyIs s from (endTag (asWritten s v) (drop from s)) (of-body.Holds v next)
-    unfolding endTag
-    end-tag-yes next k w = record { rest = rw (h .found 1, k .found 1); places = (omega (arith, h .within .0, k .within .0), k .within .1, w) }
+  pub end-tag-yes : (next : ℕ) → TagIs (λ n. tag n (bytes "</FIELD") (drop i s)) s i (At next) → ValueIn s v
+      → BodyIs s from (endTag (asWritten s v) (drop from s)) (of-body.Holds v next)
+  unfolding endTag
+  end-tag-yes next h w = record { rest = rw (white .rest, h .found 1); places = (omega (arith, white .low, h .within .0), h .within .1, w) }
 
 -- ---- VALUES
 
@@ -90,10 +86,23 @@ values-after s = outer (ends 1 (bytes "<VALUES") s)
 
 -- ---- what stands in a FIELD
 
+abbrev held : Option (List ℕ) → List ℕ → Result ℕ (Option (List ℕ) × List ℕ)
+held v rest = good (v, rest)
+
 module _ (s : List ℕ) (from : ℕ) where
   body-is : fieldBody (drop from s) ≡ (begins (ends 1 (bytes "<VALUES") (drop from s)) (readValues (drop from s)) (good (none, drop from s)) >>= λ r. endTag (r .0) (r .1))
-  unfolding fieldBody endTag
-  body-is = refl
+  unfolding fieldBody endTag tag ends
+  body-is = outer (begins (ends 1 (bytes "<VALUES") (drop from s)) (readValues (drop from s)) (good (none, drop from s)))
+    where
+      inner : (v : Option (List ℕ)) (r : Result ℕ (List ℕ))
+          → (r >>= λ u. ends 1 (bytes ">") u >>= held v) ≡ ((r >>= λ u. ends 1 (bytes ">") u) >>= held v)
+      inner v (good u) = refl
+      inner v (bad n) = refl
+
+      outer : (r : Result ℕ (Option (List ℕ) × List ℕ))
+          → (r >>= λ x. ends 1 (bytes "</FIELD") (x .1) >>= λ u. ends 1 (bytes ">") u >>= held (x .0)) ≡ (r >>= λ x. endTag (x .0) (x .1))
+      outer (good x) = inner (x .0) (ends 1 (bytes "</FIELD") (x .1))
+      outer (bad n) = refl
 
   pub body-none : (r : Body) → EndsIs (bytes "<VALUES") s from Broken → BodyIs s from (endTag none (drop from s)) r → BodyIs s from (fieldBody (drop from s)) r
   unfolding begins

@@ -12,8 +12,8 @@ use Rattle.declaring.specs.Readers.{EndsIs, QuotedIs, SpanEnd, assigned,
 use Rattle.fields.specs.Fields.{isNameByte, readValue, spanName, spanValue}
 use Rattle.declaring.specs.declared.spans.Class.{Class}
 use Rattle.declaring.specs.declared.spans.Class.the-variants as of-class
-use Rattle.declaring.specs.declared.attributes.Value.{Value}
-use Rattle.declaring.specs.declared.attributes.Value.the-variants as of-value
+use Rattle.declaring.specs.declared.attributes.Quoted.{Quoted}
+use Rattle.declaring.specs.declared.attributes.Quoted.the-variants as of-quoted
 use Rattle.table.proofs.Laws.{cond-cases}
 use Rattle.table.proofs.Places.{done, next1}
 use Rattle.table.specs.Bytes.{bytes}
@@ -112,33 +112,33 @@ module _ (s : List ℕ) (from : ℕ) (h : from < length s) where
   unfolding readValue isQuote
   quote-first = rw (next1 s from h)
 
-  pub quoted-none : isQuote (getD s from 0) ≡ false → QuotedIs s from (readValue (drop from s)) of-value.Absent
+  pub quoted-none : isQuote (getD s from 0) ≡ false → QuotedIs s from (readValue (drop from s)) of-quoted.Broken
   quoted-none e = record { rest = quote-first ∙ rw e; places = tt }
 
   module _ (q : isQuote (getD s from 0) ≡ true) (end : ℕ) (v : SpanEnd (of-class.Quoted (getD s from 0)) s (from + 1) end) where
     quote-then : readValue (drop from s) ≡ untilQuote (getD s from 0) (part s (from + 1) end) (drop end s)
     quote-then = quote-first ∙ rw q (value-at (getD s from 0) s (from + 1) end v)
 
-    pub quoted-open : length s ≤ end → QuotedIs s from (readValue (drop from s)) of-value.Absent
+    pub quoted-open : length s ≤ end → QuotedIs s from (readValue (drop from s)) of-quoted.Broken
     quoted-open g = record { rest = quote-then ∙ rw (done s end g); places = tt }
 
-    pub quoted-yes : end < length s → getD s end 0 ≡ getD s from 0 → QuotedIs s from (readValue (drop from s)) (of-value.Present (from + 1) end)
+    pub quoted-yes : end < length s → getD s end 0 ≡ getD s from 0 → QuotedIs s from (readValue (drop from s)) (of-quoted.Holds (from + 1) end)
     quoted-yes g e = record {
       rest = quote-then ∙ rw (next1 s end g) (rw (eq-eqb (getD s end 0) (getD s from 0) e));
       places = (omega arith, omega (arith, v .onward), g);
     }
 
-    pub quoted-less : end < length s → (getD s end 0 ≡ getD s from 0 → ⊥) → QuotedIs s from (readValue (drop from s)) of-value.Absent
+    pub quoted-less : end < length s → (getD s end 0 ≡ getD s from 0 → ⊥) → QuotedIs s from (readValue (drop from s)) of-quoted.Broken
     quoted-less g n = record { rest = quote-then ∙ rw (next1 s end g) (rw (ne-eqb (getD s end 0) (getD s from 0) n)); places = tt }
 
 -- ---- `=` and the value behind it
 
-pub quoted-from : (s : List ℕ) (from at : ℕ) (p : Result ℕ (List ℕ × List ℕ)) (r : Value) → from ≤ at → QuotedIs s at p r → QuotedIs s from p r
-quoted-from s from at p of-value.Absent h q = record { rest = q .rest; places = tt }
-quoted-from s from at p (of-value.Present a b) h q = record { rest = q .rest; places = (omega (arith, q .places), q .places .1, q .places .2) }
+pub quoted-from : (s : List ℕ) (from at : ℕ) (p : Result ℕ (List ℕ × List ℕ)) (r : Quoted) → from ≤ at → QuotedIs s at p r → QuotedIs s from p r
+quoted-from s from at p of-quoted.Broken h q = record { rest = q .rest; places = tt }
+quoted-from s from at p (of-quoted.Holds a b) h q = record { rest = q .rest; places = (omega (arith, q .places), q .places .1, q .places .2) }
 
 module _ (s : List ℕ) (from : ℕ) where
-  pub assigned-not : EndsIs (bytes "=") s from Broken → QuotedIs s from (assigned (drop from s)) of-value.Absent
+  pub assigned-not : EndsIs (bytes "=") s from Broken → QuotedIs s from (assigned (drop from s)) of-quoted.Broken
   unfolding assigned
   assigned-not h = record { rest = rw (h .found 1); places = tt }
 
@@ -147,9 +147,9 @@ module _ (s : List ℕ) (from : ℕ) where
     unfolding assigned
     behind = rw (h .found 1, white .rest)
 
-    pub assigned-none : length s ≤ at → QuotedIs s from (assigned (drop from s)) of-value.Absent
+    pub assigned-none : length s ≤ at → QuotedIs s from (assigned (drop from s)) of-quoted.Broken
     unfolding readValue
     assigned-none g = record { rest = behind ∙ rw (done s at g); places = tt }
 
-    pub assigned-at : (r : Value) → QuotedIs s at (readValue (drop at s)) r → QuotedIs s from (assigned (drop from s)) r
+    pub assigned-at : (r : Quoted) → QuotedIs s at (readValue (drop at s)) r → QuotedIs s from (assigned (drop from s)) r
     assigned-at r q = rw behind (quoted-from s from at _ r (omega (arith, h .within .0, white .low)) q)

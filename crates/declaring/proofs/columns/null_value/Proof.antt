@@ -1,8 +1,6 @@
 -- declaring::columns::null_value: a null value: its one word, found by its spans.
 use Rattle.declaring.proofs.columns.Words.{null-one, null-two}
-use Rattle.number.specs.Contracts.{isSigned, widthOf}
 use borrow.Author.Needs.{needs}
-use denote.Ref.{now}
 use mathlib.Core.Path.{_∙_}
 use native.Mathlib.Omega.{arith}
 use Rattle.declaring.proofs.columns.null_value.Statement.{statement}

@@ -1,58 +1,38 @@
--- declaring::elements::read_end_tag: the end tag: `</FIELD`, then `>`.
-use Rattle.declaring.proofs.elements.Tags.{end-tag-no, end-tag-open, end-tag-yes}
+-- declaring::elements::read_end_tag: the tag behind white space, and the value that was held before it.
+use Rattle.declaring.proofs.elements.Tags.{end-tag-no, end-tag-yes}
 use Rattle.text.specs.Contracts.{TagIs}
 use borrow.Author.Needs.{needs}
-use denote.Ref.{now}
 use mathlib.Core.Path.{subst}
 use Rattle.declaring.proofs.elements.read_end_tag.Statement.{statement}
 use Rattle.declaring.proofs.elements.read_end_tag.Tie as tie
 
-slice-aggregate-ends : tie.Need-slice-aggregate-ends
-slice-aggregate-ends c = search needs
+skip-white-requires : tie.Need-skip-white-requires
+skip-white-requires c κs = search needs
 
-ends-requires : tie.Need-ends-requires
-ends-requires c κs = search needs
+slice-aggregate-whole-tag : tie.Need-slice-aggregate-whole-tag
+slice-aggregate-whole-tag c = search needs
 
-enum-known-i : tie.Need-enum-known-i
-enum-known-i c = search needs
+whole-tag-requires : tie.Need-whole-tag-requires
+whole-tag-requires c κs = c .before .skip-white .ensures .high
+
+enum-known-next : tie.Need-enum-known-next
+enum-known-next c = search needs
 
 enum-told : tie.Need-enum-told
 enum-told c = search needs
 
 returns : tie.Need-returns
 returns c =
-    let at-ends = c .before .before in let start = at-ends .before .before .before in
-    end-tag-no (now (start .args .s)) (start .args .at) (start .args .value) (subst (TagIs _ _ _) (c .enum-told .given .1) (at-ends .ends .ensures))
-
-slice-aggregate-ends-2 : tie.Need-slice-aggregate-ends-2
-slice-aggregate-ends-2 c = search needs
-
-ends-requires-2 : tie.Need-ends-requires-2
-ends-requires-2 c κs =
-    let at-i = c .before .before in let at-ends = at-i .before .before in
-    subst (TagIs _ _ _) (at-i .i .given .1) (at-ends .ends .ensures) .within .1
-
-enum-known-next : tie.Need-enum-known-next
-enum-known-next c = search needs
-
-enum-told-2 : tie.Need-enum-told-2
-enum-told-2 c = search needs
+    let at-tag = c .before .before in let at-white = at-tag .before .before in let start = at-white .before .before in
+    end-tag-no _ _ (start .args .value) _ (at-white .skip-white .ensures) (subst (TagIs _ _ _) (c .enum-told .given .1) (at-tag .whole-tag .ensures))
 
 returns-2 : tie.Need-returns-2
 returns-2 c =
-    let at-ends2 = c .before .before in let at-i = at-ends2 .before .before .before in let at-ends = at-i .before .before in
-    let start = at-ends .before .before .before in
-    end-tag-open (now (start .args .s)) (start .args .at) (start .args .value) _ (subst (TagIs _ _ _) (at-i .i .given .1)
-    (at-ends .ends .ensures)) (subst (TagIs _ _ _) (c .enum-told2 .given .1) (at-ends2 .ends2 .ensures))
-
-returns-3 : tie.Need-returns-3
-returns-3 c =
-    let at-next = c .before in let at-ends2 = at-next .before .before in let at-i = at-ends2 .before .before .before in
-    let at-ends = at-i .before .before in let start = at-ends .before .before .before in
-    end-tag-yes (now (start .args .s)) (start .args .at) (start .args .value) _ (subst (TagIs _ _ _) (at-i .i .given .1)
-    (at-ends .ends .ensures)) _ (subst (TagIs _ _ _) (at-next .next .given .1) (at-ends2 .ends2 .ensures)) (start .pre .1)
+    let at-next = c .before in let at-tag = at-next .before .before in let at-white = at-tag .before .before in
+    let start = at-white .before .before in
+    end-tag-yes _ _ (start .args .value) _ (at-white .skip-white .ensures) _
+    (subst (TagIs _ _ _) (at-next .next .given .1) (at-tag .whole-tag .ensures)) (start .pre .1)
 
 pub read-end-tag-spec : {M : Type 1} → statement M
 read-end-tag-spec =
-    tie.close
-    (tie.spec slice-aggregate-ends ends-requires enum-known-i enum-told returns slice-aggregate-ends-2 ends-requires-2 enum-known-next enum-told-2 returns-2 returns-3)
+    tie.close (tie.spec skip-white-requires slice-aggregate-whole-tag whole-tag-requires enum-known-next enum-told returns returns-2)
