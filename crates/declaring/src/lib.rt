@@ -23,6 +23,11 @@ use table::Len;
 use table::Null;
 use text::skip_white;
 
+// "declarations up to 65,536 bytes", "any row input [..] up to 1,073,741,824 bytes"
+const MOST_DECLARATIONS: usize = 65_536;
+
+const MOST_INPUT: usize = 1_073_741_824;
+
 // The answer: number 0 and the columns, or a refusal's number and place and no column.
 pub struct Declared {
     pub number: u64,
@@ -57,7 +62,7 @@ fn refuse(number: u64, place: usize) -> Declared
 pub fn declare(text: &[u8]) -> Declared
     ensures { λ r. ⌜ r ≡ answered (declare (now (text .entry))) ⌝ }
 {
-    if 65536 < text.len() {
+    if MOST_DECLARATIONS < text.len() {
         return refuse(6, 0);
     }
     let mut columns = no_columns();
@@ -100,7 +105,7 @@ pub fn front(decls: &[u8], size: usize) -> Declared
     if number != 0 {
         return d;
     }
-    if 1073741824 < size {
+    if MOST_INPUT < size {
         return refuse(6, 0);
     }
     d

@@ -2,6 +2,7 @@
 use Prim.Native.Nat.{_<_, _≤_, ℕ}
 use native.Mathlib.Omega.{arith}
 use mathlib.Core.Bool.{Bool, _||_, false, not, true}
+use mathlib.Core.Logic.{_⊎_, inl, inr}
 use mathlib.Core.Path.{_≡_, ap, refl, sym}
 use lib.Dec.{eqb}
 use borrow.Author.Tests.{eq-eqb, eqb-false, ne-eqb}
@@ -34,10 +35,12 @@ name-mark b h k = rw (between-no 65 90 b (omega arith), between-no 97 122 b (ome
     go true e = rw e
     go false e = rw (e, ne-eqb b 95 (λ f. omega arith), ne-eqb b 58 (λ f. omega arith), eq-eqb b 46 (omega (arith, eqb-false b 45 e)))
 
-pub name-no : (b : ℕ) → (65 ≤ b → b ≤ 90 → ⊥) → (97 ≤ b → b ≤ 122 → ⊥) → (48 ≤ b → b ≤ 57 → ⊥) → (b ≡ 45 → ⊥) → (b ≡ 95 → ⊥) → (b ≡ 58 → ⊥) → (b ≡ 46 → ⊥) → isNameByte b ≡ false
+pub name-no : (b : ℕ) → (b ≡ 58 ⊎ b ≡ 95 → ⊥) → (65 ≤ b → b ≤ 90 → ⊥) → (97 ≤ b → b ≤ 122 → ⊥) → (48 ≤ b → b ≤ 57 → ⊥) → (45 ≤ b → b ≤ 46 → ⊥)
+    → isNameByte b ≡ false
 unfolding isNameByte
-name-no b h i j k l m n =
-    rw (between-no 65 90 b h, between-no 97 122 b i, between-no 48 57 b j, ne-eqb b 45 k, ne-eqb b 95 l, ne-eqb b 58 m, ne-eqb b 46 n)
+name-no b k upper lower digit mark =
+    rw (between-no 65 90 b upper, between-no 97 122 b lower, between-no 48 57 b digit, ne-eqb b 45 (λ e. mark (omega arith) (omega arith)))
+    (rw (ne-eqb b 95 (λ e. k (inr e)), ne-eqb b 58 (λ e. k (inl e)), ne-eqb b 46 (λ e. mark (omega arith) (omega arith))))
 
 -- ---- by the cases of an enum
 

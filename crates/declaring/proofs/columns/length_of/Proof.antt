@@ -1,12 +1,14 @@
 -- declaring::columns::length_of: a length: what the digits from `i` on make of `n` is what all of them make.
-use Prim.Native.Nat.{_-_, _<_, _^_, _≤_, zero-le}
-use Rattle.declaring.proofs.columns.Numerals.{capped-more, capped-no, capped-yes, digits-grow, digits-small, length-long, length-none, length-numeral, length-zero, numeral-end, numeral-more, numeral-no}
+use Prim.Native.Nat.{_-_, _<_, _^_, _≤_, zero-le, ℕ}
+use Rattle.declaring.proofs.columns.Numerals.{capped, capped-more, capped-no, capped-yes, digits-grow, digits-small, length-long, length-none, length-numeral, length-zero, numeral-end, numeral-more, numeral-no}
+use Rattle.fields.specs.Fields.{lengthOf}
 use Rattle.number.specs.Number.{Unwritten, digit, numeral}
 use borrow.Author.Needs.{needs}
 use denote.Ref.{now}
 use lib.Dec.{lit<}
 use lib.ListN.{drop, length}
-use mathlib.Core.Path.{_∙_, _≡_, refl}
+use mathlib.Core.List.{List}
+use mathlib.Core.Path.{_∙_, _≡_, ap, refl}
 use native.Mathlib.Omega.{arith}
 use Rattle.declaring.proofs.columns.length_of.Statement.{statement}
 use Rattle.declaring.proofs.columns.length_of.Tie as tie
@@ -35,34 +37,36 @@ loop-holds c = (zero-le, lit< tt, refl)
 shared-slice-read-c : tie.Need-shared-slice-read-c Inv-loop μ-loop
 shared-slice-read-c c = search needs
 
+-- the length is what the digits from here on make of the number so far
+abbrev text-at : tie.At-loop Inv-loop μ-loop → List ℕ
+text-at c = now (c .before .before .before .before .before .args .t)
+
+whole : (c : tie.At-loop Inv-loop μ-loop) → lengthOf (text-at c) ≡ capped (numeral digit 10 (c .loop .n) (drop (c .loop .i) (text-at c)))
+whole c =
+    let at-if3 = c .before in let at-if2 = at-if3 .before .before in
+    length-numeral (text-at c) (omega arith) (at-if2 .if2 .left) (at-if3 .if3 .left) ∙ ap capped (c .loop .inv .2)
+
+small : (c : tie.In-loop Inv-loop μ-loop) → c .before .loop .n < 10000
+small c = digits-small (c .before .loop .n) (c .before .loop .i) (c .before .loop .inv .1) (omega arith)
+
 returns-4 : tie.Need-returns-4 Inv-loop μ-loop
 returns-4 c =
-    let at-loop-test = c .before .before in let at-loop = at-loop-test .before in let at-if3 = at-loop .before in
-    let at-if2 = at-if3 .before .before in let start = at-if2 .before .before in
-    length-numeral (now (start .args .t)) (omega arith) (at-if2 .if2 .left) (at-if3 .if3 .left) ∙ capped-no _ Unwritten (at-loop .loop .inv .2
-    ∙ numeral-no _ _ _ (at-loop-test .loop-test .taken) (λ h k. omega arith))
+    let at-test = c .before .before in
+    whole (at-test .before) ∙ capped-no _ Unwritten (numeral-no _ _ _ (at-test .loop-test .taken) (λ h k. omega arith))
 
 returns-5 : tie.Need-returns-5 Inv-loop μ-loop
 returns-5 c =
-    let at-loop-test = c .before .before .before in let at-loop = at-loop-test .before in let at-if3 = at-loop .before in
-    let at-if2 = at-if3 .before .before in let start = at-if2 .before .before in
-    length-numeral (now (start .args .t)) (omega arith) (at-if2 .if2 .left) (at-if3 .if3 .left) ∙ capped-no _ Unwritten (at-loop .loop .inv .2
-    ∙ numeral-no _ _ _ (at-loop-test .loop-test .taken) (λ h k. omega arith))
+    let at-test = c .before .before .before in
+    whole (at-test .before) ∙ capped-no _ Unwritten (numeral-no _ _ _ (at-test .loop-test .taken) (λ h k. omega arith))
 
 mul-n : tie.Need-mul-n Inv-loop μ-loop
-mul-n c =
-    let at-loop = c .before .before .before .before in
-    let l = digits-small (at-loop .loop .n) (at-loop .loop .i) (at-loop .loop .inv .1) (omega arith) in
-    omega arith
+mul-n c = omega (arith, small (c .before .before .before))
 
 cast-n : tie.Need-cast-n Inv-loop μ-loop
 cast-n c = omega (arith, c .before .before .shared-slice-known2 .given (c .before .before .before .before .loop .i))
 
 add-n : tie.Need-add-n Inv-loop μ-loop
-add-n c =
-    let at-loop = c .before .before .before .before in
-    let l = digits-small (at-loop .loop .n) (at-loop .loop .i) (at-loop .loop .inv .1) (omega arith) in
-    omega arith
+add-n c = omega (arith, small (c .before .before .before))
 
 add-i : tie.Need-add-i Inv-loop μ-loop
 add-i c = search needs
@@ -80,18 +84,10 @@ loop-again c =
     )
 
 returns-6 : tie.Need-returns-6 Inv-loop μ-loop
-returns-6 c =
-    let at-loop-test = c .before in let at-loop = at-loop-test .before in let at-if3 = at-loop .before in let at-if2 = at-if3 .before .before in
-    let start = at-if2 .before .before in
-    length-numeral (now (start .args .t)) (omega arith) (at-if2 .if2 .left) (at-if3 .if3 .left) ∙ capped-yes _ _ (at-loop .loop .inv .2
-    ∙ numeral-end _ _ _ (at-loop-test .loop-test .left)) (c .if6 .taken)
+returns-6 c = whole (c .before .before) ∙ capped-yes _ _ (numeral-end _ _ _ (c .before .loop-test .left)) (c .if6 .taken)
 
 returns-7 : tie.Need-returns-7 Inv-loop μ-loop
-returns-7 c =
-    let at-loop-test = c .before in let at-loop = at-loop-test .before in let at-if3 = at-loop .before in let at-if2 = at-if3 .before .before in
-    let start = at-if2 .before .before in
-    length-numeral (now (start .args .t)) (omega arith) (at-if2 .if2 .left) (at-if3 .if3 .left) ∙ capped-more _ _ (at-loop .loop .inv .2
-    ∙ numeral-end _ _ _ (at-loop-test .loop-test .left)) (c .if6 .left)
+returns-7 c = whole (c .before .before) ∙ capped-more _ _ (numeral-end _ _ _ (c .before .loop-test .left)) (c .if6 .left)
 
 pub length-of-spec : {M : Type 1} → statement M
 length-of-spec =

@@ -2,7 +2,7 @@
 use Rattle.declaring.proofs.spans.NameBytes.{name-digit, name-lower, name-mark, name-no, name-upper}
 use Rattle.fields.specs.Fields.{isNameByte}
 use Rattle.table.specs.Bytes.{between}
-use mathlib.Core.Logic.{inl, inr, ⊎-elim}
+use mathlib.Core.Logic.{⊎-elim}
 use mathlib.Core.Path.{ap, sym}
 use native.Mathlib.Omega.{arith}
 use Rattle.declaring.proofs.spans.is_name_byte.Statement.{statement}
@@ -18,34 +18,19 @@ returns-3 : tie.Need-returns-3
 returns-3 c = sym (name-lower _ (omega arith) (omega arith))
 
 returns-4 : tie.Need-returns-4
-returns-4 c =
-    let at-match = c .before in
-    sym (name-no _ (λ h k. omega arith) (λ h k. omega arith) (λ h k. omega arith) (λ e. omega arith) (λ e. at-match .match .rest .1
-    (inr e)) (λ e. at-match .match .rest .1 (inl e)) (λ e. omega arith))
+returns-4 c = sym (name-no _ (c .before .match .rest .1) (omega arith) (omega arith) (omega arith) (omega arith))
 
 returns-5 : tie.Need-returns-5
-returns-5 c =
-    let at-match = c .before .before .before in
-    sym (name-no _ (λ h k. omega arith) (λ h k. omega arith) (λ h k. omega arith) (λ e. omega arith) (λ e. at-match .match .rest .1
-    (inr e)) (λ e. at-match .match .rest .1 (inl e)) (λ e. omega arith))
+returns-5 c = sym (name-no _ (c .before .before .before .match .rest .1) (omega arith) (omega arith) (omega arith) (omega arith))
 
 returns-6 : tie.Need-returns-6
-returns-6 c =
-    let at-match = c .before .before .before .before .before in
-    sym (name-no _ (λ h k. omega arith) (λ h k. omega arith) (λ h k. omega arith) (λ e. omega arith) (λ e. at-match .match .rest .1
-    (inr e)) (λ e. at-match .match .rest .1 (inl e)) (λ e. omega arith))
+returns-6 c = sym (name-no _ (c .before .before .before .before .before .match .rest .1) (omega arith) (omega arith) (omega arith) (omega arith))
 
 returns-7 : tie.Need-returns-7
-returns-7 c =
-    let at-match = c .before .before .before .before .before .before .before in
-    sym (name-no _ (λ h k. omega arith) (λ h k. omega arith) (λ h k. omega arith) (λ e. omega arith) (λ e. at-match .match .rest .1
-    (inr e)) (λ e. at-match .match .rest .1 (inl e)) (λ e. omega arith))
+returns-7 c = sym (name-no _ (c .before .before .before .before .before .before .before .match .rest .1) (omega arith) (omega arith) (omega arith) (omega arith))
 
 returns-8 : tie.Need-returns-8
-returns-8 c =
-    let at-match = c .before .before .before .before .before .before .before .before in
-    sym (name-no _ (λ h k. omega arith) (λ h k. omega arith) (λ h k. omega arith) (λ e. omega arith) (λ e. at-match .match .rest .1
-    (inr e)) (λ e. at-match .match .rest .1 (inl e)) (λ e. omega arith))
+returns-8 c = sym (name-no _ (c .before .before .before .before .before .before .before .before .match .rest .1) (omega arith) (omega arith) (omega arith) (omega arith))
 
 returns-9 : tie.Need-returns-9
 unfolding isNameByte between
