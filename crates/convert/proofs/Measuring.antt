@@ -12,7 +12,7 @@ use lib.ListN.{drop, drop-of-length-le, length, length-append, take-append-drop}
 use Rattle.convert.specs.Contracts.{FormWithin, Grown, GrownBy, HoldsAs, addedTo, formAs, heldWith}
 use Rattle.convert.specs.declared.Form.{Form}
 use Rattle.convert.specs.declared.Measured.{Measured}
-use Rattle.fields.specs.Contracts.{listed}
+use Rattle.table.specs.ColumnList.{listed}
 use Rattle.flags.specs.Contracts.{flagBit}
 use Rattle.number.specs.Number.{toDigits}
 use Rattle.row_reading.proofs.Parts.{RowRead, read-end}

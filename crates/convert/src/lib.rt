@@ -1,5 +1,5 @@
 // Rows of one kind to rows of another: a loop over rows with a loop over columns inside.
-use fields::declare;
+use declaring::front;
 use flags::add_flag;
 use row_reading::Begin;
 use row_reading::Close;
@@ -25,7 +25,7 @@ ghost use Rattle.table.specs.Cell.{bound};
 ghost use Rattle.table.specs.Contracts.{sizeAs};
 ghost use Rattle.table.specs.Outcome.{answerOf, at, bufferOf};
 ghost use Rattle.table.specs.Result.{refusedAs};
-ghost use Rattle.fields.specs.Contracts.{listed};
+ghost use Rattle.table.specs.ColumnList.{listed};
 ghost use Rattle.row_writing.specs.Contracts.{SizeWithin};
 ghost use Rattle.rows.specs.Bounds.{Within};
 ghost use Rattle.rows.specs.Convert.{Converts};
@@ -362,26 +362,17 @@ pub fn convert_columns(cols: Columns, from: Rows, to: Rows, s: &[u8], out: &mut 
     convert_rows(cols, from, to, s, out, &mut scratch)
 }
 
-// Rows of one kind to rows of another: the declarations first, then the input's size, then the rows.
+// Rows of one kind to rows of another: the front of the call, then the rows.
 pub fn convert(decls: &[u8], from: Rows, to: Rows, input: &[u8], out: &mut [u8]) -> Answer
     ensures { λ r. ⌜ Converts (now (decls .entry)) from to (now (input .entry)) (now (out .entry)) r (now (out .exit)) ⌝ }
 {
-    let d = declare(decls);
+    let d = front(decls, input.len());
     let number = d.number;
     if number != 0 {
         return Answer {
             number,
             row: 0,
             column: d.place as u64,
-            rows: 0,
-            bytes: 0,
-        };
-    }
-    if 1073741824 < input.len() {
-        return Answer {
-            number: 6,
-            row: 0,
-            column: 0,
             rows: 0,
             bytes: 0,
         };

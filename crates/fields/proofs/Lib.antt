@@ -1,10 +1,3 @@
 pub mod Laws
 pub mod Refusals
-pub mod Scan
-pub mod Tests
-pub mod Numerals
-pub mod Tallies
-pub mod Tags
-pub mod Words
-pub mod Whole
-pub mod Answers
+pub mod Front

@@ -100,7 +100,8 @@ length-fails : (s : List ℕ) → Fails (Numbered 1 6) (lengthOf s)
 unfolding lengthOf
 length-fails [] = fails three
 length-fails (b ∷ s) =
-    fails-cond (between (byte "1") (byte "9") b && leb (length s) 3) (fails-bind (fails-always (λ f. 3) (numeral digit 10 (b - 48) s) (λ f. three)) (λ n. fails-cond (leb n 4096) gives (fails three))) (fails three)
+    fails-cond (between (byte "1") (byte "9") b && leb (length s) 3)
+    (fails-bind (fails-always (λ f. 3) (numeral digit 10 (b - 48) s) (λ f. three)) (λ n. fails-cond (leb n 4096) gives (fails three))) (fails three)
 
 bounded-fails : (s : List ℕ) → Fails (Numbered 1 6) (boundedLen s)
 unfolding boundedLen

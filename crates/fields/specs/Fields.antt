@@ -7,8 +7,8 @@ use lib.Dec.{eqb, leb, ltb}
 use lib.ListN.{length}
 use Rattle.number.specs.Number.{digit, numeral, readInteger}
 use Rattle.table.specs.Bytes.{after, between, byte, bytes, ends, isWhite, same, skipWhite, words}
-use Rattle.table.specs.Cell.{isScalar, null}
-use Rattle.table.specs.Outcome.{Refusal, at, mostDeclarations, written}
+use Rattle.table.specs.Cell.{isScalar}
+use Rattle.table.specs.Outcome.{Refusal, at, mostDeclarations}
 use Rattle.table.specs.Result.{Result, _>>=_, bad, good, orElse, refusedAs}
 use Rattle.table.specs.Shape.{Bits, Shape, Text, Truths, Whole, Width, last, shape}
 use Rattle.table.specs.declared.Column.{Column}

@@ -1,3 +1,2 @@
 pub mod Fields
-pub mod Contracts
-pub mod Readers
+pub mod Front

@@ -89,7 +89,7 @@ fn say_columns(columns: Columns) {
 
 // A line: its title, the number, the place, and the columns.
 fn show(title: &[u8], text: &[u8]) {
-    let d = fields::declare(text);
+    let d = declaring::declare(text);
     say(title);
     say(b": ");
     io::print_decimal(STDOUT_FILENO, d.number);

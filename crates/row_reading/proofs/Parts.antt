@@ -8,8 +8,8 @@ use mathlib.Core.List.{List, [], _++_, _∷_, append-assoc, append-nil}
 use mathlib.Core.Path.{_∙_, _≡_, ap, refl, subst}
 use lib.IntN.{ℤ}
 use lib.ListN.{drop, drop-of-length-le, getD, length, length-drop, take}
-use Rattle.fields.proofs.Answers.{listed-next}
-use Rattle.fields.specs.Contracts.{listed, noColumn}
+use Rattle.table.proofs.ColumnList.{listed-next}
+use Rattle.table.specs.ColumnList.{listed, noColumn}
 use Rattle.row_reading.specs.Contracts.{BeginWithin, Begins, CloseWithin, Closes, PassesCell, PassesCells, PassesRow, cellsEnd, flagsIn}
 use Rattle.row_reading.specs.declared.Begin.{Begin}
 use Rattle.row_reading.specs.declared.Close.{Close}

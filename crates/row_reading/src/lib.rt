@@ -20,7 +20,7 @@ ghost use lib.ListN.{drop, length};
 ghost use Rattle.table.specs.Cell.{bound};
 ghost use Rattle.table.specs.Contracts.{Reads};
 ghost use Rattle.table.specs.Outcome.{answerOf};
-ghost use Rattle.fields.specs.Contracts.{listed};
+ghost use Rattle.table.specs.ColumnList.{listed};
 ghost use Rattle.rows.specs.Bounds.{Within};
 ghost use Rattle.rows.specs.Stream.{atEnd, flag, passed, read, readCell, readRow};
 ghost use Rattle.row_reading.specs.Contracts.{Begins, Closes, PassesCell, PassesCells, PassesRow, cellsEnd, flagsIn};

@@ -7,7 +7,7 @@ use lib.IntN.{negsuc, pos, ℤ}
 use lib.ListN.{drop, length, take}
 use lib.Seq.{sets}
 use Rattle.binary.specs.Binary.{pack, writeBinary, writeBinary2}
-use Rattle.fields.specs.Contracts.{listed}
+use Rattle.table.specs.ColumnList.{listed}
 use Rattle.number.specs.Number.{toDigits}
 use Rattle.row_reading.specs.Contracts.{flagsIn}
 use Rattle.row_writing.specs.declared.Held.{Held}

@@ -23,7 +23,7 @@ ghost use lib.ListN.{drop, length};
 ghost use Rattle.table.specs.Cell.{bound};
 ghost use Rattle.table.specs.Contracts.{held, sizeAs, sizeOf};
 ghost use Rattle.table.specs.Wrote.{Wrote};
-ghost use Rattle.fields.specs.Contracts.{listed};
+ghost use Rattle.table.specs.ColumnList.{listed};
 ghost use Rattle.rows.specs.Bounds.{Within};
 ghost use Rattle.rows.specs.Stream.{readCell, writeCell, writeEnd};
 ghost use Rattle.row_writing.specs.Contracts.{HeldAt, HeldIs, HeldReady, HeldWithin, Rewritten, SizeWithin, cellBytes, cellForm, heldForm, heldNext, putForm, readForm, rowBytes, startBytes};

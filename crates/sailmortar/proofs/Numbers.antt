@@ -3,10 +3,10 @@ use Prim.Native.Nat.{suc, zero, ℕ}
 use mathlib.Core.Option.{none, some}
 use mathlib.Core.List.{List, [], _∷_}
 use mathlib.Core.Path.{_≡_, refl}
-use Rattle.fields.specs.Contracts.{answered}
+use Rattle.declaring.specs.Contracts.{answered}
 use Rattle.sailmortar.specs.Face.{betweenKinds, convertFace, declaredNumbers, faced, noSuchKind, rowsOf}
 use Rattle.rows.specs.Convert.{convert}
-use Rattle.fields.specs.declared.Declared.{Declared}
+use Rattle.declaring.specs.declared.Declared.{Declared}
 use Rattle.table.specs.Outcome.{Refusal}
 use Rattle.table.specs.Result.{Result, bad, good}
 use Rattle.table.specs.declared.Column.{Column}

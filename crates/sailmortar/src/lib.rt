@@ -79,7 +79,7 @@ pub extern "C" fn sailmortar_base64_encode(input: &[u8], out: &mut [u8], answer:
 pub extern "C" fn sailmortar_declare(decls: &[u8], answer: &mut [u64; 5])
     ensures { λ _. ⌜ now (answer .exit) ≡ declareFace (now (decls .entry)) ⌝ }
 {
-    let d = fields::declare(decls);
+    let d = declaring::declare(decls);
     let columns = d.columns;
     *answer = [d.number, 0, d.place as u64, columns.count as u64, 0];
 }

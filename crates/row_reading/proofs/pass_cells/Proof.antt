@@ -6,8 +6,8 @@ use mathlib.Core.List.{List}
 use mathlib.Core.Path.{_∙_, _≡_, ap, refl, subst}
 use lib.ListN.{drop, getD, length}
 use denote.Ref.{now}
-use Rattle.fields.proofs.Answers.{listed-length, listed-next}
-use Rattle.fields.specs.Contracts.{listed, noColumn}
+use Rattle.table.proofs.ColumnList.{listed-length, listed-next}
+use Rattle.table.specs.ColumnList.{listed, noColumn}
 use Rattle.row_reading.proofs.Parts.{RowRead, cells-closed, cells-open, cells-stopped, closed-within, listed-bound, read-end, read-more, read-start, read-stop}
 use Rattle.row_reading.specs.Contracts.{PassesCell, flagsIn}
 use Rattle.rows.specs.Stream.{readCells}

@@ -2,8 +2,8 @@
 use Prim.Native.Nat.{_≤_}
 use mathlib.Core.Path.{refl}
 use denote.Ref.{now}
-use Rattle.fields.proofs.Answers.{listed-length}
-use Rattle.fields.specs.Contracts.{listed}
+use Rattle.table.proofs.ColumnList.{listed-length}
+use Rattle.table.specs.ColumnList.{listed}
 use Rattle.row_reading.proofs.Parts.{begun-within, row-passed, row-unbegun}
 use borrow.Author.Needs.{needs}
 use native.Mathlib.Omega.{arith}

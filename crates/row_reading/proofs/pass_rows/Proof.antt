@@ -5,7 +5,7 @@ use mathlib.Core.Bool.{false}
 use mathlib.Core.Path.{_∙_, _≡_, refl, subst, sym}
 use lib.ListN.{drop, length}
 use denote.Ref.{now}
-use Rattle.fields.specs.Contracts.{listed}
+use Rattle.table.specs.ColumnList.{listed}
 use Rattle.row_reading.proofs.PassedRows.{RowsPassed, pass-end, pass-more, pass-start, pass-stop}
 use Rattle.row_reading.specs.Contracts.{PassesRow}
 use Rattle.rows.specs.Stream.{atEnd}

@@ -5,7 +5,7 @@ use mathlib.Core.Path.{ap, refl, subst, sym}
 use lib.ListN.{drop, length}
 use denote.Ref.{now}
 use borrow.Author.Needs.{needs}
-use Rattle.fields.specs.Contracts.{listed}
+use Rattle.table.specs.ColumnList.{listed}
 use Rattle.number.proofs.Places.{wrote-as}
 use Rattle.row_writing.specs.Contracts.{HeldReady, putForm, rowBytes}
 use Rattle.row_writing.specs.declared.Holding.{Holding}

@@ -10,8 +10,8 @@ use lib.Seq.{length-sets, sets}
 use native.Mathlib.Numerals.{add-one}
 use denote.Ref.{now}
 use native.Mathlib.Omega.{arith}
-use Rattle.fields.proofs.Answers.{listed-length, listed-next}
-use Rattle.fields.specs.Contracts.{listed, noColumn}
+use Rattle.table.proofs.ColumnList.{listed-length, listed-next}
+use Rattle.table.specs.ColumnList.{listed, noColumn}
 use Rattle.row_reading.proofs.Ways.{no-flag}
 use Rattle.row_writing.proofs.RowForm.{WriteInv, write-fits, write-more, write-start, written-end, written-to}
 use Rattle.row_reading.proofs.Parts.{listed-bound}

@@ -6,14 +6,14 @@ use lib.ListN.{length, drop, getD}
 use lib.Seq.{sets, length-sets}
 use denote.Ref.{now}
 use native.Mathlib.Omega.{arith}
-use Rattle.fields.specs.Contracts.{listed, noColumn}
+use Rattle.table.specs.ColumnList.{listed, noColumn}
 use Rattle.rows.specs.Stream.{writeEnd}
 use Rattle.row_reading.specs.Contracts.{flagsIn}
 use Rattle.row_writing.specs.Contracts.{readForm, startBytes}
 use Rattle.rows.specs.Stream.{readCell}
 use Rattle.row_writing.proofs.RowForm.{WriteInv, write-start, write-fits, write-more, written-end, written-to}
 use Rattle.tabledata_writing.proofs.Writing.{wrote-long}
-use Rattle.fields.proofs.Answers.{listed-length, listed-next}
+use Rattle.table.proofs.ColumnList.{listed-length, listed-next}
 use Rattle.row_reading.proofs.Parts.{listed-bound}
 use Rattle.row_writing.proofs.RowForm.{row-bytes-length, row-stored}
 use Rattle.row_writing.proofs.write_row.Statement.{statement}

@@ -1,0 +1,84 @@
+-- declaring::columns::judge: a FIELD's column: its kind, its length and its null value, the first that is refused first.
+use Rattle.declaring.specs.Readers.{elementOf, kindRead, lenRead, nullRead}
+use Rattle.fields.specs.Fields.{judge}
+use borrow.Author.Needs.{needs}
+use mathlib.Core.Path.{_∙_, ap}
+use native.Mathlib.Omega.{arith}
+use Rattle.declaring.proofs.columns.judge.Statement.{statement}
+use Rattle.declaring.proofs.columns.judge.Tie as tie
+
+sub-kind-of : tie.Need-sub-kind-of
+sub-kind-of c = omega (arith, c .before .pre .datatype-from)
+
+part-kind-of-start : tie.Need-part-kind-of-start
+part-kind-of-start c = c .before .pre .datatype-from
+
+part-kind-of-end : tie.Need-part-kind-of-end
+part-kind-of-end c = c .before .pre .datatype-to
+
+kind-of-requires : tie.Need-kind-of-requires
+kind-of-requires c κs = search needs
+
+enum-known-kind : tie.Need-enum-known-kind
+enum-known-kind c = search needs
+
+enum-told : tie.Need-enum-told
+enum-told c = search needs
+
+returns : tie.Need-returns
+unfolding judge elementOf
+returns c = rw (c .before .before .kind-of .ensures ∙ ap kindRead (c .enum-told .given .1))
+
+read-len-requires : tie.Need-read-len-requires
+read-len-requires c κs = c .before .before .before .before .before .before .pre .arraysize-in
+
+enum-known-len : tie.Need-enum-known-len
+enum-known-len c = search needs
+
+enum-told-2 : tie.Need-enum-told-2
+enum-told-2 c = search needs
+
+returns-2 : tie.Need-returns-2
+unfolding judge elementOf
+returns-2 c =
+    let at-read-len = c .before .before in let at-kind = at-read-len .before .before in let at-kind-of = at-kind .before .before in
+    rw (at-kind-of .kind-of .ensures ∙ ap kindRead (at-kind .kind .given .1), at-read-len .read-len .ensures ∙ ap lenRead (c .enum-told2 .given .1))
+
+read-null-requires : tie.Need-read-null-requires
+read-null-requires c κs =
+    let start = c .before .before .before .before .before .before .before .before .before .before in
+    start .pre .null-in
+
+enum-known-null : tie.Need-enum-known-null
+enum-known-null c = search needs
+
+enum-told-3 : tie.Need-enum-told-3
+enum-told-3 c = search needs
+
+returns-3 : tie.Need-returns-3
+unfolding judge elementOf
+returns-3 c =
+    let at-read-null = c .before .before in let at-len = at-read-null .before .before in let at-read-len = at-len .before .before in
+    let at-kind = at-read-len .before .before in let at-kind-of = at-kind .before .before in
+    rw (
+      at-kind-of .kind-of .ensures ∙ ap kindRead (at-kind .kind .given .1),
+      at-read-len .read-len .ensures ∙ ap lenRead (at-len .len .given .1),
+      at-read-null .read-null .ensures ∙ ap nullRead (c .enum-told3 .given .1),
+    )
+
+returns-4 : tie.Need-returns-4
+unfolding judge elementOf
+returns-4 c =
+    let at-null = c .before in let at-read-null = at-null .before .before in let at-len = at-read-null .before .before in
+    let at-read-len = at-len .before .before in let at-kind = at-read-len .before .before in let at-kind-of = at-kind .before .before in
+    rw (
+      at-kind-of .kind-of .ensures ∙ ap kindRead (at-kind .kind .given .1),
+      at-read-len .read-len .ensures ∙ ap lenRead (at-len .len .given .1),
+      at-read-null .read-null .ensures ∙ ap nullRead (at-null .null .given .1),
+    )
+
+pub judge-spec : {M : Type 1} → statement M
+judge-spec =
+    tie.close
+    (tie.spec sub-kind-of part-kind-of-start part-kind-of-end kind-of-requires enum-known-kind enum-told returns read-len-requires
+    enum-known-len enum-told-2 returns-2 read-null-requires enum-known-null enum-told-3 returns-3 returns-4)

@@ -1,0 +1,137 @@
+-- declaring::declare: the whole text: the columns so far, in front of what is declared from here on, are what the text declares.
+use Prim.Native.Nat.{_-_, _≤_}
+use Rattle.declaring.proofs.Stages.{Stage, stage-broken, stage-done, stage-full, stage-more, stage-none, stage-refused, stage-start, stored-long, too-long}
+use Rattle.declaring.specs.Contracts.{answered}
+use Rattle.declaring.specs.Readers.{FieldIs, judged}
+use borrow.Author.Needs.{needs}
+use lib.Dec.{lit≤}
+use lib.ListN.{length}
+use mathlib.Core.Path.{_∙_, ap, refl, subst, sym}
+use native.Mathlib.Omega.{arith}
+use Rattle.declaring.proofs.declare.Statement.{statement}
+use Rattle.declaring.proofs.declare.Tie as tie
+
+abbrev Inv-loop : tie.InvT-loop
+Inv-loop text columns₀ at₀ k₀ columns at k = (at ≤ length text) × (k ≤ 64) × Stage text at k columns
+
+abbrev μ-loop : tie.MeasureT-loop
+μ-loop text columns₀ at₀ k₀ columns at k = length text - at
+
+refuse-requires : tie.Need-refuse-requires Inv-loop μ-loop
+refuse-requires c κs = search needs
+
+returns : tie.Need-returns Inv-loop μ-loop
+returns c = c .refuse .ensures ∙ ap answered (sym (too-long _ (c .before .if1 .taken)))
+
+no-columns-requires : tie.Need-no-columns-requires Inv-loop μ-loop
+no-columns-requires c κs = search needs
+
+skip-white-requires : tie.Need-skip-white-requires Inv-loop μ-loop
+skip-white-requires c κs = search needs
+
+loop-holds : tie.Need-loop-holds Inv-loop μ-loop
+loop-holds c =
+    let at-no-columns = c .before in let at-if1 = at-no-columns .before in
+    (c .skip-white .ensures .high, lit≤ tt, stage-start _ _ _ (at-if1 .if1 .left) (c .skip-white .ensures) (at-no-columns .no-columns .ensures))
+
+read-field-requires : tie.Need-read-field-requires Inv-loop μ-loop
+read-field-requires c κs = search needs
+
+enum-known-e : tie.Need-enum-known-e Inv-loop μ-loop
+enum-known-e c = search needs
+
+enum-told : tie.Need-enum-told Inv-loop μ-loop
+enum-told c = search needs
+
+refuse-requires-2 : tie.Need-refuse-requires-2 Inv-loop μ-loop
+refuse-requires-2 c κs = search needs
+
+returns-2 : tie.Need-returns-2 Inv-loop μ-loop
+returns-2 c =
+    let at-enum-told = c .before in let at-read-field = at-enum-told .before .before in let at-loop-test = at-read-field .before in
+    let at-loop = at-loop-test .before in
+    c .refuse2 .ensures ∙ ap answered (sym (stage-broken _ _ _ _ (at-loop .loop .inv .2) (at-loop-test .loop-test .taken) (subst (FieldIs _ _ _)
+    (at-enum-told .enum-told .given .1) (at-read-field .read-field .ensures))))
+
+judge-requires : tie.Need-judge-requires Inv-loop μ-loop
+judge-requires c κs =
+    let at-e = c .before in let at-read-field = at-e .before .before in
+    (subst (FieldIs _ _ _) (at-e .e .given .1) (at-read-field .read-field .ensures)) .places .2
+
+enum-known-number : tie.Need-enum-known-number Inv-loop μ-loop
+enum-known-number c = search needs
+
+refuse-requires-3 : tie.Need-refuse-requires-3 Inv-loop μ-loop
+refuse-requires-3 c κs = search needs
+
+returns-3 : tie.Need-returns-3 Inv-loop μ-loop
+returns-3 c =
+    let at-number = c .before .before in let at-judge = at-number .before .before in let at-e = at-judge .before .before in
+    let at-read-field = at-e .before .before in let at-loop-test = at-read-field .before in let at-loop = at-loop-test .before in
+    c .refuse3 .ensures ∙ ap answered (sym (stage-refused _ _ _ _ (at-loop .loop .inv .2) (at-loop-test .loop-test .taken) _ (subst (FieldIs _ _ _)
+    (at-e .e .given .1) (at-read-field .read-field .ensures)) _ (at-judge .judge .ensures ∙ ap judged (at-number .number .given .1))))
+
+enum-known-c : tie.Need-enum-known-c Inv-loop μ-loop
+enum-known-c c = search needs
+
+refuse-requires-4 : tie.Need-refuse-requires-4 Inv-loop μ-loop
+refuse-requires-4 c κs = search needs
+
+returns-4 : tie.Need-returns-4 Inv-loop μ-loop
+returns-4 c =
+    let at-if2 = c .before in let at-c = at-if2 .before .before in let at-judge = at-c .before .before in let at-e = at-judge .before .before in
+    let at-read-field = at-e .before .before in let at-loop-test = at-read-field .before in let at-loop = at-loop-test .before in
+    c .refuse4 .ensures ∙ ap answered (sym (stage-full _ _ _ _ (at-loop .loop .inv .2) (at-loop-test .loop-test .taken) _ (subst (FieldIs _ _ _)
+    (at-e .e .given .1) (at-read-field .read-field .ensures)) _ (at-judge .judge .ensures ∙ ap judged (at-c .c .given .1)) (at-if2 .if2 .taken)))
+
+mul-c : tie.Need-mul-c Inv-loop μ-loop
+mul-c c = search needs
+
+element-set-from-c : tie.Need-element-set-from-c Inv-loop μ-loop
+element-set-from-c c =
+    let at-loop = c .before .before .before .before .before .before .before .before .before .before in
+    let l = stored-long _ _ _ _ (at-loop .loop .inv .1) (at-loop .loop .inv .2) in
+    omega (arith, l, c .if2 .left)
+
+add-k : tie.Need-add-k Inv-loop μ-loop
+add-k c = search needs
+
+skip-white-requires-2 : tie.Need-skip-white-requires-2 Inv-loop μ-loop
+skip-white-requires-2 c κs =
+    let at-e = c .before .before .before .before .before .before in let at-read-field = at-e .before .before in
+    (subst (FieldIs _ _ _) (at-e .e .given .1) (at-read-field .read-field .ensures)) .places .1
+
+loop-less : tie.Need-loop-less Inv-loop μ-loop
+loop-less c =
+    let at-e = c .before .before .before .before .before .before .before in let at-read-field = at-e .before .before in
+    let f = (subst (FieldIs _ _ _) (at-e .e .given .1) (at-read-field .read-field .ensures)) in
+    omega (arith, f .places .0, f .places .1, c .skip-white2 .ensures .low, c .skip-white2 .ensures .high)
+
+loop-again : tie.Need-loop-again Inv-loop μ-loop
+loop-again c =
+    let at-if2 = c .before in let at-c = at-if2 .before .before in let at-judge = at-c .before .before in let at-e = at-judge .before .before in
+    let at-read-field = at-e .before .before in let at-loop-test = at-read-field .before in let at-loop = at-loop-test .before in (
+      c .skip-white2 .ensures .high,
+      omega (arith, at-if2 .if2 .left),
+      stage-more _ _ _ _ (at-loop .loop .inv .2) (at-loop-test .loop-test .taken) _
+          (subst (FieldIs _ _ _) (at-e .e .given .1) (at-read-field .read-field .ensures)) _ (at-judge .judge .ensures ∙ ap judged
+          (at-c .c .given .1)) _ _ (at-loop .loop .inv .1) (at-if2 .if2 .left) (c .skip-white2 .ensures) refl,
+    )
+
+refuse-requires-5 : tie.Need-refuse-requires-5 Inv-loop μ-loop
+refuse-requires-5 c κs = search needs
+
+returns-5 : tie.Need-returns-5 Inv-loop μ-loop
+returns-5 c =
+    let at-if3 = c .before in let at-loop-test = at-if3 .before in let at-loop = at-loop-test .before in
+    c .refuse5 .ensures ∙ ap answered (sym (stage-none _ _ _ _ (at-loop .loop .inv .2) (at-loop-test .loop-test .left) (at-if3 .if3 .taken)))
+
+returns-6 : tie.Need-returns-6 Inv-loop μ-loop
+returns-6 c = stage-done _ _ _ _ (c .before .before .loop .inv .2) (c .before .loop-test .left) (c .if3 .left)
+
+pub declare-spec : {M : Type 1} → statement M
+declare-spec =
+    tie.close
+    (tie.spec Inv-loop μ-loop refuse-requires returns no-columns-requires skip-white-requires loop-holds read-field-requires enum-known-e
+    enum-told refuse-requires-2 returns-2 judge-requires enum-known-number refuse-requires-3 returns-3 enum-known-c refuse-requires-4
+    returns-4 mul-c element-set-from-c add-k skip-white-requires-2 loop-less loop-again refuse-requires-5 returns-5 returns-6)

@@ -1,0 +1,233 @@
+// The column that a FIELD declares: its kind, its length, its null value.
+ghost use mathlib.Core.List.{[], _∷_};
+ghost use mathlib.Core.Path.{_≡_};
+ghost use Rattle.number.specs.Contracts.{isSigned, widthOf};
+ghost use Rattle.table.specs.Bytes.{words};
+ghost use Rattle.table.specs.Cell.{isScalar};
+ghost use Rattle.table.specs.Shape.{shape};
+ghost use Rattle.fields.specs.Fields.{beforeStar, boundedLen, judge, kindOf, kinds, lenBefore, lenOf, lengthOf, nullOf, nullValue};
+ghost use Rattle.declaring.specs.Readers.{ElementIn, ValueIn, asWritten, elementOf, fixedLen, judged, kindRead, lenRead, lengthRead, nullOfScalar, nullRead};
+use crate::attributes::Value;
+use crate::elements::Element;
+use crate::spans::Class;
+use crate::spans::span_end;
+use number::Integer;
+use table::Column;
+use table::Kind;
+use table::Len;
+use table::Null;
+use text::same_bytes;
+use text::skip_white;
+use words::Reading;
+
+// What an attribute's value says, or that it says nothing.
+enum KindRead {
+    NotCarried,
+    Carried(Kind),
+}
+
+enum LengthRead {
+    Broken,
+    Elements(usize),
+}
+
+enum LenRead {
+    Broken,
+    Shaped(Len),
+}
+
+enum NullRead {
+    Broken,
+    Counts(Null),
+}
+
+pub enum Judged {
+    Refused(u64),
+    Declares(Column),
+}
+
+fn kind_of(t: &[u8]) -> KindRead
+    ensures { λ r. ⌜ kindOf kinds (now (t .entry)) ≡ kindRead r ⌝ }
+{
+    if same_bytes(b"boolean", t) {
+        return KindRead::Carried(Kind::Boolean);
+    }
+    if same_bytes(b"bit", t) {
+        return KindRead::Carried(Kind::Bit);
+    }
+    if same_bytes(b"unsignedByte", t) {
+        return KindRead::Carried(Kind::UnsignedByte);
+    }
+    if same_bytes(b"short", t) {
+        return KindRead::Carried(Kind::Short);
+    }
+    if same_bytes(b"int", t) {
+        return KindRead::Carried(Kind::Int);
+    }
+    if same_bytes(b"long", t) {
+        return KindRead::Carried(Kind::Long);
+    }
+    if same_bytes(b"char", t) {
+        return KindRead::Carried(Kind::Char);
+    }
+    KindRead::NotCarried
+}
+
+// "`n` is one to four digits, the first not 0, at most 4096."
+fn length_of(t: &[u8]) -> LengthRead
+    ensures { λ r. ⌜ lengthOf (now (t .entry)) ≡ lengthRead r ⌝ }
+{
+    if t.len() == 0 {
+        return LengthRead::Broken;
+    }
+    if 4 < t.len() {
+        return LengthRead::Broken;
+    }
+    if t[0] == 48 {
+        return LengthRead::Broken;
+    }
+    let mut n: usize = 0;
+    let mut i = 0;
+    while i < t.len() {
+        let c = t[i];
+        if c < 48 {
+            return LengthRead::Broken;
+        }
+        if 57 < c {
+            return LengthRead::Broken;
+        }
+        n = n * 10 + (c - 48) as usize;
+        i += 1;
+    }
+    if n <= 4096 {
+        return LengthRead::Elements(n);
+    }
+    LengthRead::Broken
+}
+
+fn fixed_len(t: &[u8]) -> LenRead
+    ensures { λ r. ⌜ fixedLen (now (t .entry)) ≡ lenRead r ⌝ }
+{
+    match length_of(t) {
+        LengthRead::Broken => LenRead::Broken,
+        LengthRead::Elements(n) => LenRead::Shaped(Len::Fixed(n)),
+    }
+}
+
+fn bounded_len(t: &[u8]) -> LenRead
+    ensures { λ r. ⌜ boundedLen (now (t .entry)) ≡ lenRead r ⌝ }
+{
+    if t.len() == 0 {
+        return LenRead::Shaped(Len::Free);
+    }
+    match length_of(t) {
+        LengthRead::Broken => LenRead::Broken,
+        LengthRead::Elements(n) => LenRead::Shaped(Len::Bounded(n)),
+    }
+}
+
+fn len_of(t: &[u8]) -> LenRead
+    ensures { λ r. ⌜ lenBefore (beforeStar (now (t .entry))) (now (t .entry)) ≡ lenRead r ⌝ }
+{
+    if t.len() == 0 {
+        return LenRead::Broken;
+    }
+    let last = t.len() - 1;
+    if t[last] == 42 {
+        return bounded_len(&t[..last]);
+    }
+    fixed_len(t)
+}
+
+fn read_len(s: &[u8], v: Value) -> LenRead
+    requires { ⌜ ValueIn (now s) v ⌝ }
+    ensures { λ r. ⌜ lenOf (asWritten (now (s .entry)) v) ≡ lenRead r ⌝ }
+{
+    match v {
+        Value::Absent => LenRead::Shaped(Len::Fixed(1)),
+        Value::Present(start, end) => len_of(&s[start..end]),
+    }
+}
+
+fn is_scalar(len: Len) -> bool
+    ensures { λ r. ⌜ r ≡ isScalar len ⌝ }
+{
+    match len {
+        Len::Fixed(n) => n == 1,
+        Len::Bounded(_) => false,
+        Len::Free => false,
+    }
+}
+
+// A word "read as a cell of that kind".
+fn null_word(word: &[u8], kind: Integer) -> NullRead
+    ensures { λ r. ⌜ nullValue (isSigned kind) (widthOf kind) (now (word .entry) ∷ []) ≡ nullRead r ⌝ }
+{
+    match words::read_word(word, kind) {
+        Reading::Value(z) => NullRead::Counts(Null::Declared(z)),
+        Reading::Outside => NullRead::Broken,
+        Reading::Unwritten => NullRead::Broken,
+    }
+}
+
+// "an empty one is refused", and so is more than one word.
+fn null_value(t: &[u8], kind: Integer) -> NullRead
+    ensures { λ r. ⌜ nullValue (isSigned kind) (widthOf kind) (words (now (t .entry))) ≡ nullRead r ⌝ }
+{
+    let start = skip_white(t, 0);
+    let end = span_end(t, start, Class::Word);
+    let behind = skip_white(t, end);
+    if behind == t.len() {
+        return null_word(&t[start..end], kind);
+    }
+    NullRead::Broken
+}
+
+fn null_of(t: &[u8], kind: Kind) -> NullRead
+    ensures { λ r. ⌜ nullOfScalar (shape kind) (now (t .entry)) ≡ nullRead r ⌝ }
+{
+    match kind {
+        Kind::Boolean => NullRead::Counts(Null::Undeclared),
+        Kind::Bit => NullRead::Counts(Null::Undeclared),
+        Kind::UnsignedByte => null_value(t, Integer::UnsignedByte),
+        Kind::Short => null_value(t, Integer::Short),
+        Kind::Int => null_value(t, Integer::Int),
+        Kind::Long => null_value(t, Integer::Long),
+        Kind::Char => NullRead::Counts(Null::Undeclared),
+    }
+}
+
+// "`null` counts only on scalar integer columns" "Elsewhere it is skipped."
+fn read_null(s: &[u8], v: Value, kind: Kind, len: Len) -> NullRead
+    requires { ⌜ ValueIn (now s) v ⌝ }
+    ensures { λ r. ⌜ nullOf (shape kind) len (asWritten (now (s .entry)) v) ≡ nullRead r ⌝ }
+{
+    let Value::Present(start, end) = v else {
+        return NullRead::Counts(Null::Undeclared);
+    };
+    if is_scalar(len) {
+        return null_of(&s[start..end], kind);
+    }
+    NullRead::Counts(Null::Undeclared)
+}
+
+// "in each one shape (through its end), 2, 3, 4"
+pub fn judge(s: &[u8], e: Element) -> Judged
+    requires { ⌜ ElementIn (now s) e ⌝ }
+    ensures { λ r. ⌜ judge (elementOf (now (s .entry)) e) ≡ judged r ⌝ }
+{
+    let start = e.start;
+    let end = e.end;
+    let KindRead::Carried(kind) = kind_of(&s[start..end]) else {
+        return Judged::Refused(2);
+    };
+    let a = e.arraysize;
+    let LenRead::Shaped(len) = read_len(s, a) else {
+        return Judged::Refused(3);
+    };
+    let n = e.null;
+    let NullRead::Counts(null) = read_null(s, n, kind, len) else {
+        return Judged::Refused(4);
+    };
+    Judged::Declares(Column { kind, len, null })
+}

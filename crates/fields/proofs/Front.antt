@@ -1,0 +1,39 @@
+-- The front of a call: each way out of it, the numbers that it refuses with, and that what it hands on are columns.
+use Prim.Native.Nat.{_<_, _≤_, zero-le, ℕ}
+use mathlib.Core.List.{List}
+use mathlib.Core.Path.{_≡_}
+use lib.Dec.{lit≤, ltb}
+use borrow.Author.Tests.{le-ltb, lt-ltb}
+use Rattle.fields.proofs.Laws.{declare-is}
+use Rattle.fields.proofs.Refusals.{AtPlace, declare-fails}
+use Rattle.fields.specs.Fields.{declare}
+use Rattle.fields.specs.Front.{front}
+use Rattle.table.proofs.Laws.{fails-bind, fails-cond, holds-bind, holds-cond}
+use Rattle.table.specs.Cell.{AreColumns}
+use Rattle.table.specs.Outcome.{Refusal, at, mostInput}
+use Rattle.table.specs.Result.{Fails, Holds, bad, fails, gives, good, holds, refuses}
+use Rattle.table.specs.declared.Column.{Column}
+
+-- a refusal is 1 to 6, at a place that is at most 64
+pub front-fails : (decls : List ℕ) (size : ℕ) → Fails AtPlace (front decls size)
+unfolding front at
+front-fails decls size = fails-bind (declare-fails decls) (λ cs. fails-cond (ltb mostInput size) (fails ((lit≤ tt, lit≤ tt), zero-le)) gives)
+
+-- what is handed on are 1 to 64 columns, each as 01 allows it
+pub front-is : (decls : List ℕ) (size : ℕ) → Holds AreColumns (front decls size)
+unfolding front
+front-is decls size = holds-bind (declare-is decls) (λ cs h. holds-cond (ltb mostInput size) (λ _. refuses) (λ _. holds h))
+
+module _ (decls : List ℕ) (size : ℕ) where
+  pub front-undeclared : (e : Refusal) → declare decls ≡ bad e → front decls size ≡ bad e
+  unfolding front
+  front-undeclared e d = rw d
+
+  module _ (cs : List Column) (d : declare decls ≡ good cs) where
+    pub front-oversized : mostInput < size → front decls size ≡ bad (at 0 6)
+    unfolding front
+    front-oversized h = rw (d, lt-ltb mostInput size h)
+
+    pub front-declared : size ≤ mostInput → front decls size ≡ good cs
+    unfolding front
+    front-declared h = rw (d, le-ltb mostInput size h)

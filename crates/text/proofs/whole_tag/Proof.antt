@@ -1,0 +1,35 @@
+-- `text::whole_tag` meets its contract: the word, and where it is there its end.
+use mathlib.Core.Path.{subst}
+use borrow.Author.Needs.{needs}
+use Rattle.text.proofs.Scan.{tag-not, tag-there}
+use Rattle.text.specs.Contracts.{TagIs}
+use Rattle.text.proofs.whole_tag.Statement.{statement}
+use Rattle.text.proofs.whole_tag.Tie as tie
+
+goes-on-requires : tie.Need-goes-on-requires
+goes-on-requires c κs = search needs
+
+enum-known-i : tie.Need-enum-known-i
+enum-known-i c = search needs
+
+enum-told : tie.Need-enum-told
+enum-told c = search needs
+
+returns : tie.Need-returns
+returns c = tag-not _ (subst (TagIs _ _ _) (c .enum-told .given .1) (c .before .before .goes-on .ensures))
+
+slice-aggregate-ends : tie.Need-slice-aggregate-ends
+slice-aggregate-ends c = search needs
+
+ends-requires : tie.Need-ends-requires
+ends-requires c κs =
+    let at-word = c .before .before in
+    subst (TagIs _ _ _) (at-word .i .given .1) (at-word .before .before .goes-on .ensures) .within .1
+
+returns-2 : tie.Need-returns-2
+returns-2 c =
+    let at-word = c .before .before .before in
+    tag-there _ (subst (TagIs _ _ _) (at-word .i .given .1) (at-word .before .before .goes-on .ensures)) (c .ends .ensures)
+
+pub whole-tag-spec : {M : Type 1} → statement M
+whole-tag-spec = tie.close (tie.spec goes-on-requires enum-known-i enum-told returns slice-aggregate-ends ends-requires returns-2)
