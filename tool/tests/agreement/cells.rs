@@ -153,9 +153,12 @@ fn every_flag_byte() {
             for at in 0..flag_bytes {
                 let mut input = vec![0; flag_bytes];
                 input[at] = flags;
-                input.extend((0..count).map(|place| b'A' + place as u8));
+                input.extend((0..count).map(|place| b'!' + place as u8));
                 for to in EVERY_KIND_OF_ROWS {
-                    Case { declarations: text.as_bytes(), from: Rows::Binary2, to, input: &input, seed: 0 }.agree(900);
+                    let case = Case { declarations: text.as_bytes(), from: Rows::Binary2, to, input: &input, seed: 0 };
+                    case.agree(900);
+                    // The same row, and a second one whose flags are cut off here.
+                    Case { input: &[&input[..], &input[..at]].concat(), ..case }.agree(900);
                 }
             }
         }
