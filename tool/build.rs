@@ -162,7 +162,10 @@ fn prove(root: &Path) {
         "sailmortar: proving the converter (rt staticlib sailmortar): about four minutes on two cores, less where it is proved already",
     );
     // `rt check` proves crates side by side and `rt staticlib` one after the other: what the archive stands on is proved first.
-    ask_rt(root, &["check", "base64", "rows"]);
+    let listed = root.join("crates.txt");
+    let text = done(fs::read_to_string(&listed), "read", &listed);
+    let beneath = text.lines().find_map(|line| line.strip_prefix("sailmortar:")).unwrap_or_default();
+    ask_rt(root, &[&["check"], &beneath.split_whitespace().collect::<Vec<_>>()[..]].concat());
     ask_rt(root, &["staticlib", "sailmortar"]);
 }
 

@@ -18,5 +18,6 @@ mod agreement {
     mod rows;
     mod rules;
     mod sizes;
+    mod spellings;
     mod unseen;
 }

@@ -11,12 +11,11 @@ use lib.IntN.{negsuc, pos, ℤ}
 use lib.ListN.{drop, length, length-append, length-drop, length-map, length-replicate, length-take, replicate, take, take-append-drop}
 use lib.Seq.{drop-at, take-at}
 use borrow.Author.Tests.{eq-eqb, eqb-false, eqb-true, le-leb, le-ltb, leb-true, lt-ltb, ltb-false, ltb-true, ne-eqb}
-use mir.Val.{bits}
 use Rattle.binary.specs.Binary.{allZero, atMost, beforeNul, bitBytes, bitOf, bitsOf, bytesOf, canBeEmpty, content, contentBytes, countBytes, countIn, counted, element, elementsBytes, front, groups, nullForm, number, numbers, numbersIn, pack, packed, readBinary, readBinary2, shows, truth, truthByte, unpack, writeBinary, writeBinary2, zeros}
 use Rattle.binary.specs.Contracts.{filledBytes}
 use Rattle.number.proofs.Laws.{all-to, in-range, length-to, of-lt, of-pattern, of-to, pattern-lt, to-of}
 use Rattle.number.specs.Number.{ofDigits, pattern, toDigits}
-use Rattle.table.proofs.Laws.{Numbered, all-append, all-drop, all-replicate, all-take, cond-cases, empty-fits, fails-bind, fails-cond, fails-every, holds-any, holds-at, holds-bind, holds-cond, holds-weaken, same-self, show-fits}
+use Rattle.table.proofs.Laws.{Numbered, all-append, all-drop, all-replicate, all-take, cond-cases, fails-bind, fails-cond, fails-every, holds-any, holds-bind, holds-cond, holds-weaken, same-self, show-fits}
 use Rattle.table.specs.All.{All, AreBytes}
 use Rattle.table.specs.Bytes.{byte}
 use Rattle.table.specs.Cell.{Cell, Elements, Fits, IsColumn, below, bound, emptyIsNull, fits-null, fits-shown, isChar, isElement, isNull, isNullList, isScalar, null, nullElement, nullOfKind, roomFits, roomIn, show, shown}
@@ -493,13 +492,3 @@ unfolding writeBinary
 write-binary-fails c null = null-fails c (nullElement c)
 write-binary-fails c (shown []) = fails (lit≤ tt, lit≤ tt)
 write-binary-fails c (shown (e ∷ es)) = gives
-
--- ---- what is read from a place fits its column
-
-pub read2-fits : (c : Column) (flagged : Bool) (s : List ℕ) (place : ℕ) (x : Cell) (rest : List ℕ) → AreBytes s → readBinary2 c flagged (drop place s) ≡ good (x, rest) → Fits c x
-read2-fits c flagged s place x rest a e = holds-at (binary2-fits c flagged (drop place s) (all-drop _ place s a)) e .0
-
-pub read-fits : (c : Column) (s : List ℕ) (place : ℕ) (x : Cell) (rest : List ℕ) → AreBytes s → readBinary c (drop place s) ≡ good (x, rest) → Fits c x
-unfolding readBinary
-read-fits c s place x rest a e =
-    holds-at (holds-bind {Q = λ (p : Cell × List ℕ). Fits c (p .0)} (binary2-fits c false (drop place s) (all-drop _ place s a)) (λ p f. holds (empty-fits c (p .0) (f .0)))) e

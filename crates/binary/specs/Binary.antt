@@ -6,7 +6,6 @@ use mathlib.Core.Option.{Option, none, some}
 use lib.Dec.{eqb, ltb}
 use lib.IntN.{negsuc, pos, ℤ}
 use lib.ListN.{drop, length, replicate, take}
-use mir.Val.{bits}
 use Rattle.number.specs.Number.{ofDigits, ofPattern, pattern, toDigits}
 use Rattle.table.specs.Bytes.{byte}
 use Rattle.table.specs.Cell.{Cell, emptyIsNull, isChar, null, nullElement, roomIn, show, shown}

@@ -16,12 +16,11 @@ use Rattle.demands.specs.Cases.{nightBinary2, nightDeclared, nightText}
 use Rattle.demands.specs.Demands.{Accepted, Converter, Demand2, Valid, output}
 use Rattle.demands.specs.Tables.{count, rowAt, upTo}
 use Rattle.fields.specs.Fields.{declare}
-use Rattle.number.specs.Number.{sized}
 use Rattle.rows.specs.Convert.{convert}
 use Rattle.rows.specs.Stream.{Table, finished, read, readF, row, stopped}
 use Rattle.table.proofs.Laws.{and-both}
 use Rattle.table.specs.All.{All, AreBytes}
-use Rattle.table.specs.Bytes.{bytes, ends}
+use Rattle.table.specs.Bytes.{bytes}
 use Rattle.table.specs.Cell.{Cell, null, shown}
 use Rattle.table.specs.Outcome.{Call}
 use Rattle.table.specs.Result.{good}
@@ -32,7 +31,6 @@ use Rattle.table.specs.declared.Len.the-variants.{Fixed}
 use Rattle.table.specs.declared.Null.the-variants.{Declared, Undeclared}
 use Rattle.table.specs.declared.Rows.{Rows}
 use Rattle.table.specs.declared.Rows.the-variants.{Binary2, TableData}
-use Rattle.tabledata.specs.TableData.{forms}
 
 -- ---- the sample night: valid from TABLEDATA to BINARY2
 

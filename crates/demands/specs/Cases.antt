@@ -6,11 +6,9 @@ use mathlib.Core.List.{List, [], _++_, _∷_}
 use lib.Dec.{eqb}
 use lib.ListN.{drop, length, replicate}
 use Rattle.base64.specs.Base64.{decodeCall}
-use Rattle.binary.specs.Binary.{number}
 use Rattle.rows.specs.Convert.{convert}
-use Rattle.rows.specs.Stream.{row}
 use Rattle.table.specs.Bytes.{bytes, same}
-use Rattle.table.specs.Outcome.{Call, written}
+use Rattle.table.specs.Outcome.{Call}
 use Rattle.table.specs.declared.Answer.{Answer}
 use Rattle.table.specs.declared.Rows.{Rows}
 use Rattle.table.specs.declared.Rows.the-variants.{Binary, Binary2, TableData}

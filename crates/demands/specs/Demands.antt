@@ -6,22 +6,17 @@ use mathlib.Core.Logic.{_↔_}
 use mathlib.Core.Option.{some}
 use mathlib.Core.Path.{_≡_}
 use lib.ListN.{drop, getD, length, take}
-use Rattle.binary.specs.Binary.{number, shows}
 use Rattle.demands.specs.Places.{showsAt}
 use Rattle.demands.specs.Tables.{Ends, count, lines, rowAt, upTo}
 use Rattle.fields.specs.Fields.{declare}
-use Rattle.number.specs.Number.{sized}
-use Rattle.rows.specs.Convert.{convert}
 use Rattle.rows.specs.Stream.{finished, read, row}
 use Rattle.table.specs.All.{AreBytes}
-use Rattle.table.specs.Bytes.{bytes, ends, same}
 use Rattle.table.specs.Cell.{Cell}
 use Rattle.table.specs.Outcome.{Call, Refusal, accepted, ending, mostInput}
 use Rattle.table.specs.Result.{Result, bad, good}
 use Rattle.table.specs.declared.Column.{Column}
 use Rattle.table.specs.declared.Rows.{Rows}
 use Rattle.table.specs.declared.Rows.the-variants.{Binary2, TableData}
-use Rattle.tabledata.specs.TableData.{forms}
 
 -- a converter: from the text of the declarations, the two kinds of rows, the input and the buffer at entry to the answer and the buffer at
 -- exit

@@ -5,7 +5,6 @@ use mathlib.Core.Bool.{Bool, cond, false, true}
 use mathlib.Core.List.{List, [], _++_, _∷_, map}
 use lib.Dec.{eqb}
 use lib.ListN.{getD, length, replicate}
-use mir.Val.{bits}
 use Rattle.binary.specs.Binary.{bitBytes, contentBytes, countIn, front, unpack}
 use Rattle.rows.specs.Stream.{flag, flagsLeft, isOne}
 use Rattle.table.specs.Result.{Result, _>>=_, bad, good}

@@ -13,9 +13,8 @@ use Rattle.base64.specs.Base64.{decode, decodeCall, dense, fours, isPad, lastFo
 use Rattle.grammar.proofs.Fronts.{same-good}
 use Rattle.grammar.specs.Base64Text.{Base64Text, Fours, Letter, Sparse, base64-text, fours-end, fours-one, fours-then, fours-two, letter-capital, letter-figure, letter-plus, letter-slash, letter-small, sparse-end, sparse-then, sparse-white}
 use Rattle.grammar.specs.Exact.{InBase64}
-use Rattle.number.specs.Number.{sized}
 use Rattle.table.proofs.Laws.{between-is, cond-cases, holds-at, holds-bind, holds-cond, holds-weaken}
-use Rattle.table.specs.Bytes.{between, bytes, isWhite}
+use Rattle.table.specs.Bytes.{between, isWhite}
 use Rattle.table.specs.Outcome.{Call, at, mostInput}
 use Rattle.table.specs.Result.{Holds, good, holds, refuses}
 

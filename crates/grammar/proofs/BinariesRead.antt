@@ -10,7 +10,6 @@ use lib.IntN.{pos, ℤ}
 use lib.ListN.{drop, length, length-append, length-drop, length-take, replicate, take, take-append-drop}
 use lib.Seq.{drop-at, take-at}
 use borrow.Author.Tests.{eqb-false, eqb-true, le-ltb, lt-ltb, ltb-false, ltb-true, ne-eqb}
-use mir.Val.{bits}
 use Rattle.binary.proofs.Laws.{front-back}
 use Rattle.binary.specs.Binary.{allZero, atMost, beforeNul, bitBytes, bitsOf, content, contentBytes, countIn, counted, element, front, numbers, numbersIn, readBinary, readBinary2, shows, truth, unpack}
 use Rattle.grammar.proofs.Fronts.{Front}

@@ -18,11 +18,11 @@ use Rattle.grammar.proofs.Fronts.{digit-is, digit-read, numeral-all, nu
 use Rattle.grammar.proofs.WordsRead.{OneWord, integer-is, integer-read, integer-word, no-word, one-word, one-word-of, same-is, two-words, words-trimmed}
 use Rattle.grammar.specs.Declarations.{Arraysize, Datatype, Declares, FieldOf, FieldText, FieldsText, NullText, SizeText, datatype-bit, datatype-boolean, datatype-char, datatype-int, datatype-long, datatype-short, datatype-unsignedByte, field-empty, field-of, field-tags, fields-end, fields-then, null-absent, null-array, null-bits, null-chars, null-counts, null-truths, size-absent, size-bounded, size-fixed, size-free, size-text}
 use Rattle.grammar.specs.Words.{Digit, White, figure, one-digit, trimmed}
-use Rattle.number.specs.Number.{digit, numeral, sized}
+use Rattle.number.specs.Number.{digit, numeral}
 use Rattle.table.proofs.Laws.{and-both, between-is, between-yes, cond-cases, holds-as, holds-at, holds-bind, holds-cond, holds-weaken, no-white}
 use Rattle.table.specs.All.{All}
 use Rattle.table.specs.Bytes.{between, bytes, same, skipWhite}
-use Rattle.table.specs.Cell.{AreColumns, isScalar, null}
+use Rattle.table.specs.Cell.{AreColumns, isScalar}
 use Rattle.table.specs.Outcome.{Refusal, at, mostDeclarations}
 use Rattle.table.specs.Result.{Holds, Result, good, holds, refuses}
 use Rattle.table.specs.Shape.{Bits, Shape, Text, Truths, Whole, Width, last, shape}

@@ -9,7 +9,6 @@ use mathlib.Core.Path.{_≡_, refl}
 use lib.Dec.{lit<}
 use lib.IntN.{ℤ}
 use lib.ListN.{drop, length, length-take, replicate, take}
-use mir.Val.{bits}
 use Rattle.binary.proofs.Laws.{numbers-are}
 use Rattle.binary.specs.Binary.{bitBytes, bytesOf, canBeEmpty, contentBytes, countBytes, elementsBytes, groups, nullForm, number, pack, packed, writeBinary, writeBinary2, zeros}
 use Rattle.demands.specs.Tables.{lines}

@@ -4,7 +4,6 @@ use mathlib.Core.List.{List, [], _∷_}
 use mathlib.Core.Option.{Option, none, some}
 use lib.ListN.{length}
 use Rattle.base64.specs.Base64.{decodeCall, encodeCall}
-use Rattle.binary.specs.Binary.{numbers}
 use Rattle.fields.specs.Fields.{declare}
 use Rattle.rows.specs.Convert.{convert}
 use Rattle.table.specs.Outcome.{Call, Refusal}

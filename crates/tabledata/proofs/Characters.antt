@@ -4,11 +4,11 @@ use native.Mathlib.Numerals.{towards-suc}
 use native.Mathlib.Omega.{arith}
 use mathlib.Core.Bool.{Bool, _&&_, _||_, and-false, false, not, or-true, true}
 use mathlib.Core.List.{List, [], _∷_}
-use mathlib.Core.Path.{_∙_, _≡_, ap, refl, sym}
-use lib.Dec.{eqb, lit≤}
+use mathlib.Core.Path.{_≡_, refl}
+use lib.Dec.{eqb}
 use lib.ListN.{drop, drop-of-length-le, getD, length}
 use lib.Seq.{drop-cons}
-use borrow.Author.Tests.{eq-eqb, eqb-false, eqb-true, le-ltb, lt-ltb, ne-eqb, not-true}
+use borrow.Author.Tests.{eq-eqb, eqb-false, eqb-true, ne-eqb, not-true}
 use Rattle.table.proofs.Laws.{and-both, between-is, between-yes, or-either}
 use Rattle.table.specs.Bytes.{between, isWhite}
 use Rattle.tabledata.specs.Contracts.{isPlain}

@@ -146,16 +146,19 @@ fn counts_around_every_bound() {
 
 #[test]
 fn every_flag_byte() {
-    for count in 1..=17usize {
+    for count in (1..=17usize).chain([63, 64]) {
         let text = "<FIELD datatype='char'/>".repeat(count);
         let flag_bytes = count.div_ceil(8);
         for flags in 0..=255u8 {
             for at in 0..flag_bytes {
                 let mut input = vec![0; flag_bytes];
                 input[at] = flags;
-                input.extend((0..count).map(|place| b'a' + place as u8));
+                input.extend((0..count).map(|place| b'!' + place as u8));
                 for to in EVERY_KIND_OF_ROWS {
-                    Case { declarations: text.as_bytes(), from: Rows::Binary2, to, input: &input, seed: 0 }.agree(300);
+                    let case = Case { declarations: text.as_bytes(), from: Rows::Binary2, to, input: &input, seed: 0 };
+                    case.agree(900);
+                    // The same row, and a second one whose flags are cut off here.
+                    Case { input: &[&input[..], &input[..at]].concat(), ..case }.agree(900);
                 }
             }
         }

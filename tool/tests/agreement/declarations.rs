@@ -187,6 +187,56 @@ fn attributes_that_stand_twice() {
     }
 }
 
+/// Texts that use what the shape allows, and texts that come near to it, with the number and the place of the answer.
+const SHAPES: &[(&str, u64, u64)] = &[
+    ("<FIELD datatype=\"int\" note='\"' hint=\"'\"/>", 0, 0),
+    ("<FIELD -='' .='' :='' _='' 9='' xml:lang-2.b_='en' DataType='x' datatype='int'/>", 0, 0),
+    ("<FIELD a='&nonsense \0\u{ff}>&/=' datatype='int'/>", 0, 0),
+    ("<FIELD datatype='int'><VALUES/></FIELD>", 0, 0),
+    ("<FIELD datatype='char'><VALUES null=''/></FIELD><FIELD datatype='int' arraysize='1*'><VALUES null='x'/></FIELD>", 0, 0),
+    ("<FIELD datatype='long'><VALUES null='000000000000000000001'/></FIELD>", 4, 0),
+    ("<FIELD datatype='short'><VALUES null='0x00001'/></FIELD>", 4, 0),
+    ("<FIELD datatype='int' arraysize='00001'/>", 3, 0),
+    ("<FIELD datatype='int' arraysize='40960*'/>", 3, 0),
+    ("<FIELD datatype='int' arraysize='3x4'/>", 3, 0),
+    ("<FIELD><VALUES datatype='int'/></FIELD>", 1, 0),
+    ("<FIELD datatype='int'></FIELD a='1'>", 1, 0),
+    ("<FIELD datatype='int'>x</FIELD>", 1, 0),
+    ("<FIELD datatype='int'/>x", 1, 1),
+    ("<!-- --><FIELD datatype='int'/>", 1, 0),
+    ("<PARAM datatype='int'/>", 1, 0),
+    ("<FIELDS datatype='int'/>", 1, 0),
+    ("<field datatype='int'/>", 1, 0),
+    ("<FIELD a=''datatype='int'/>", 1, 0),
+    ("<FIELD datatype='int'/ >", 1, 0),
+    ("< FIELD datatype='int'/>", 1, 0),
+    ("<FIELD datatype='int'></ FIELD>", 1, 0),
+    ("<FIELD datatype=int/>", 1, 0),
+    ("<FIELD datatype='int\"/>", 1, 0),
+    ("<FIELD a='<' datatype='int'/>", 1, 0),
+    ("<FIELD a datatype='int'/>", 1, 0),
+    ("<FIELD ='1' datatype='int'/>", 1, 0),
+    ("<FIELD ä='1' datatype='int'/>", 1, 0),
+    ("<FIELD\x0cdatatype='int'/>", 1, 0),
+    ("<FIELD datatype=' int'/>", 2, 0),
+    ("<FIELD datatype=''/>", 2, 0),
+    ("<FIELD datatype='integer'/>", 2, 0),
+    ("<FIELD datatype='float'>", 1, 0),
+    ("<FIELD datatype='float' arraysize='x'><VALUES null='x'/></FIELD>", 2, 0),
+    ("<FIELD datatype='int' arraysize='x'><VALUES null='x'/></FIELD>", 3, 0),
+    ("<FIELD datatype='int'><VALUES null='x'/></FIELD><FIELD", 4, 0),
+    ("<FIELD datatype='int'/>\n<FIELD datatype='float'/>", 2, 1),
+    ("<FIELD datatype='int'/><FIELD datatype='int'></FIELD><FIELD datatype='int' arraysize='0'/>", 3, 2),
+];
+
+#[test]
+fn shapes_and_their_refusals() {
+    for (text, number, place) in SHAPES {
+        let answer = agree_on_declarations(text.as_bytes(), 0);
+        assert_eq!((answer[0], answer[2]), (*number, *place), "{text}");
+    }
+}
+
 #[test]
 fn random_bytes() {
     for seed in seeds(4_000_000, 5_000) {

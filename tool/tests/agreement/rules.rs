@@ -6,7 +6,7 @@ use crate::model::Answer;
 use Rows::{Binary, Binary2, TableData};
 
 /// Holds both implementations to this answer and, where it is acceptance, to these bytes.
-fn says(field: &str, from: Rows, to: Rows, input: &[u8], answer: Answer, output: &[u8]) {
+pub fn says(field: &str, from: Rows, to: Rows, input: &[u8], answer: Answer, output: &[u8]) {
     let case = Case { declarations: field.as_bytes(), from, to, input, seed: 0 };
     let written = case.with_room_enough();
     let told = format!("{field} from {from:?} to {to:?}: {}", input.escape_ascii());
@@ -15,15 +15,15 @@ fn says(field: &str, from: Rows, to: Rows, input: &[u8], answer: Answer, output:
     case.agree(written.bytes.len() + 5);
 }
 
-fn accepts(field: &str, from: Rows, to: Rows, input: &[u8], output: &[u8]) {
+pub fn accepts(field: &str, from: Rows, to: Rows, input: &[u8], output: &[u8]) {
     says(field, from, to, input, [0, 0, 0, 1, output.len() as u64], output);
 }
 
-fn refuses(field: &str, from: Rows, to: Rows, input: &[u8], number: u64) {
+pub fn refuses(field: &str, from: Rows, to: Rows, input: &[u8], number: u64) {
     says(field, from, to, input, [number, 0, 0, 0, 0], b"");
 }
 
-fn td(text: &str) -> Vec<u8> {
+pub fn td(text: &str) -> Vec<u8> {
     format!("<TR><TD>{text}</TD></TR>\n").into_bytes()
 }
 

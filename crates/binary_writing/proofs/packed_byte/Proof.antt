@@ -7,7 +7,6 @@ use Rattle.table.specs.Outcome.{at}
 use borrow.Author.Needs.{needs, sfits-of}
 use denote.Ref.{now}
 use lib.Dec.{lit<}
-use lib.Ieee.{fits}
 use lib.IntN.{pos}
 use lib.ListN.{drop, getD, take}
 use mathlib.Core.List.{map}

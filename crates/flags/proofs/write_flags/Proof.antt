@@ -6,7 +6,6 @@ use Rattle.number.specs.Number.{toDigits}
 use Rattle.table.specs.Outcome.{at}
 use denote.Ref.{now}
 use lib.Dec.{lit<}
-use lib.Ieee.{fits}
 use lib.ListN.{length, length-set}
 use lib.Seq.{sets}
 use mathlib.Core.Path.{_∙_, _≡_, ap, refl, sym}
