@@ -1,11 +1,15 @@
 -- declaring::declare: the whole text: the columns so far, in front of what is declared from here on, are what the text declares.
-use Prim.Native.Nat.{_-_, _≤_}
+use Prim.Native.Nat.{_-_, _≤_, ℕ}
 use Rattle.declaring.proofs.Stages.{Stage, stage-broken, stage-done, stage-full, stage-more, stage-none, stage-refused, stage-start, stored-long, too-long}
 use Rattle.declaring.specs.Contracts.{answered}
 use Rattle.declaring.specs.Readers.{FieldIs, judged}
+use Rattle.declaring.specs.declared.elements.FieldRead.the-variants.{Whole}
+use Rattle.fields.specs.Fields.{readField}
 use borrow.Author.Needs.{needs}
 use lib.Dec.{lit≤}
-use lib.ListN.{length}
+use denote.Ref.{now}
+use lib.ListN.{drop, length}
+use mathlib.Core.List.{List}
 use mathlib.Core.Path.{_∙_, ap, refl, subst, sym}
 use native.Mathlib.Omega.{arith}
 use Rattle.declaring.proofs.declare.Statement.{statement}
@@ -48,15 +52,20 @@ refuse-requires-2 c κs = search needs
 
 returns-2 : tie.Need-returns-2 Inv-loop μ-loop
 returns-2 c =
-    let at-enum-told = c .before in let at-read-field = at-enum-told .before .before in let at-loop-test = at-read-field .before in
-    let at-loop = at-loop-test .before in
-    c .refuse2 .ensures ∙ ap answered (sym (stage-broken _ _ _ _ (at-loop .loop .inv .2) (at-loop-test .loop-test .taken) (subst (FieldIs _ _ _)
-    (at-enum-told .enum-told .given .1) (at-read-field .read-field .ensures))))
+    let at-told = c .before in let at-field = at-told .before .before in let at-test = at-field .before in
+    let broken = subst (FieldIs _ _ _) (at-told .enum-told .given .1) (at-field .read-field .ensures) in
+    c .refuse2 .ensures ∙ ap answered (sym (stage-broken _ _ _ _ (at-test .before .loop .inv .2) (at-test .loop-test .taken) broken))
+
+-- the FIELD that was found
+abbrev text-at : tie.At-loop Inv-loop μ-loop → List ℕ
+text-at c = now (c .before .before .before .before .before .args .text)
+
+found : (c : tie.After-known-told Inv-loop μ-loop) → let l = c .before .before .before .before .before in
+    FieldIs (text-at l) (l .loop .at) (readField (drop (l .loop .at) (text-at l))) (Whole (c .before .e .given .0 .0))
+found c = subst (FieldIs _ _ _) (c .before .e .given .1) (c .before .before .before .read-field .ensures)
 
 judge-requires : tie.Need-judge-requires Inv-loop μ-loop
-judge-requires c κs =
-    let at-e = c .before in let at-read-field = at-e .before .before in
-    (subst (FieldIs _ _ _) (at-e .e .given .1) (at-read-field .read-field .ensures)) .places .2
+judge-requires c κs = found c .places .2
 
 enum-known-number : tie.Need-enum-known-number Inv-loop μ-loop
 enum-known-number c = search needs
@@ -66,10 +75,10 @@ refuse-requires-3 c κs = search needs
 
 returns-3 : tie.Need-returns-3 Inv-loop μ-loop
 returns-3 c =
-    let at-number = c .before .before in let at-judge = at-number .before .before in let at-e = at-judge .before .before in
-    let at-read-field = at-e .before .before in let at-loop-test = at-read-field .before in let at-loop = at-loop-test .before in
-    c .refuse3 .ensures ∙ ap answered (sym (stage-refused _ _ _ _ (at-loop .loop .inv .2) (at-loop-test .loop-test .taken) _ (subst (FieldIs _ _ _)
-    (at-e .e .given .1) (at-read-field .read-field .ensures)) _ (at-judge .judge .ensures ∙ ap judged (at-number .number .given .1))))
+    let at-number = c .before .before in let at-judge = at-number .before .before in let at-e = at-judge .before in
+    let at-test = at-e .before .before .before .before in
+    let refused = at-judge .judge .ensures ∙ ap judged (at-number .number .given .1) in
+    c .refuse3 .ensures ∙ ap answered (sym (stage-refused _ _ _ _ (at-test .before .loop .inv .2) (at-test .loop-test .taken) _ (found at-e) _ refused))
 
 enum-known-c : tie.Need-enum-known-c Inv-loop μ-loop
 enum-known-c c = search needs
@@ -79,10 +88,11 @@ refuse-requires-4 c κs = search needs
 
 returns-4 : tie.Need-returns-4 Inv-loop μ-loop
 returns-4 c =
-    let at-if2 = c .before in let at-c = at-if2 .before .before in let at-judge = at-c .before .before in let at-e = at-judge .before .before in
-    let at-read-field = at-e .before .before in let at-loop-test = at-read-field .before in let at-loop = at-loop-test .before in
-    c .refuse4 .ensures ∙ ap answered (sym (stage-full _ _ _ _ (at-loop .loop .inv .2) (at-loop-test .loop-test .taken) _ (subst (FieldIs _ _ _)
-    (at-e .e .given .1) (at-read-field .read-field .ensures)) _ (at-judge .judge .ensures ∙ ap judged (at-c .c .given .1)) (at-if2 .if2 .taken)))
+    let at-full = c .before in let at-c = at-full .before .before in let at-judge = at-c .before .before in let at-e = at-judge .before in
+    let at-test = at-e .before .before .before .before in
+    let column = at-judge .judge .ensures ∙ ap judged (at-c .c .given .1) in
+    c .refuse4 .ensures
+    ∙ ap answered (sym (stage-full _ _ _ _ (at-test .before .loop .inv .2) (at-test .loop-test .taken) _ (found at-e) _ column (at-full .if2 .taken)))
 
 mul-c : tie.Need-mul-c Inv-loop μ-loop
 mul-c c = search needs
@@ -97,25 +107,22 @@ add-k : tie.Need-add-k Inv-loop μ-loop
 add-k c = search needs
 
 skip-white-requires-2 : tie.Need-skip-white-requires-2 Inv-loop μ-loop
-skip-white-requires-2 c κs =
-    let at-e = c .before .before .before .before .before .before in let at-read-field = at-e .before .before in
-    (subst (FieldIs _ _ _) (at-e .e .given .1) (at-read-field .read-field .ensures)) .places .1
+skip-white-requires-2 c κs = found (c .before .before .before .before .before) .places .1
 
 loop-less : tie.Need-loop-less Inv-loop μ-loop
 loop-less c =
-    let at-e = c .before .before .before .before .before .before .before in let at-read-field = at-e .before .before in
-    let f = (subst (FieldIs _ _ _) (at-e .e .given .1) (at-read-field .read-field .ensures)) in
+    let f = found (c .before .before .before .before .before .before) in
     omega (arith, f .places .0, f .places .1, c .skip-white2 .ensures .low, c .skip-white2 .ensures .high)
 
 loop-again : tie.Need-loop-again Inv-loop μ-loop
 loop-again c =
-    let at-if2 = c .before in let at-c = at-if2 .before .before in let at-judge = at-c .before .before in let at-e = at-judge .before .before in
-    let at-read-field = at-e .before .before in let at-loop-test = at-read-field .before in let at-loop = at-loop-test .before in (
+    let at-room = c .before in let at-c = at-room .before .before in let at-judge = at-c .before .before in let at-e = at-judge .before in
+    let at-test = at-e .before .before .before .before in let at-loop = at-test .before in
+    let column = at-judge .judge .ensures ∙ ap judged (at-c .c .given .1) in (
       c .skip-white2 .ensures .high,
-      omega (arith, at-if2 .if2 .left),
-      stage-more _ _ _ _ (at-loop .loop .inv .2) (at-loop-test .loop-test .taken) _
-          (subst (FieldIs _ _ _) (at-e .e .given .1) (at-read-field .read-field .ensures)) _ (at-judge .judge .ensures ∙ ap judged
-          (at-c .c .given .1)) _ _ (at-loop .loop .inv .1) (at-if2 .if2 .left) (c .skip-white2 .ensures) refl,
+      omega (arith, at-room .if2 .left),
+      stage-more _ _ _ _ (at-loop .loop .inv .2) (at-test .loop-test .taken) _ (found at-e) _ column _ _ (at-loop .loop .inv .1) (at-room .if2 .left)
+          (c .skip-white2 .ensures) refl,
     )
 
 refuse-requires-5 : tie.Need-refuse-requires-5 Inv-loop μ-loop

@@ -1,10 +1,16 @@
 -- declaring::attributes::read_attributes: the attributes of a tag: what is noted so far, and what is gathered from here on, is the whole.
-use Prim.Native.Nat.{_-_, _≤_}
+use Prim.Native.Nat.{_-_, _≤_, ℕ}
 use Rattle.declaring.proofs.attributes.Tallies.{Going, attribute-at, attribute-broken, comes-nameless, comes-not, comes-yes, going-broken, going-more, going-start, going-stop, tally-in}
-use Rattle.declaring.specs.Readers.{QuotedIs, TallyIn}
+use Rattle.declaring.specs.Readers.{AttributesIs, QuotedIs, TallyIn, assigned}
+use Rattle.declaring.specs.declared.attributes.Attributes.the-variants.{Tallied}
+use Rattle.declaring.specs.declared.attributes.Quoted.the-variants.{Holds}
+use Rattle.fields.specs.Fields.{attributeComes}
 use borrow.Author.Needs.{needs}
-use lib.ListN.{length}
-use mathlib.Core.Path.{subst}
+use denote.Ref.{now}
+use lib.ListN.{drop, length}
+use mathlib.Core.Bool.{false, true}
+use mathlib.Core.List.{List}
+use mathlib.Core.Path.{_≡_, subst}
 use native.Mathlib.Omega.{arith}
 use Rattle.declaring.proofs.attributes.read_attributes.Statement.{statement}
 use Rattle.declaring.proofs.attributes.read_attributes.Tie as tie
@@ -24,23 +30,22 @@ skip-white-requires c κs = c .loop .inv .1
 span-end-requires : tie.Need-span-end-requires Inv-loop μ-loop
 span-end-requires c κs = c .skip-white .ensures .high
 
+abbrev text-at : tie.At-loop Inv-loop μ-loop → List ℕ
+text-at c = now (c .before .before .args .s)
+
+stops : (c : tie.At-loop Inv-loop μ-loop) → attributeComes (drop (c .loop .at) (text-at c)) ≡ false
+    → AttributesIs (text-at c) (c .before .before .args .from) (Tallied (c .loop .t) (c .loop .at))
+stops c e = let i = c .loop .inv in record { rest = going-stop _ _ _ _ (i .1) (i .3) e; places = (i .0, i .1, i .2) }
+
 returns : tie.Need-returns Inv-loop μ-loop
 returns c =
-    let at-span-end = c .before in let at-skip-white = at-span-end .before in let at-loop = at-skip-white .before in
-    record {
-      rest = going-stop _ _ _ _ (at-loop .loop .inv .1) (at-loop .loop .inv .3) (comes-not _ _ _ _ (at-skip-white .skip-white .ensures)
-          (at-span-end .span-end .ensures) (c .if1 .taken));
-      places = (at-loop .loop .inv .0, at-loop .loop .inv .1, at-loop .loop .inv .2);
-    }
+    let at-end = c .before in let at-name = at-end .before in
+    stops (at-name .before) (comes-not _ _ _ _ (at-name .skip-white .ensures) (at-end .span-end .ensures) (c .if1 .taken))
 
 returns-2 : tie.Need-returns-2 Inv-loop μ-loop
 returns-2 c =
-    let at-if1 = c .before in let at-span-end = at-if1 .before in let at-skip-white = at-span-end .before in let at-loop = at-skip-white .before in
-    record {
-      rest = going-stop _ _ _ _ (at-loop .loop .inv .1) (at-loop .loop .inv .3) (comes-nameless _ _ _ _ (at-skip-white .skip-white .ensures)
-          (at-span-end .span-end .ensures) (at-if1 .if1 .left) (c .if2 .taken));
-      places = (at-loop .loop .inv .0, at-loop .loop .inv .1, at-loop .loop .inv .2);
-    }
+    let at-end = c .before .before in let at-name = at-end .before in
+    stops (at-name .before) (comes-nameless _ _ _ _ (at-name .skip-white .ensures) (at-end .span-end .ensures) (c .before .if1 .left) (c .if2 .taken))
 
 read-value-requires : tie.Need-read-value-requires Inv-loop μ-loop
 read-value-requires c κs = c .before .before .span-end .ensures .inside
@@ -48,59 +53,60 @@ read-value-requires c κs = c .before .before .span-end .ensures .inside
 enum-told : tie.Need-enum-told Inv-loop μ-loop
 enum-told c = search needs
 
+comes : (c : tie.Else2 Inv-loop μ-loop) → let l = c .before .before .before .before in attributeComes (drop (l .loop .at) (text-at l)) ≡ true
+comes c =
+    let at-end = c .before .before in
+    comes-yes _ _ _ _ (at-end .before .skip-white .ensures) (at-end .span-end .ensures) (c .before .if1 .left) (c .if2 .left)
+
 returns-3 : tie.Need-returns-3 Inv-loop μ-loop
 returns-3 c =
-    let at-read-value = c .before .before in let at-if2 = at-read-value .before in let at-if1 = at-if2 .before in let at-span-end = at-if1 .before in
-    let at-skip-white = at-span-end .before in let at-loop = at-skip-white .before in
-    record {
-      rest = going-broken _ _ _ _ (at-loop .loop .inv .1) (at-loop .loop .inv .3) (comes-yes _ _ _ _ (at-skip-white .skip-white .ensures)
-          (at-span-end .span-end .ensures) (at-if1 .if1 .left) (at-if2 .if2 .left)) (attribute-broken _ _ _ _ (at-skip-white .skip-white .ensures)
-          (at-span-end .span-end .ensures) (at-if2 .if2 .left) (subst (QuotedIs _ _ _) (c .enum-told .given .1)
-          (at-read-value .read-value .ensures)));
-      places = tt;
-    }
+    let at-value = c .before .before in let at-name = at-value .before .before .before .before in let i = at-name .before .loop .inv in
+    let broken = subst (QuotedIs _ _ _) (c .enum-told .given .1) (at-value .read-value .ensures) in
+    let named = attribute-broken _ _ _ _ (at-name .skip-white .ensures) (at-value .before .before .before .span-end .ensures) (at-value .before .if2 .left) in
+    record { rest = going-broken _ _ _ _ (i .1) (i .3) (comes (at-value .before)) (named broken); places = tt }
 
 enum-known-start : tie.Need-enum-known-start Inv-loop μ-loop
 enum-known-start c = search needs
 
+-- the name, and behind it the value
+abbrev end-of : tie.After-known-told Inv-loop μ-loop → tie.After-span-end Inv-loop μ-loop
+end-of c = c .before .before .before .before .before .before
+
+value : (c : tie.After-known-told Inv-loop μ-loop) → let e = end-of c in let s = text-at (e .before .before) in
+    QuotedIs s (e .span-end .result) (assigned (drop (e .span-end .result) s)) (Holds (c .before .start .given .0 .0) (c .before .start .given .0 .1 .0))
+value c = subst (QuotedIs _ _ _) (c .before .start .given .1) (c .before .before .before .read-value .ensures)
+
+far : (c : tie.After-known-told Inv-loop μ-loop) → end-of c .before .before .loop .at ≤ c .before .start .given .0 .1 .0
+far c = omega (arith, value c .places, end-of c .span-end .ensures .onward, end-of c .before .skip-white .ensures .low)
+
 sub-with-attribute : tie.Need-sub-with-attribute Inv-loop μ-loop
-sub-with-attribute c = omega (arith, c .before .before .before .before .before .before .span-end .ensures .onward)
+sub-with-attribute c = omega (arith, end-of c .span-end .ensures .onward)
 
 part-with-attribute-start : tie.Need-part-with-attribute-start Inv-loop μ-loop
-part-with-attribute-start c = c .before .before .before .before .before .before .span-end .ensures .onward
+part-with-attribute-start c = end-of c .span-end .ensures .onward
 
 part-with-attribute-end : tie.Need-part-with-attribute-end Inv-loop μ-loop
-part-with-attribute-end c = c .before .before .before .before .before .before .span-end .ensures .inside
+part-with-attribute-end c = end-of c .span-end .ensures .inside
 
 with-attribute-requires : tie.Need-with-attribute-requires Inv-loop μ-loop
 with-attribute-requires c κs = search needs
 
 add-at : tie.Need-add-at Inv-loop μ-loop
 add-at c =
-    let at-start = c .before .before .before in let at-read-value = at-start .before .before in
-    let start = at-read-value .before .before .before .before .before .before .before in
-    let q = subst (QuotedIs _ _ _) (at-start .start .given .1) (at-read-value .read-value .ensures) in
-    omega (arith, q .places .2, start .good)
+    let start = end-of (c .before .before) .before .before .before .before in omega (arith, value (c .before .before) .places .2, start .good)
 
 loop-less : tie.Need-loop-less Inv-loop μ-loop
-loop-less c =
-    let at-start = c .before .before .before in let at-read-value = at-start .before .before in
-    let at-span-end = at-read-value .before .before .before in let at-skip-white = at-span-end .before in
-    let q = subst (QuotedIs _ _ _) (at-start .start .given .1) (at-read-value .read-value .ensures) in
-    omega (arith, q .places, at-span-end .span-end .ensures .onward, at-skip-white .skip-white .ensures .low)
+loop-less c = omega (arith, value (c .before .before) .places .2, far (c .before .before))
 
 loop-again : tie.Need-loop-again Inv-loop μ-loop
 loop-again c =
-    let at-start = c .before .before .before in let at-read-value = at-start .before .before in let at-if2 = at-read-value .before in
-    let at-if1 = at-if2 .before in let at-span-end = at-if1 .before in let at-skip-white = at-span-end .before in let at-loop = at-skip-white .before in
-    let q = subst (QuotedIs _ _ _) (at-start .start .given .1) (at-read-value .read-value .ensures) in
-    let far : at-loop .loop .at ≤ at-start .start .given .0 .1 .0 = omega (arith, q .places, at-span-end .span-end .ensures .onward, at-skip-white .skip-white .ensures .low) in (
-      omega (arith, q .places, at-loop .loop .inv .0, far),
+    let known = c .before .before in let q = value known in let at-end = end-of known in let i = at-end .before .before .loop .inv in
+    let at-both = known .before .before .before .before in
+    let named = attribute-at _ _ _ _ (at-end .before .skip-white .ensures) (at-end .span-end .ensures) (at-both .if2 .left) _ _ q in (
+      omega (arith, i .0, far known),
       omega (arith, q .places .2),
-      rw (c .with-attribute .ensures) (tally-in _ _ _ _ _ (q .places .1) (omega (arith, q .places .2)) (at-loop .loop .inv .2)),
-      rw (c .with-attribute .ensures) (going-more _ _ _ _ (at-loop .loop .inv .1) _ _ _ (at-loop .loop .inv .3)
-          (comes-yes _ _ _ _ (at-skip-white .skip-white .ensures) (at-span-end .span-end .ensures) (at-if1 .if1 .left) (at-if2 .if2 .left))
-          (attribute-at _ _ _ _ (at-skip-white .skip-white .ensures) (at-span-end .span-end .ensures) (at-if2 .if2 .left) _ _ q) far),
+      rw (c .with-attribute .ensures) (tally-in _ _ _ _ _ (q .places .1) (omega (arith, q .places .2)) (i .2)),
+      rw (c .with-attribute .ensures) (going-more _ _ _ _ (i .1) _ _ _ (i .3) (comes at-both) named (far known)),
     )
 
 pub read-attributes-spec : {M : Type 1} → statement M

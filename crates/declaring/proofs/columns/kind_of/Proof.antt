@@ -1,9 +1,30 @@
--- declaring::columns::kind_of: a kind by its name: the names are tried in the order of the definition.
+-- declaring::columns::kind_of: the names are tried in the order of the definition; those that were not met play no part.
+use Prim.Native.Nat.{ℕ}
 use Rattle.fields.specs.Fields.{kindOf, kinds}
+use Rattle.table.specs.Bytes.{same}
+use Rattle.table.specs.Result.{good}
+use Rattle.table.specs.declared.Kind.{Kind}
 use borrow.Author.Needs.{needs}
-use mathlib.Core.Path.{_∙_, sym}
+use denote.Ref.{now}
+use lib.ListN.{drop}
+use mathlib.Core.Bool.{Bool, false, true}
+use mathlib.Core.List.{List, _∷_}
+use mathlib.Core.Path.{_∙_, _≡_, sym}
 use Rattle.declaring.proofs.columns.kind_of.Statement.{statement}
 use Rattle.declaring.proofs.columns.kind_of.Tie as tie
+
+module _ (k : List ℕ × Kind) (ks : List (List ℕ × Kind)) (t : List ℕ) (is : Bool) (e : is ≡ same (k .0) t) where
+  met : is ≡ true → kindOf (k ∷ ks) t ≡ good (k .1)
+  unfolding kindOf
+  met h = rw (sym e ∙ h)
+
+  not-met : is ≡ false → kindOf (k ∷ ks) t ≡ kindOf ks t
+  unfolding kindOf
+  not-met h = rw (sym e ∙ h)
+
+-- the first n names were not met
+abbrev Passed : ℕ → tie.Else1 → Type 0
+Passed n c = let t = now (c .before .before .before .before .args .t) in kindOf kinds t ≡ kindOf (drop n kinds) t
 
 slice-aggregate-same-bytes : tie.Need-slice-aggregate-same-bytes
 slice-aggregate-same-bytes c = search needs
@@ -12,8 +33,12 @@ same-bytes-requires : tie.Need-same-bytes-requires
 same-bytes-requires c κs = search needs
 
 returns : tie.Need-returns
-unfolding kindOf kinds
-returns c = rw (sym (c .before .same-bytes .ensures) ∙ c .if1 .taken)
+unfolding kinds
+returns c = met _ _ _ _ (c .before .same-bytes .ensures) (c .if1 .taken)
+
+passed-1 : (c : tie.Else1) → Passed 1 c
+unfolding kinds
+passed-1 c = not-met _ _ _ _ (c .before .same-bytes .ensures) (c .if1 .left)
 
 slice-aggregate-same-bytes-2 : tie.Need-slice-aggregate-same-bytes-2
 slice-aggregate-same-bytes-2 c = search needs
@@ -22,10 +47,12 @@ same-bytes-requires-2 : tie.Need-same-bytes-requires-2
 same-bytes-requires-2 c κs = search needs
 
 returns-2 : tie.Need-returns-2
-unfolding kindOf kinds
-returns-2 c =
-    let at-same-bytes2 = c .before in let at-if1 = at-same-bytes2 .before .before in let at-same-bytes = at-if1 .before in
-    rw (sym (at-same-bytes .same-bytes .ensures) ∙ at-if1 .if1 .left, sym (at-same-bytes2 .same-bytes2 .ensures) ∙ c .if2 .taken)
+unfolding kinds
+returns-2 c = passed-1 (c .before .before .before) ∙ met _ _ _ _ (c .before .same-bytes2 .ensures) (c .if2 .taken)
+
+passed-2 : (c : tie.Else2) → Passed 2 (c .before .before .before)
+unfolding kinds
+passed-2 c = passed-1 (c .before .before .before) ∙ not-met _ _ _ _ (c .before .same-bytes2 .ensures) (c .if2 .left)
 
 slice-aggregate-same-bytes-3 : tie.Need-slice-aggregate-same-bytes-3
 slice-aggregate-same-bytes-3 c = search needs
@@ -34,16 +61,12 @@ same-bytes-requires-3 : tie.Need-same-bytes-requires-3
 same-bytes-requires-3 c κs = search needs
 
 returns-3 : tie.Need-returns-3
-unfolding kindOf kinds
-returns-3 c =
-    let at-same-bytes3 = c .before in let at-if2 = at-same-bytes3 .before .before in let at-same-bytes2 = at-if2 .before in
-    let at-if1 = at-same-bytes2 .before .before in let at-same-bytes = at-if1 .before in
-    rw (
-      sym (at-same-bytes .same-bytes .ensures) ∙ at-if1 .if1 .left,
-      sym (at-same-bytes2 .same-bytes2 .ensures) ∙ at-if2 .if2 .left,
-      sym
-          (at-same-bytes3 .same-bytes3 .ensures) ∙ c .if3 .taken,
-    )
+unfolding kinds
+returns-3 c = passed-2 (c .before .before .before) ∙ met _ _ _ _ (c .before .same-bytes3 .ensures) (c .if3 .taken)
+
+passed-3 : (c : tie.Else3) → Passed 3 (c .before .before .before .before .before .before)
+unfolding kinds
+passed-3 c = passed-2 (c .before .before .before) ∙ not-met _ _ _ _ (c .before .same-bytes3 .ensures) (c .if3 .left)
 
 slice-aggregate-same-bytes-4 : tie.Need-slice-aggregate-same-bytes-4
 slice-aggregate-same-bytes-4 c = search needs
@@ -52,18 +75,12 @@ same-bytes-requires-4 : tie.Need-same-bytes-requires-4
 same-bytes-requires-4 c κs = search needs
 
 returns-4 : tie.Need-returns-4
-unfolding kindOf kinds
-returns-4 c =
-    let at-same-bytes4 = c .before in let at-if3 = at-same-bytes4 .before .before in let at-same-bytes3 = at-if3 .before in
-    let at-if2 = at-same-bytes3 .before .before in let at-same-bytes2 = at-if2 .before in let at-if1 = at-same-bytes2 .before .before in
-    let at-same-bytes = at-if1 .before in
-    rw (
-      sym (at-same-bytes .same-bytes .ensures) ∙ at-if1 .if1 .left,
-      sym (at-same-bytes2 .same-bytes2 .ensures) ∙ at-if2 .if2 .left,
-      sym
-          (at-same-bytes3 .same-bytes3 .ensures) ∙ at-if3 .if3 .left,
-      sym (at-same-bytes4 .same-bytes4 .ensures) ∙ c .if4 .taken,
-    )
+unfolding kinds
+returns-4 c = passed-3 (c .before .before .before) ∙ met _ _ _ _ (c .before .same-bytes4 .ensures) (c .if4 .taken)
+
+passed-4 : (c : tie.Else4) → Passed 4 (c .before .before .before .before .before .before .before .before .before)
+unfolding kinds
+passed-4 c = passed-3 (c .before .before .before) ∙ not-met _ _ _ _ (c .before .same-bytes4 .ensures) (c .if4 .left)
 
 slice-aggregate-same-bytes-5 : tie.Need-slice-aggregate-same-bytes-5
 slice-aggregate-same-bytes-5 c = search needs
@@ -72,20 +89,12 @@ same-bytes-requires-5 : tie.Need-same-bytes-requires-5
 same-bytes-requires-5 c κs = search needs
 
 returns-5 : tie.Need-returns-5
-unfolding kindOf kinds
-returns-5 c =
-    let at-same-bytes5 = c .before in let at-if4 = at-same-bytes5 .before .before in let at-same-bytes4 = at-if4 .before in
-    let at-if3 = at-same-bytes4 .before .before in let at-same-bytes3 = at-if3 .before in let at-if2 = at-same-bytes3 .before .before in
-    let at-same-bytes2 = at-if2 .before in let at-if1 = at-same-bytes2 .before .before in let at-same-bytes = at-if1 .before in
-    rw (
-      sym (at-same-bytes .same-bytes .ensures) ∙ at-if1 .if1 .left,
-      sym (at-same-bytes2 .same-bytes2 .ensures) ∙ at-if2 .if2 .left,
-      sym
-          (at-same-bytes3 .same-bytes3 .ensures) ∙ at-if3 .if3 .left,
-      sym (at-same-bytes4 .same-bytes4 .ensures) ∙ at-if4 .if4 .left,
-      sym
-          (at-same-bytes5 .same-bytes5 .ensures) ∙ c .if5 .taken,
-    )
+unfolding kinds
+returns-5 c = passed-4 (c .before .before .before) ∙ met _ _ _ _ (c .before .same-bytes5 .ensures) (c .if5 .taken)
+
+passed-5 : (c : tie.Else5) → Passed 5 (c .before .before .before .before .before .before .before .before .before .before .before .before)
+unfolding kinds
+passed-5 c = passed-4 (c .before .before .before) ∙ not-met _ _ _ _ (c .before .same-bytes5 .ensures) (c .if5 .left)
 
 slice-aggregate-same-bytes-6 : tie.Need-slice-aggregate-same-bytes-6
 slice-aggregate-same-bytes-6 c = search needs
@@ -94,22 +103,12 @@ same-bytes-requires-6 : tie.Need-same-bytes-requires-6
 same-bytes-requires-6 c κs = search needs
 
 returns-6 : tie.Need-returns-6
-unfolding kindOf kinds
-returns-6 c =
-    let at-same-bytes6 = c .before in let at-if5 = at-same-bytes6 .before .before in let at-same-bytes5 = at-if5 .before in
-    let at-if4 = at-same-bytes5 .before .before in let at-same-bytes4 = at-if4 .before in let at-if3 = at-same-bytes4 .before .before in
-    let at-same-bytes3 = at-if3 .before in let at-if2 = at-same-bytes3 .before .before in let at-same-bytes2 = at-if2 .before in
-    let at-if1 = at-same-bytes2 .before .before in let at-same-bytes = at-if1 .before in
-    rw (
-      sym (at-same-bytes .same-bytes .ensures) ∙ at-if1 .if1 .left,
-      sym (at-same-bytes2 .same-bytes2 .ensures) ∙ at-if2 .if2 .left,
-      sym
-          (at-same-bytes3 .same-bytes3 .ensures) ∙ at-if3 .if3 .left,
-      sym (at-same-bytes4 .same-bytes4 .ensures) ∙ at-if4 .if4 .left,
-      sym
-          (at-same-bytes5 .same-bytes5 .ensures) ∙ at-if5 .if5 .left,
-      sym (at-same-bytes6 .same-bytes6 .ensures) ∙ c .if6 .taken,
-    )
+unfolding kinds
+returns-6 c = passed-5 (c .before .before .before) ∙ met _ _ _ _ (c .before .same-bytes6 .ensures) (c .if6 .taken)
+
+passed-6 : (c : tie.Else6) → Passed 6 (c .before .before .before .before .before .before .before .before .before .before .before .before .before .before .before)
+unfolding kinds
+passed-6 c = passed-5 (c .before .before .before) ∙ not-met _ _ _ _ (c .before .same-bytes6 .ensures) (c .if6 .left)
 
 slice-aggregate-same-bytes-7 : tie.Need-slice-aggregate-same-bytes-7
 slice-aggregate-same-bytes-7 c = search needs
@@ -118,46 +117,16 @@ same-bytes-requires-7 : tie.Need-same-bytes-requires-7
 same-bytes-requires-7 c κs = search needs
 
 returns-7 : tie.Need-returns-7
-unfolding kindOf kinds
-returns-7 c =
-    let at-same-bytes7 = c .before in let at-if6 = at-same-bytes7 .before .before in let at-same-bytes6 = at-if6 .before in
-    let at-if5 = at-same-bytes6 .before .before in let at-same-bytes5 = at-if5 .before in let at-if4 = at-same-bytes5 .before .before in
-    let at-same-bytes4 = at-if4 .before in let at-if3 = at-same-bytes4 .before .before in let at-same-bytes3 = at-if3 .before in
-    let at-if2 = at-same-bytes3 .before .before in let at-same-bytes2 = at-if2 .before in let at-if1 = at-same-bytes2 .before .before in
-    let at-same-bytes = at-if1 .before in
-    rw (
-      sym (at-same-bytes .same-bytes .ensures) ∙ at-if1 .if1 .left,
-      sym (at-same-bytes2 .same-bytes2 .ensures) ∙ at-if2 .if2 .left,
-      sym
-          (at-same-bytes3 .same-bytes3 .ensures) ∙ at-if3 .if3 .left,
-      sym (at-same-bytes4 .same-bytes4 .ensures) ∙ at-if4 .if4 .left,
-      sym
-          (at-same-bytes5 .same-bytes5 .ensures) ∙ at-if5 .if5 .left,
-      sym (at-same-bytes6 .same-bytes6 .ensures) ∙ at-if6 .if6 .left,
-      sym
-          (at-same-bytes7 .same-bytes7 .ensures) ∙ c .if7 .taken,
-    )
+unfolding kinds
+returns-7 c = passed-6 (c .before .before .before) ∙ met _ _ _ _ (c .before .same-bytes7 .ensures) (c .if7 .taken)
+
+passed-7 : (c : tie.Else7) → Passed 7 (c .before .before .before .before .before .before .before .before .before .before .before .before .before .before .before .before .before .before)
+unfolding kinds
+passed-7 c = passed-6 (c .before .before .before) ∙ not-met _ _ _ _ (c .before .same-bytes7 .ensures) (c .if7 .left)
 
 returns-8 : tie.Need-returns-8
 unfolding kindOf kinds
-returns-8 c =
-    let at-same-bytes7 = c .before in let at-if6 = at-same-bytes7 .before .before in let at-same-bytes6 = at-if6 .before in
-    let at-if5 = at-same-bytes6 .before .before in let at-same-bytes5 = at-if5 .before in let at-if4 = at-same-bytes5 .before .before in
-    let at-same-bytes4 = at-if4 .before in let at-if3 = at-same-bytes4 .before .before in let at-same-bytes3 = at-if3 .before in
-    let at-if2 = at-same-bytes3 .before .before in let at-same-bytes2 = at-if2 .before in let at-if1 = at-same-bytes2 .before .before in
-    let at-same-bytes = at-if1 .before in
-    rw (
-      sym (at-same-bytes .same-bytes .ensures) ∙ at-if1 .if1 .left,
-      sym (at-same-bytes2 .same-bytes2 .ensures) ∙ at-if2 .if2 .left,
-      sym
-          (at-same-bytes3 .same-bytes3 .ensures) ∙ at-if3 .if3 .left,
-      sym (at-same-bytes4 .same-bytes4 .ensures) ∙ at-if4 .if4 .left,
-      sym
-          (at-same-bytes5 .same-bytes5 .ensures) ∙ at-if5 .if5 .left,
-      sym (at-same-bytes6 .same-bytes6 .ensures) ∙ at-if6 .if6 .left,
-      sym
-          (at-same-bytes7 .same-bytes7 .ensures) ∙ c .if7 .left,
-    )
+returns-8 c = passed-7 c
 
 pub kind-of-spec : {M : Type 1} → statement M
 kind-of-spec =
