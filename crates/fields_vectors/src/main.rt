@@ -47,7 +47,7 @@ fn say_len(len: Len) {
 
 fn say_integer(z: i64) {
     let mut line = [32u8; 32];
-    let end = number::write_shortest(&mut line, 0, z);
+    let end = decimals::write_shortest(&mut line, 0, z);
     if end <= 32 {
         say(&line[..end]);
     }

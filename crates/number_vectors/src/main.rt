@@ -16,7 +16,7 @@ fn say_place(place: usize) {
 
 fn say_integer(z: i64) {
     let mut line = [b'.'; 24];
-    let end = number::write_shortest(&mut line, 0, z);
+    let end = decimals::write_shortest(&mut line, 0, z);
     if end <= 24 {
         say(&line[..end]);
     }
@@ -277,21 +277,21 @@ fn say_bytes(bytes: &[u8]) {
 
 fn bytes(kind: Integer, z: i64) {
     let mut room = [170u8; 10];
-    let end = number::write_integer(&mut room, 1, kind, z);
+    let end = integers::write_integer(&mut room, 1, kind, z);
     say_bytes(&room);
     say_place(end);
     say(b" ");
-    say_integer(number::read_integer(&room, 1, kind));
+    say_integer(integers::read_integer(&room, 1, kind));
     say(b"\n");
 }
 
 fn four(x: u32) {
     let mut room = [170u8; 6];
-    let end = number::put_four(&mut room, 1, x);
+    let end = integers::put_four(&mut room, 1, x);
     say_bytes(&room);
     say_place(end);
     say(b" ");
-    io::print_decimal(STDOUT_FILENO, number::four_bytes(&room, 1) as u64);
+    io::print_decimal(STDOUT_FILENO, integers::four_bytes(&room, 1) as u64);
     say(b"\n");
 }
 
@@ -354,12 +354,12 @@ fn counts() {
 
 fn decimal(z: i64) {
     let mut line = [b'.'; 24];
-    let end = number::write_shortest(&mut line, 1, z);
+    let end = decimals::write_shortest(&mut line, 1, z);
     say(&line);
     say(b" ");
     say_place(end);
     say(b" ");
-    say_place(number::shortest_length(z));
+    say_place(decimals::shortest_length(z));
     say(b"\n");
 }
 

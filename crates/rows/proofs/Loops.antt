@@ -13,7 +13,7 @@ use lib.IntN.{ℤ}
 use lib.ListN.{drop, drop-of-length-le, length, length-append, take, take-append-drop}
 use lib.Seq.{length-sets, length-take-le, sets}
 use borrow.Author.Tests.{le-ltb, lt-ltb}
-use Rattle.number.proofs.Places.{sets-append}
+use Rattle.table.proofs.Wrote.{sets-append}
 use Rattle.number.specs.Number.{toDigits}
 use Rattle.rows.proofs.Holding.{HeldInv, held-more, held-start}
 use Rattle.rows.proofs.Laws.{within-step}

@@ -12,7 +12,7 @@ use lib.Seq.{sets}
 use Rattle.binary.specs.Binary.{pack}
 use Rattle.fields.proofs.Answers.{listed-next}
 use Rattle.fields.specs.Contracts.{listed, noColumn}
-use Rattle.number.proofs.Places.{wrote-then}
+use Rattle.table.proofs.Wrote.{wrote-then}
 use Rattle.number.specs.Number.{toDigits}
 use Rattle.rows.proofs.Holding.{HeldInv, heldRow}
 use Rattle.rows.proofs.HeldForm.{held-form, held-within}

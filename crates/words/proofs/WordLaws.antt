@@ -11,15 +11,16 @@ use lib.Dec.{eqb, lit<, lit≤, ltb}
 use lib.IntN.{negsuc, negℤ, pos, ℤ}
 use lib.ListN.{drop, drop-of-length-le, getD, length}
 use lib.Seq.{drop-cons}
-use borrow.Author.Tests.{eq-eqb, eqb-false, eqb-true, le-leb, le-ltb, lt-leb, lt-ltb, ltb-false, ltb-true, ne-eqb}
-use Rattle.number.proofs.Laws.{pow-16, size-le}
+use borrow.Author.Tests.{eq-eqb, eqb-false, eqb-true, le-ltb, lt-ltb, ltb-false, ltb-true, ne-eqb}
+use Rattle.number.proofs.Laws.{digit-fails, digit-lt, digit-no, hexadigit-fails, hexadigit-lt, pow-16, size-le}
 use Rattle.number.specs.Contracts.{isSigned, size}
-use Rattle.words.specs.Contracts.{top, valueOr16}
+use Rattle.words.specs.Contracts.{top}
 use Rattle.number.specs.Number.{Fault, Outside, Unwritten, decimal, digit, hexadecimal, hexadigit, numeral, ofPattern, ranged, readInteger, sized, withSign}
 use Rattle.words.specs.Words.{brokenWord, capped, decimalNext, decimalReading, feed, firstNext, fresh, hexadecimalNext, hexadecimalReading, reading, signedReading, step, word, zeroNext}
+use Rattle.table.proofs.Bytes.{between-no}
 use Rattle.table.proofs.Laws.{between-yes}
 use Rattle.table.specs.Bytes.{between}
-use Rattle.table.specs.Result.{Result, _>>=_, bad, good}
+use Rattle.table.specs.Result.{Fails, Holds, Result, _>>=_, bad, fails, gives, good, holds, refuses}
 use Rattle.table.specs.Shape.{half, inRange, last}
 use Rattle.number.specs.declared.Integer.the-variants.{Int, Long, Short, UnsignedByte}
 use Rattle.number.specs.declared.Integer.{Integer}
@@ -29,55 +30,6 @@ use Rattle.words.specs.declared.Word.{Word}
 
 -- ---- a character
 
-pub under : (lo hi c : ℕ) → c < lo → between lo hi c ≡ false
-unfolding between
-under lo hi c h = rw (lt-leb lo c h)
-
-pub above : (lo hi c : ℕ) → lo ≤ c → hi < c → between lo hi c ≡ false
-unfolding between
-above lo hi c h k = rw (le-leb lo c h, lt-leb c hi k)
-
-pub digit-yes : (c : ℕ) → 48 ≤ c → c ≤ 57 → digit c ≡ good (c - 48)
-unfolding digit
-digit-yes c h k = rw (between-yes 48 57 c h k)
-
-pub digit-under : (c : ℕ) → c < 48 → digit c ≡ bad Unwritten
-unfolding digit
-digit-under c h = rw (under 48 57 c h)
-
-pub digit-over : (c : ℕ) → 57 < c → digit c ≡ bad Unwritten
-unfolding digit
-digit-over c h = rw (above 48 57 c (omega arith) h)
-
-pub hexadigit-0 : (c : ℕ) → 48 ≤ c → c ≤ 57 → hexadigit c ≡ good (c - 48)
-unfolding hexadigit
-hexadigit-0 c h k = rw (between-yes 48 57 c h k)
-
-pub hexadigit-A : (c : ℕ) → 65 ≤ c → c ≤ 70 → hexadigit c ≡ good (c - 55)
-unfolding hexadigit
-hexadigit-A c h k = rw (above 48 57 c (omega arith) (omega arith), between-yes 65 70 c h k)
-
-pub hexadigit-a : (c : ℕ) → 97 ≤ c → c ≤ 102 → hexadigit c ≡ good (c - 87)
-unfolding hexadigit
-hexadigit-a c h k = rw (above 48 57 c (omega arith) (omega arith), above 65 70 c (omega arith) (omega arith), between-yes 97 102 c h k)
-
--- the characters between the ranges
-pub hexadigit-1 : (c : ℕ) → c < 48 → hexadigit c ≡ bad Unwritten
-unfolding hexadigit
-hexadigit-1 c h = rw (under 48 57 c h, under 65 70 c (omega arith), under 97 102 c (omega arith))
-
-pub hexadigit-2 : (c : ℕ) → 57 < c → c < 65 → hexadigit c ≡ bad Unwritten
-unfolding hexadigit
-hexadigit-2 c h k = rw (above 48 57 c (omega arith) h, under 65 70 c k, under 97 102 c (omega arith))
-
-pub hexadigit-3 : (c : ℕ) → 70 < c → c < 97 → hexadigit c ≡ bad Unwritten
-unfolding hexadigit
-hexadigit-3 c h k = rw (above 48 57 c (omega arith) (omega arith), above 65 70 c (omega arith) h, under 97 102 c k)
-
-pub hexadigit-4 : (c : ℕ) → 102 < c → hexadigit c ≡ bad Unwritten
-unfolding hexadigit
-hexadigit-4 c h = rw (above 48 57 c (omega arith) (omega arith), above 65 70 c (omega arith) (omega arith), above 97 102 c (omega arith) h)
-
 -- below, or not
 lt-or : {P : Type 0} (a b : ℕ) → (a < b → P) → (b ≤ a → P) → P
 lt-or {P} a b f g = by (ltb a b) refl
@@ -86,21 +38,11 @@ lt-or {P} a b f g = by (ltb a b) refl
     by true e = f (ltb-true a b e)
     by false e = g (ltb-false a b e)
 
-digit-or : {P : Type 0} (c : ℕ) → ((d : ℕ) → d < 10 → digit c ≡ good d → P) → (digit c ≡ bad Unwritten → P) → P
-digit-or c f g =
-    lt-or c 48 (λ h. g (digit-under c h)) (λ h.
-    lt-or 57 c (λ k. g (digit-over c k)) (λ k. f (c - 48) (omega arith) (digit-yes c h k)))
-
-hexadigit-or : {P : Type 0} (c : ℕ) → ((d : ℕ) → d < 16 → hexadigit c ≡ good d → P) → (hexadigit c ≡ bad Unwritten → P) → P
-hexadigit-or c f g =
-    lt-or c 48 (λ a. g (hexadigit-1 c a)) (λ a.
-    lt-or 57 c (λ b.
-    lt-or c 65 (λ i. g (hexadigit-2 c b i)) (λ i.
-    lt-or 70 c (λ j.
-    lt-or c 97 (λ m. g (hexadigit-3 c j m)) (λ m.
-    lt-or 102 c (λ n. g (hexadigit-4 c n)) (λ n. f (c - 87) (omega arith) (hexadigit-a c m n))))
-    (λ j. f (c - 55) (omega arith) (hexadigit-A c i j))))
-    (λ b. f (c - 48) (omega arith) (hexadigit-0 c a b)))
+-- a digit of a base, or not
+digit-or : {P : Type 0} {r : Result Fault ℕ} {base : ℕ} → Holds (λ (d : ℕ). d < base) r → Fails (λ (e : Fault). e ≡ Unwritten) r
+    → ((d : ℕ) → d < base → r ≡ good d → P) → (r ≡ bad Unwritten → P) → P
+digit-or (holds {a = d} h) gives f g = f d h refl
+digit-or refuses (fails e) f g = g (ap bad e)
 
 -- ---- the range of a kind, by its largest
 
@@ -208,9 +150,9 @@ hexadecimal-end : (k : Integer) (n v : ℕ) → v < 16 ^ n
     → hexadecimalReading k n v ≡ cond (between 1 (2 * size k) n) (good (ofPattern (isSigned k) (size k) v)) (bad Unwritten)
 unfolding hexadecimalReading
 hexadecimal-end k n v h =
-    lt-or n 1 (λ l. rw (eq-eqb n 0 (omega arith), under 1 (2 * size k) n l)) (λ l.
+    lt-or n 1 (λ l. rw (eq-eqb n 0 (omega arith), between-no 1 (2 * size k) n (omega arith))) (λ l.
     rw (ne-eqb n 0 (λ e. omega arith))
-    (lt-or (2 * size k) n (λ m. rw (lt-ltb (2 * size k) n m, above 1 (2 * size k) n l m)) (λ m.
+    (lt-or (2 * size k) n (λ m. rw (lt-ltb (2 * size k) n m, between-no 1 (2 * size k) n (omega arith))) (λ m.
     let p : 16 ^ n ≤ 16 ^ (2 * size k) = pow-le-pow-right (lit< tt) m in
     let exact : v % 256 ^ size k ≡ v = mod-eq-of-lt (omega (arith, pow-16 (size k))) in
     rw (le-ltb (2 * size k) n m, between-yes 1 (2 * size k) n l m, exact))))
@@ -230,7 +172,7 @@ unfolding feed numeral
 hexadecimal-fed k n v [] h b = rw (add-zero n, read-hexadecimal k n v) (hexadecimal-end k n v b)
 hexadecimal-fed k n v (c ∷ s) h b =
     rw (step-hexadecimal n v c)
-    (hexadigit-or c
+    (digit-or (hexadigit-lt c) (hexadigit-fails c)
     (λ d l e. rw e (lt-or n 16
     (λ m.
     let few : n ≤ 15 = omega arith in
@@ -239,7 +181,7 @@ hexadecimal-fed k n v (c ∷ s) h b =
     let long : n + suc (length s) ≡ n + 1 + length s = omega arith in
     rw (hexadecimal-more n v c d e m, exact, long)
     (hexadecimal-fed k (n + 1) (v * 16 + d) s (omega arith) (rw (add-one n, pow-suc 16 n) (omega arith))))
-    (λ m. rw (hexadecimal-full n v c d e m, above 1 (2 * size k) (n + suc (length s)) (omega arith) (omega (arith, size-le k))) (read-broken k s))))
+    (λ m. rw (hexadecimal-full n v c d e m, between-no 1 (2 * size k) (n + suc (length s)) (omega (arith, size-le k))) (read-broken k s))))
     (λ e. rw (hexadecimal-bad n v c e, e, both-bad (between 1 (2 * size k) (n + suc (length s))) (bad Unwritten)) (read-broken k s)))
 
 -- decimal digits, in a form whose characters are digits: what the form reads as is handed in
@@ -250,15 +192,15 @@ module _ (k : Integer) (f : Form) (steps : (n v c : ℕ) → step (word f n v) c
   unfolding feed numeral decimalReading
   decimal-fed negative reads n m [] h =
       rw (reads n (cap m), cap-ranged k negative m, add-zero n)
-      (lt-or n 1 (λ l. rw (eq-eqb n 0 (omega arith), under 1 20 n l)) (λ l. rw (ne-eqb n 0 (λ e. omega arith), between-yes 1 20 n l h)))
+      (lt-or n 1 (λ l. rw (eq-eqb n 0 (omega arith), between-no 1 20 n (omega arith))) (λ l. rw (ne-eqb n 0 (λ e. omega arith), between-yes 1 20 n l h)))
   decimal-fed negative reads n m (c ∷ s) h =
       rw (steps n (cap m) c)
-      (digit-or c
+      (digit-or (digit-lt c) (digit-fails c)
       (λ d l e. rw e (lt-or n 20
       (λ i.
       let long : n + suc (length s) ≡ n + 1 + length s = omega arith in
       rw (decimal-more f n (cap m) c d e i, cap-step m d l, long) (decimal-fed negative reads (n + 1) (m * 10 + d) s (omega arith)))
-      (λ i. rw (decimal-full f n (cap m) c d e i, above 1 20 (n + suc (length s)) (omega arith) (omega arith)) (read-broken k s))))
+      (λ i. rw (decimal-full f n (cap m) c d e i, between-no 1 20 (n + suc (length s)) (omega arith)) (read-broken k s))))
       (λ e. rw (decimal-bad f n (cap m) c e, e, both-bad (between 1 20 (n + suc (length s))) (bad Unwritten)) (read-broken k s)))
 
   -- a sign that the kind does not have
@@ -267,7 +209,7 @@ module _ (k : Integer) (f : Form) (steps : (n v c : ℕ) → step (word f n v) c
   unsigned-fed reads n v [] = reads n v
   unsigned-fed reads n v (c ∷ s) =
       rw (steps n v c)
-      (digit-or c
+      (digit-or (digit-lt c) (digit-fails c)
       (λ d l e. lt-or n 20 (λ i. rw (decimal-more f n v c d e i) (unsigned-fed reads (n + 1) (capped v d) s)) (λ i. rw (decimal-full f n v c d e i) (read-broken k s)))
       (λ e. rw (decimal-bad f n v c e) (read-broken k s)))
 
@@ -343,8 +285,8 @@ after-plus w (c ∷ s) = refl
 
 no-plus : (w : ℕ) (s : List ℕ) → readInteger false w (43 ∷ s) ≡ bad Unwritten
 unfolding readInteger
-no-plus w [] = bad-first false w 43 [] (digit-under 43 (lit< tt))
-no-plus w (c ∷ s) = bad-first false w 43 (c ∷ s) (digit-under 43 (lit< tt))
+no-plus w [] = bad-first false w 43 [] (digit-no 43 (omega arith))
+no-plus w (c ∷ s) = bad-first false w 43 (c ∷ s) (digit-no 43 (omega arith))
 
 plus-case : (k : Integer) (s : List ℕ) → reading k (feed (word Plus 0 0) s) ≡ readInteger (isSigned k) (size k) (43 ∷ s)
 plus-case k s = sign-case k Plus step-plus false 43 (plus-yes k) (plus-no k) after-plus no-plus s
@@ -368,8 +310,8 @@ after-minus w (c ∷ s) = refl
 
 no-minus : (w : ℕ) (s : List ℕ) → readInteger false w (45 ∷ s) ≡ bad Unwritten
 unfolding readInteger
-no-minus w [] = bad-first false w 45 [] (digit-under 45 (lit< tt))
-no-minus w (c ∷ s) = bad-first false w 45 (c ∷ s) (digit-under 45 (lit< tt))
+no-minus w [] = bad-first false w 45 [] (digit-no 45 (omega arith))
+no-minus w (c ∷ s) = bad-first false w 45 (c ∷ s) (digit-no 45 (omega arith))
 
 minus-case : (k : Integer) (s : List ℕ) → reading k (feed (word Minus 0 0) s) ≡ readInteger (isSigned k) (size k) (45 ∷ s)
 minus-case k s = sign-case k Minus step-minus true 45 (minus-yes k) (minus-no k) after-minus no-minus s
@@ -457,12 +399,6 @@ unfolding feed
 feed-none w s i h = rw (drop-of-length-le s h)
 
 -- ---- what the code's answers are
-
-pub hexadigit-no : (c r : ℕ) → r ≡ valueOr16 (hexadigit c) → 16 ≤ r → hexadigit c ≡ bad Unwritten
-hexadigit-no c r e h = hexadigit-or c (λ d l q. absurd (omega (arith, e ∙ ap valueOr16 q))) (λ q. q)
-
-pub hexadigit-is : (c r : ℕ) → r ≡ valueOr16 (hexadigit c) → r < 16 → hexadigit c ≡ good r
-hexadigit-is c r e h = hexadigit-or c (λ d l q. q ∙ ap good (sym (e ∙ ap valueOr16 q))) (λ q. absurd (omega (arith, e ∙ ap valueOr16 q)))
 
 pub decimal-none : (k : Integer) (negative : Bool) (n v : ℕ) → n ≡ 0 → decimalReading k negative n v ≡ bad Unwritten
 unfolding decimalReading

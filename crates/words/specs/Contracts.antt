@@ -32,11 +32,6 @@ readingOf (Value z) = good z
 readingOf Reading.Outside = bad Outside
 readingOf Reading.Unwritten = bad Unwritten
 
--- 16 is no digit
-abbrev pub valueOr16 : Result Fault ℕ → ℕ
-valueOr16 (good d) = d
-valueOr16 (bad f) = 16
-
 -- ---- words of plain digits
 
 -- how many of at most n characters from the front on are digits

@@ -3,7 +3,7 @@
 use Prim.Native.Nat.{_%_, _*_, _+_, _-_, _^_, ℕ}
 use mathlib.Core.Bool.{Bool, cond, false, true}
 use mathlib.Core.List.{List, [], _∷_}
-use lib.Dec.{eqb, leb, ltb}
+use lib.Dec.{eqb, ltb}
 use lib.IntN.{pos, ℤ}
 use Rattle.number.specs.Contracts.{isSigned, size}
 use Rattle.number.specs.Number.{Fault, Unwritten, digit, hexadigit, ofPattern, ranged, withSign}

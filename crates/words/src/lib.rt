@@ -5,8 +5,8 @@ ghost use mathlib.Core.Bool.{false, true};
 ghost use Prim.Native.Nat.{_*_, _<_, _≤_};
 ghost use lib.ListN.{length};
 ghost use Rattle.number.specs.Contracts.{isSigned, size};
-ghost use Rattle.number.specs.Number.{hexadigit, readInteger};
-ghost use Rattle.words.specs.Contracts.{Earlier, QuickIs, RunAt, readingOf, top, valueOr16};
+ghost use Rattle.number.specs.Number.{readInteger};
+ghost use Rattle.words.specs.Contracts.{Earlier, QuickIs, RunAt, readingOf, top};
 ghost use Rattle.words.specs.Words.{brokenWord, capped, decimalNext, decimalReading, firstNext, fresh, hexadecimalNext, hexadecimalReading, reading, signedReading, step, zeroNext};
 use number::Integer;
 
@@ -118,22 +118,10 @@ fn decimal_next(form: Form, count: usize, value: u64, c: u8) -> Word
     }
 }
 
-// The value of a hexadigit; 16 for another character.
-fn hexadigit_value(c: u8) -> u64
-    ensures { λ r. ⌜ r ≡ valueOr16 (hexadigit c) ⌝ }
-{
-    match c {
-        48..=57 => (c - 48) as u64,
-        65..=70 => (c - 55) as u64,
-        97..=102 => (c - 87) as u64,
-        _ => 16,
-    }
-}
-
 fn hexadecimal_next(count: usize, value: u64, c: u8) -> Word
     ensures { λ r. ⌜ r ≡ hexadecimalNext count value c ⌝ }
 {
-    let digit = hexadigit_value(c);
+    let digit = text::digit_value(c) as u64;
     if 16 <= digit {
         return broken();
     }
@@ -224,7 +212,7 @@ fn hexadecimal_reading(count: usize, value: u64, kind: Integer) -> Reading
     if most_hexadigits(kind) < count {
         return Reading::Unwritten;
     }
-    Reading::Value(number::of_low_bytes(value, kind))
+    Reading::Value(integers::of_low_bytes(value, kind))
 }
 
 impl Word {

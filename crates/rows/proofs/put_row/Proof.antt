@@ -8,7 +8,7 @@ use denote.Ref.{now}
 use borrow.Author.Needs.{needs}
 use borrow.Author.Tests.{le-leb, lt-leb}
 use Rattle.rows.specs.Contracts.{heldForm, readForm, rowBytes}
-use Rattle.number.proofs.Places.{wrote-as}
+use Rattle.table.proofs.Wrote.{wrote-as}
 use Rattle.rows.proofs.put_row.Statement.{statement}
 use Rattle.rows.proofs.put_row.Tie as tie
 

@@ -11,7 +11,8 @@ use mir.Facts.{toZ-ofZ}
 use mir.Syntax.{w64}
 use Rattle.number.specs.Contracts.{size}
 use Rattle.number.specs.Number.{shortest}
-use Rattle.tabledata_writing.proofs.Writing.{joined-end, joined-more, shortest-le, taken-at, taken-long}
+use Rattle.number.proofs.Decimal.{shortest-most}
+use Rattle.tabledata_writing.proofs.Writing.{joined-end, joined-more, taken-at, taken-long}
 use Rattle.tabledata.specs.TableData.{joined}
 use Rattle.tabledata_writing.proofs.integers_size.Statement.{statement}
 use Rattle.tabledata_writing.proofs.integers_size.Tie as tie
@@ -36,10 +37,10 @@ shortest-length-requires : tie.Need-shortest-length-requires Inv-loop μ-loop
 shortest-length-requires c κs = search needs
 
 add-size : tie.Need-add-size Inv-loop μ-loop
-add-size c = omega (arith, ((c .shortest-length) .ensures ∙ ap (λ (z : ℤ). length (shortest z)) (toZ-ofZ {w = w64} (sfits-of ((c .before .shortest-length-arg) .given)) ∙ sym (taken-at (now ((c .before .before .before .before) .args .scratch)) ((c .before .before .before .before) .args .count) ((c .before .before .before .loop) .k) ((c .before .before .loop-test) .taken)))), shortest-le (getD (take ((c .before .before .before .before) .args .count) (now ((c .before .before .before .before) .args .scratch))) ((c .before .before .before .loop) .k) (pos 0)))
+add-size c = omega (arith, ((c .shortest-length) .ensures ∙ ap (λ (z : ℤ). length (shortest z)) (toZ-ofZ {w = w64} (sfits-of ((c .before .shortest-length-arg) .given)) ∙ sym (taken-at (now ((c .before .before .before .before) .args .scratch)) ((c .before .before .before .before) .args .count) ((c .before .before .before .loop) .k) ((c .before .before .loop-test) .taken)))), shortest-most (getD (take ((c .before .before .before .before) .args .count) (now ((c .before .before .before .before) .args .scratch))) ((c .before .before .before .loop) .k) (pos 0)))
 
 add-size-2 : tie.Need-add-size-2 Inv-loop μ-loop
-add-size-2 c = omega (arith, ((c .shortest-length) .ensures ∙ ap (λ (z : ℤ). length (shortest z)) (toZ-ofZ {w = w64} (sfits-of ((c .before .shortest-length-arg) .given)) ∙ sym (taken-at (now ((c .before .before .before .before) .args .scratch)) ((c .before .before .before .before) .args .count) ((c .before .before .before .loop) .k) ((c .before .before .loop-test) .taken)))), shortest-le (getD (take ((c .before .before .before .before) .args .count) (now ((c .before .before .before .before) .args .scratch))) ((c .before .before .before .loop) .k) (pos 0)), (c .before .before .before .loop) .inv .1, (c .before .before .before .before) .pre .1)
+add-size-2 c = omega (arith, ((c .shortest-length) .ensures ∙ ap (λ (z : ℤ). length (shortest z)) (toZ-ofZ {w = w64} (sfits-of ((c .before .shortest-length-arg) .given)) ∙ sym (taken-at (now ((c .before .before .before .before) .args .scratch)) ((c .before .before .before .before) .args .count) ((c .before .before .before .loop) .k) ((c .before .before .loop-test) .taken)))), shortest-most (getD (take ((c .before .before .before .before) .args .count) (now ((c .before .before .before .before) .args .scratch))) ((c .before .before .before .loop) .k) (pos 0)), (c .before .before .before .loop) .inv .1, (c .before .before .before .before) .pre .1)
 
 add-k : tie.Need-add-k Inv-loop μ-loop
 add-k c = search needs
@@ -48,7 +49,7 @@ loop-less : tie.Need-loop-less Inv-loop μ-loop
 loop-less c = search needs
 
 loop-again : tie.Need-loop-again Inv-loop μ-loop
-loop-again c = (search needs, omega (arith, ((c .shortest-length) .ensures ∙ ap (λ (z : ℤ). length (shortest z)) (toZ-ofZ {w = w64} (sfits-of ((c .before .shortest-length-arg) .given)) ∙ sym (taken-at (now ((c .before .before .before .before) .args .scratch)) ((c .before .before .before .before) .args .count) ((c .before .before .before .loop) .k) ((c .before .before .loop-test) .taken)))), shortest-le (getD (take ((c .before .before .before .before) .args .count) (now ((c .before .before .before .before) .args .scratch))) ((c .before .before .before .loop) .k) (pos 0)), (c .before .before .before .loop) .inv .1), omega (arith, (c .before .before .before .loop) .inv .2, ((c .shortest-length) .ensures ∙ ap (λ (z : ℤ). length (shortest z)) (toZ-ofZ {w = w64} (sfits-of ((c .before .shortest-length-arg) .given)) ∙ sym (taken-at (now ((c .before .before .before .before) .args .scratch)) ((c .before .before .before .before) .args .count) ((c .before .before .before .loop) .k) ((c .before .before .loop-test) .taken)))), ap length (joined-more (λ z. 32 ∷ shortest z) (take ((c .before .before .before .before) .args .count) (now ((c .before .before .before .before) .args .scratch))) ((c .before .before .before .loop) .k) (omega (arith, (taken-long (now ((c .before .before .before .before) .args .scratch)) ((c .before .before .before .before) .args .count) ((c .before .before .before .before) .pre .0))))), length-append (shortest (getD (take ((c .before .before .before .before) .args .count) (now ((c .before .before .before .before) .args .scratch))) ((c .before .before .before .loop) .k) (pos 0))) (joined (λ z. 32 ∷ shortest z) (drop (((c .before .before .before .loop) .k) + 1) (take ((c .before .before .before .before) .args .count) (now ((c .before .before .before .before) .args .scratch)))))))
+loop-again c = (search needs, omega (arith, ((c .shortest-length) .ensures ∙ ap (λ (z : ℤ). length (shortest z)) (toZ-ofZ {w = w64} (sfits-of ((c .before .shortest-length-arg) .given)) ∙ sym (taken-at (now ((c .before .before .before .before) .args .scratch)) ((c .before .before .before .before) .args .count) ((c .before .before .before .loop) .k) ((c .before .before .loop-test) .taken)))), shortest-most (getD (take ((c .before .before .before .before) .args .count) (now ((c .before .before .before .before) .args .scratch))) ((c .before .before .before .loop) .k) (pos 0)), (c .before .before .before .loop) .inv .1), omega (arith, (c .before .before .before .loop) .inv .2, ((c .shortest-length) .ensures ∙ ap (λ (z : ℤ). length (shortest z)) (toZ-ofZ {w = w64} (sfits-of ((c .before .shortest-length-arg) .given)) ∙ sym (taken-at (now ((c .before .before .before .before) .args .scratch)) ((c .before .before .before .before) .args .count) ((c .before .before .before .loop) .k) ((c .before .before .loop-test) .taken)))), ap length (joined-more (λ z. 32 ∷ shortest z) (take ((c .before .before .before .before) .args .count) (now ((c .before .before .before .before) .args .scratch))) ((c .before .before .before .loop) .k) (omega (arith, (taken-long (now ((c .before .before .before .before) .args .scratch)) ((c .before .before .before .before) .args .count) ((c .before .before .before .before) .pre .0))))), length-append (shortest (getD (take ((c .before .before .before .before) .args .count) (now ((c .before .before .before .before) .args .scratch))) ((c .before .before .before .loop) .k) (pos 0))) (joined (λ z. 32 ∷ shortest z) (drop (((c .before .before .before .loop) .k) + 1) (take ((c .before .before .before .before) .args .count) (now ((c .before .before .before .before) .args .scratch)))))))
 
 returns : tie.Need-returns Inv-loop μ-loop
 returns c = omega (arith, (c .before .loop) .inv .2, ap length (joined-end (λ z. 32 ∷ shortest z) (take ((c .before .before) .args .count) (now ((c .before .before) .args .scratch))) ((c .before .loop) .k) (omega (arith, (taken-long (now ((c .before .before) .args .scratch)) ((c .before .before) .args .count) ((c .before .before) .pre .0))))))

@@ -10,7 +10,8 @@ use denote.Ref.{now}
 use mir.Facts.{toZ-ofZ}
 use mir.Syntax.{w64}
 use Rattle.number.specs.Number.{shortest}
-use Rattle.tabledata_writing.proofs.Writing.{Left, left-all, left-none, left-room, left-step, taken-end, taken-more, wrote-one, wrote-then}
+use Rattle.table.proofs.Wrote.{Left, left-all, left-none, left-room, left-step, wrote-one, wrote-then}
+use Rattle.tabledata_writing.proofs.Writing.{taken-end, taken-more}
 use Rattle.tabledata.specs.TableData.{joined}
 use Rattle.tabledata_writing.proofs.more_integers.Statement.{statement}
 use Rattle.tabledata_writing.proofs.more_integers.Tie as tie

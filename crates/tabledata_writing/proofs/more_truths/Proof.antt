@@ -9,7 +9,8 @@ use borrow.Author.Needs.{needs, sfits-of}
 use denote.Ref.{now}
 use mir.Facts.{toZ-ofZ}
 use mir.Syntax.{w64}
-use Rattle.tabledata_writing.proofs.Writing.{Left, left-all, left-none, left-room, left-step, taken-end, taken-more, truth-long, wrote-two}
+use Rattle.table.proofs.Wrote.{Left, left-all, left-none, left-room, left-step}
+use Rattle.tabledata_writing.proofs.Writing.{taken-end, taken-more, truth-long, wrote-two}
 use Rattle.tabledata.specs.TableData.{joined, truthText}
 use Rattle.tabledata_writing.proofs.more_truths.Statement.{statement}
 use Rattle.tabledata_writing.proofs.more_truths.Tie as tie

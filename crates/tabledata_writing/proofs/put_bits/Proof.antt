@@ -9,7 +9,8 @@ use denote.Ref.{now}
 use mir.Facts.{toZ-ofZ}
 use mir.Syntax.{w64}
 use Rattle.table.specs.Shape.{Bits}
-use Rattle.tabledata_writing.proofs.Writing.{Left, bits-joined, bits-long, left-all, left-none, left-step, taken-end, taken-more, wrote-one}
+use Rattle.table.proofs.Wrote.{Left, left-all, left-none, left-step, wrote-one}
+use Rattle.tabledata_writing.proofs.Writing.{bits-joined, bits-long, taken-end, taken-more}
 use Rattle.tabledata.specs.TableData.{bitText, elementBytes, joined}
 use Rattle.tabledata_writing.proofs.put_bits.Statement.{statement}
 use Rattle.tabledata_writing.proofs.put_bits.Tie as tie

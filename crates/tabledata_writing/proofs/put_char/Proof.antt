@@ -8,7 +8,8 @@ use lib.ListN.{length}
 use borrow.Author.Needs.{needs}
 use borrow.Author.Tests.{not-false}
 use denote.Ref.{now}
-use Rattle.tabledata_writing.proofs.Writing.{char-plain, charForm, wrote-as, wrote-long, wrote-one}
+use Rattle.table.proofs.Wrote.{wrote-as, wrote-long, wrote-one}
+use Rattle.tabledata_writing.proofs.Writing.{char-plain, charForm}
 use Rattle.tabledata_writing.proofs.put_char.Statement.{statement}
 use Rattle.tabledata_writing.proofs.put_char.Tie as tie
 

@@ -9,7 +9,8 @@ use denote.Ref.{now}
 use mir.Facts.{toZ-ofZ}
 use mir.Syntax.{w64}
 use Rattle.table.specs.Shape.{Text}
-use Rattle.tabledata_writing.proofs.Writing.{Left, char-code, charForm, left-all, left-none, left-room, left-step, taken-end, taken-more}
+use Rattle.table.proofs.Wrote.{Left, left-all, left-none, left-room, left-step}
+use Rattle.tabledata_writing.proofs.Writing.{char-code, charForm, taken-end, taken-more}
 use Rattle.tabledata.specs.TableData.{elementBytes, joined}
 use Rattle.tabledata_writing.proofs.put_chars.Statement.{statement}
 use Rattle.tabledata_writing.proofs.put_chars.Tie as tie

@@ -6,7 +6,7 @@ use borrow.Author.Needs.{needs}
 use denote.Ref.{now}
 use Rattle.table.specs.Shape.{shape}
 use Rattle.table.specs.declared.Kind.{Kind}
-use Rattle.tabledata_writing.proofs.Writing.{wrote-long}
+use Rattle.table.proofs.Wrote.{wrote-long}
 use Rattle.tabledata.specs.TableData.{elementBytes}
 use Rattle.tabledata_writing.proofs.put_elements.Statement.{statement}
 use Rattle.tabledata_writing.proofs.put_elements.Tie as tie

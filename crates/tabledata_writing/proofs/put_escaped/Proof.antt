@@ -11,7 +11,8 @@ use borrow.Author.Tests.{not-false, not-true}
 use denote.Ref.{now}
 use Rattle.table.specs.Bytes.{between}
 use Rattle.tabledata.proofs.Laws.{text-lt}
-use Rattle.tabledata_writing.proofs.Writing.{char-itself, char-none, charForm, wrote-as, wrote-long, wrote-none, wrote-one}
+use Rattle.table.proofs.Wrote.{wrote-as, wrote-long, wrote-none, wrote-one}
+use Rattle.tabledata_writing.proofs.Writing.{char-itself, char-none, charForm}
 use Rattle.tabledata.specs.TableData.{escaped, formOf, isText}
 use Rattle.tabledata_writing.proofs.put_escaped.Statement.{statement}
 use Rattle.tabledata_writing.proofs.put_escaped.Tie as tie

@@ -10,7 +10,8 @@ use denote.Ref.{now}
 use mir.Facts.{toZ-ofZ}
 use mir.Syntax.{w64}
 use Rattle.number.specs.Number.{shortest}
-use Rattle.tabledata_writing.proofs.Writing.{spaced-none, spaced-taken, wrote-as, wrote-long, wrote-none, wrote-then}
+use Rattle.table.proofs.Wrote.{wrote-as, wrote-long, wrote-none, wrote-then}
+use Rattle.tabledata_writing.proofs.Writing.{spaced-none, spaced-taken}
 use Rattle.tabledata.specs.TableData.{joined, spaced}
 use Rattle.tabledata_writing.proofs.put_integers.Statement.{statement}
 use Rattle.tabledata_writing.proofs.put_integers.Tie as tie

@@ -8,7 +8,8 @@ use borrow.Author.Needs.{needs, sfits-of}
 use denote.Ref.{now}
 use mir.Facts.{toZ-ofZ}
 use mir.Syntax.{w64}
-use Rattle.tabledata_writing.proofs.Writing.{spaced-none, spaced-taken, wrote-as, wrote-long, wrote-none, wrote-one, wrote-then}
+use Rattle.table.proofs.Wrote.{wrote-as, wrote-long, wrote-none, wrote-one, wrote-then}
+use Rattle.tabledata_writing.proofs.Writing.{spaced-none, spaced-taken}
 use Rattle.tabledata.specs.TableData.{joined, spaced, truthText}
 use Rattle.tabledata_writing.proofs.put_truths.Statement.{statement}
 use Rattle.tabledata_writing.proofs.put_truths.Tie as tie

@@ -1,6 +1,6 @@
 -- `tabledata_writing::write_row_start` meets its contract.
 use borrow.Author.Needs.{needs}
-use Rattle.tabledata_writing.proofs.Writing.{wrote-long}
+use Rattle.table.proofs.Wrote.{wrote-long}
 use Rattle.tabledata.specs.TableData.{open-TR}
 use Rattle.tabledata_writing.proofs.write_row_start.Statement.{statement}
 use Rattle.tabledata_writing.proofs.write_row_start.Tie as tie

@@ -8,7 +8,8 @@ use borrow.Author.Needs.{needs}
 use denote.Ref.{now}
 use Rattle.table.specs.Contracts.{held}
 use Rattle.table.specs.Shape.{shape}
-use Rattle.tabledata_writing.proofs.Writing.{text-long, text-tagged, wrote-as, wrote-long, wrote-then}
+use Rattle.table.proofs.Wrote.{wrote-as, wrote-long, wrote-then}
+use Rattle.tabledata_writing.proofs.Writing.{text-long, text-tagged}
 use Rattle.tabledata.specs.TableData.{elementBytes, textBytes}
 use Rattle.tabledata_writing.proofs.write_text.Statement.{statement}
 use Rattle.tabledata_writing.proofs.write_text.Tie as tie

@@ -1,9 +1,10 @@
 -- `words::decimal_next` meets its contract: a digit, of which there may be 20, or no digit.
-use Prim.Native.Nat.{_+_, _-_, ℕ}
+use Prim.Native.Nat.{_+_, _-_}
 use mathlib.Core.Logic.{⊎-elim}
 use mathlib.Core.Path.{_∙_, ap, sym}
 use Rattle.words.specs.Words.{word}
-use Rattle.words.proofs.WordLaws.{decimal-bad, decimal-full, decimal-more, digit-over, digit-under, digit-yes}
+use Rattle.number.proofs.Laws.{digit-no, digit-yes}
+use Rattle.words.proofs.WordLaws.{decimal-bad, decimal-full, decimal-more}
 use native.Mathlib.Omega.{arith}
 use borrow.Author.Needs.{needs}
 use Rattle.words.proofs.decimal_next.Statement.{statement}
@@ -40,7 +41,7 @@ returns-3 : tie.Need-returns-3
 returns-3 c =
     let a = c .before .before .args in
     c .broken2 .ensures
-    ∙ sym (decimal-bad (a .form) (a .count) (a .value) (a .c) (⊎-elim (λ w. digit-under (a .c) (omega arith)) (λ w. digit-over (a .c) (omega arith)) (c .before .if1 .came)))
+    ∙ sym (decimal-bad (a .form) (a .count) (a .value) (a .c) (digit-no (a .c) (λ h k. ⊎-elim (λ w. omega arith) (λ w. omega arith) (c .before .if1 .came))))
 
 pub decimal-next-spec : {M : Type 1} → statement M
 decimal-next-spec =

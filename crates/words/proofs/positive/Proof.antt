@@ -1,6 +1,6 @@
 -- `words::positive` meets its contract: no digit, over the kind's largest, or a value.
 use mathlib.Core.Bool.{false}
-use mathlib.Core.Path.{_∙_, _≡_, ap, sym}
+use mathlib.Core.Path.{_∙_, ap, sym}
 use Prim.Native.Nat.{_≤_}
 use lib.IntN.{ℤ}
 use mir.Facts.{toZ-pos}

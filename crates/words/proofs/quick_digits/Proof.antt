@@ -1,8 +1,8 @@
 -- `words::quick_digits` meets its contract. The run behind and the run still to come are the whole run; the number is that of the digits behind.
-use Prim.Native.Nat.{_*_, _+_, _-_, _<_, _^_, _≤_, suc, ℕ}
-use mathlib.Core.Bool.{false, true}
+use Prim.Native.Nat.{_+_, _-_, _<_, _≤_, suc, ℕ}
+use mathlib.Core.Bool.{true}
 use mathlib.Core.Logic.{⊎-elim}
-use mathlib.Core.Path.{_∙_, _≡_, ap, refl, sym}
+use mathlib.Core.Path.{_∙_, _≡_, ap, refl}
 use native.Mathlib.Omega.{arith}
 use denote.Ref.{now}
 use lib.ListN.{drop, getD, length, take}
@@ -12,7 +12,8 @@ use Rattle.table.specs.Bytes.{between}
 use Rattle.table.specs.Result.{good}
 use Rattle.table.proofs.Laws.{between-yes}
 use Rattle.words.proofs.QuickLaws.{number-lt, number-more, run-end, run-go, run-out, run-stop, run-zero}
-use Rattle.words.proofs.WordLaws.{above, digit-yes, under}
+use Rattle.number.proofs.Laws.{digit-yes}
+use Rattle.table.proofs.Bytes.{between-no}
 use borrow.Author.Needs.{needs}
 use Rattle.words.proofs.quick_digits.Statement.{statement}
 use Rattle.words.proofs.quick_digits.Tie as tie
@@ -95,7 +96,7 @@ returns-2 c =
     let a = c .before .before .before .before .before .before .args in
     let near = c .before .before .before .before .earlier .ensures in
     run-end (now (a .s)) (a .at) (l .i) (l .number) (l .inv .0 .0) (l .inv .2) (l .inv .1)
-    (run-stop (now (a .s)) (l .i) (a .at + 18 - l .i) (omega (arith, near .by-first)) (under 48 57 (getD (now (a .s)) (l .i) 0) (omega arith)))
+    (run-stop (now (a .s)) (l .i) (a .at + 18 - l .i) (omega (arith, near .by-first)) (between-no 48 57 (getD (now (a .s)) (l .i) 0) (omega arith)))
 
 returns-3 : tie.Need-returns-3 Inv-loop μ-loop
 returns-3 c =
@@ -103,7 +104,7 @@ returns-3 c =
     let a = c .before .before .before .before .before .before .before .args in
     let near = c .before .before .before .before .before .earlier .ensures in
     run-end (now (a .s)) (a .at) (l .i) (l .number) (l .inv .0 .0) (l .inv .2) (l .inv .1)
-    (run-stop (now (a .s)) (l .i) (a .at + 18 - l .i) (omega (arith, near .by-first)) (above 48 57 (getD (now (a .s)) (l .i) 0) (omega arith) (omega arith)))
+    (run-stop (now (a .s)) (l .i) (a .at + 18 - l .i) (omega (arith, near .by-first)) (between-no 48 57 (getD (now (a .s)) (l .i) 0) (omega arith)))
 
 pub quick-digits-spec : {M : Type 1} → statement M
 quick-digits-spec =

@@ -1,8 +1,8 @@
 -- `words::read_word` meets its contract. The word so far, fed what is still to come, is the fresh word fed all.
-use Prim.Native.Nat.{_+_, _-_, _≤_, zero-le}
+use Prim.Native.Nat.{_+_, _-_, _≤_}
 use mathlib.Core.Path.{_∙_, _≡_, ap, sym}
 use denote.Ref.{now}
-use lib.ListN.{drop, getD, length}
+use lib.ListN.{drop, length}
 use Rattle.words.specs.Words.{feed, fresh, reading}
 use Rattle.words.specs.declared.Word.{Word}
 use Rattle.words.proofs.WordLaws.{fed-reads, feed-next, feed-none}

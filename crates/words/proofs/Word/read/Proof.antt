@@ -1,9 +1,6 @@
 -- `words::Word::read` meets its contract: in each arm the form is known.
-use mathlib.Core.Bool.{Bool, cond, true, false}
-use mathlib.Core.Path.{_∙_, _≡_, ap, sym}
-use Rattle.words.specs.Words.{decimalReading, reading, readingFrom}
-use Rattle.number.specs.Number.{Unwritten}
-use Rattle.table.specs.Result.{bad}
+use mathlib.Core.Path.{_∙_, ap, sym}
+use Rattle.words.specs.Words.{reading, readingFrom}
 use Rattle.words.specs.declared.Form.{Form}
 use borrow.Author.Needs.{needs}
 use Rattle.words.proofs.Word.read.Statement.{statement}

@@ -1,0 +1,132 @@
+-- `base64_coding::decoding::put_sextets` meets its contract. The invariant: what is left of the values, stored from o on, makes the whole.
+use Prim.Native.Nat.{_%_, _*_, _+_, _-_, _/_, _<_, _≤_, ℕ}
+use mathlib.Core.List.{List}
+use mathlib.Core.Path.{_∙_, _≡_, ap, refl, sym}
+use denote.Ref.{now}
+use lib.ListN.{drop, drop-of-length-le, getD, length}
+use lib.Seq.{sets}
+use Rattle.base64_coding.specs.Contracts.{bytesOfSextets}
+use Rattle.base64_coding.proofs.Blocks.{pack-turn, small-at}
+use borrow.Author.Needs.{needs}
+use native.Mathlib.Omega.{arith}
+use Rattle.base64_coding.proofs.decoding.put_sextets.Statement.{statement}
+use Rattle.base64_coding.proofs.decoding.put_sextets.Tie as tie
+
+abbrev Inv-loop : tie.InvT-loop
+Inv-loop t out₀ n k₀ o₀ out k o = (k ≤ 16) × (k % 4 ≡ 0) × (o + (16 - k) / 4 * 3 ≡ n + 12) × (length out ≡ length out₀) × (sets out o (bytesOfSextets (drop k t)) ≡ sets out₀ n (bytesOfSextets t))
+
+abbrev μ-loop : tie.MeasureT-loop
+μ-loop t out₀ n k₀ o₀ out k o = 16 - k
+
+-- the four values of a turn are letters'
+small : (c : tie.After-put3-arg Inv-loop μ-loop) → let t = now (c .before .before .before .before .before .before .before .before .args .t) in let k = c .before .before .before .before .before .before .loop .k in
+    (getD t k 0 < 64) × (getD t (k + 1) 0 < 64) × (getD t (k + 2) 0 < 64) × (getD t (k + 3) 0 < 64)
+small c =
+    let start = c .before .before .before .before .before .before .before .before in
+    let at = small-at (now (start .args .t)) in
+    let k = c .before .before .before .before .before .before .loop .k in
+    let all = start .pre .1 in
+    (at k all (omega arith), at (k + 1) all (omega arith), at (k + 2) all (omega arith), at (k + 3) all (omega arith))
+
+loop-holds : tie.Need-loop-holds Inv-loop μ-loop
+loop-holds c = (search needs, refl, refl, refl, refl)
+
+element-copy-out-w : tie.Need-element-copy-out-w Inv-loop μ-loop
+element-copy-out-w c = search needs
+
+add-x : tie.Need-add-x Inv-loop μ-loop
+add-x c = search needs
+
+element-copy-out-x : tie.Need-element-copy-out-x Inv-loop μ-loop
+element-copy-out-x c = search needs
+
+add-y : tie.Need-add-y Inv-loop μ-loop
+add-y c = search needs
+
+element-copy-out-y : tie.Need-element-copy-out-y Inv-loop μ-loop
+element-copy-out-y c = search needs
+
+add-z : tie.Need-add-z Inv-loop μ-loop
+add-z c = search needs
+
+element-copy-out-z : tie.Need-element-copy-out-z Inv-loop μ-loop
+element-copy-out-z c = search needs
+
+mul-put3 : tie.Need-mul-put3 Inv-loop μ-loop
+mul-put3 c = let s = small c in omega arith
+
+add-put3 : tie.Need-add-put3 Inv-loop μ-loop
+add-put3 c = let s = small c in omega arith
+
+mul-put3-2 : tie.Need-mul-put3-2 Inv-loop μ-loop
+mul-put3-2 c = let s = small c in omega arith
+
+add-put3-2 : tie.Need-add-put3-2 Inv-loop μ-loop
+add-put3-2 c = let s = small c in omega arith
+
+mul-put3-3 : tie.Need-mul-put3-3 Inv-loop μ-loop
+mul-put3-3 c = let s = small c in omega arith
+
+add-put3-3 : tie.Need-add-put3-3 Inv-loop μ-loop
+add-put3-3 c = let s = small c in omega arith
+
+put3-requires : tie.Need-put3-requires Inv-loop μ-loop
+put3-requires c κs = search needs
+
+add-k : tie.Need-add-k Inv-loop μ-loop
+add-k c = search needs
+
+add-o : tie.Need-add-o Inv-loop μ-loop
+add-o c = search needs
+
+loop-less : tie.Need-loop-less Inv-loop μ-loop
+loop-less c = search needs
+
+loop-again : tie.Need-loop-again Inv-loop μ-loop
+loop-again c =
+    let at-loop = c .before .before .before .before .before .before .before .before .before in
+    let start = at-loop .before .before in
+    let t = now (start .args .t) in
+    let k = at-loop .loop .k in (
+      omega arith,
+      omega arith,
+      omega arith,
+      c .before .before .put3 .kept .0 ∙ at-loop .loop .inv .3,
+      ap (λ (z : List ℕ). sets z (at-loop .loop .o + 3) (bytesOfSextets (drop (k + 4) t))) (c .before .before .put3 .ensures) ∙ pack-turn t _ k _ (omega arith) ∙ at-loop .loop .inv .4,
+    )
+
+same-length : tie.Need-same-length Inv-loop μ-loop
+same-length c = search needs
+
+returns : tie.Need-returns Inv-loop μ-loop
+unfolding bytesOfSextets
+returns c =
+    ap (λ (l : List ℕ). sets (c .before .loop .out) (c .before .loop .o) (bytesOfSextets l)) (sym (drop-of-length-le (now (c .before .before .before .args .t)) {i = c .before .loop .k} (omega arith))) ∙ c .before .loop .inv .4
+
+pub put-sextets-spec : {M : Type 1} → statement M
+put-sextets-spec =
+    tie.close
+    (tie.spec
+    Inv-loop
+    μ-loop
+    loop-holds
+    element-copy-out-w
+    add-x
+    element-copy-out-x
+    add-y
+    element-copy-out-y
+    add-z
+    element-copy-out-z
+    mul-put3
+    add-put3
+    mul-put3-2
+    add-put3-2
+    mul-put3-3
+    add-put3-3
+    put3-requires
+    add-k
+    add-o
+    loop-less
+    loop-again
+    same-length
+    returns)

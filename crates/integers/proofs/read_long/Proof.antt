@@ -1,0 +1,22 @@
+-- `integers::read_long` meets its contract: what the two calls give.
+use mathlib.Core.Path.{_∙_, ap}
+use mir.Syntax.{w64}
+use mir.Facts.{toZ-ofZ}
+use Rattle.number.specs.Number.{ofPattern}
+use borrow.Author.Needs.{needs}
+use Rattle.integers.proofs.read_long.Statement.{statement}
+use Rattle.integers.proofs.read_long.Tie as tie
+
+eight-bytes-requires : tie.Need-eight-bytes-requires
+eight-bytes-requires c κs = search needs
+
+long-of-requires : tie.Need-long-of-requires
+long-of-requires c κs = search needs
+
+returns : tie.Need-returns
+returns c =
+    toZ-ofZ {w = w64} (record { sfits = c .long-of .ok })
+    ∙ c .long-of .ensures ∙ ap (ofPattern _ 8) (c .before .eight-bytes .ensures)
+
+pub read-long-spec : {M : Type 1} → statement M
+read-long-spec = tie.close (tie.spec eight-bytes-requires long-of-requires returns)
