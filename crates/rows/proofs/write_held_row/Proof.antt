@@ -15,7 +15,7 @@ use Rattle.fields.specs.Contracts.{listed, noColumn}
 use Rattle.rows.proofs.HeldForm.{no-flag}
 use Rattle.rows.proofs.Loops.{WriteInv, write-fits, write-more, write-start, written-end, written-to}
 use Rattle.rows.proofs.Parts.{listed-bound, row-bytes-length, row-stored}
-use Rattle.tabledata_writing.proofs.Writing.{wrote-long}
+use Rattle.table.proofs.Wrote.{wrote-long}
 use Rattle.rows.specs.Contracts.{HeldWithin, heldForm, heldNext, restOf, startBytes}
 use Rattle.rows.specs.Stream.{writeEnd}
 use Rattle.table.specs.declared.Column.{Column}

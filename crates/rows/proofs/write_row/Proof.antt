@@ -11,7 +11,7 @@ use Rattle.rows.specs.Stream.{writeEnd}
 use Rattle.rows.specs.Contracts.{flagsIn, readForm, startBytes}
 use Rattle.rows.specs.Stream.{readCell}
 use Rattle.rows.proofs.Loops.{WriteInv, write-start, write-fits, write-more, written-end, written-to}
-use Rattle.tabledata_writing.proofs.Writing.{wrote-long}
+use Rattle.table.proofs.Wrote.{wrote-long}
 use Rattle.fields.proofs.Answers.{listed-length, listed-next}
 use Rattle.rows.proofs.Parts.{listed-bound, row-bytes-length, row-stored}
 use Rattle.rows.proofs.write_row.Statement.{statement}

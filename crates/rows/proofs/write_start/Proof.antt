@@ -6,7 +6,7 @@ use Rattle.binary.specs.Binary.{bitBytes}
 use Rattle.rows.specs.Contracts.{startBytes}
 use Rattle.tabledata.specs.TableData.{open-TR}
 use Rattle.rows.proofs.Ways.{start-length-binary2}
-use Rattle.tabledata_writing.proofs.Writing.{wrote-none}
+use Rattle.table.proofs.Wrote.{wrote-none}
 use native.Mathlib.Omega.{arith}
 use borrow.Author.Needs.{needs}
 use Rattle.rows.proofs.write_start.Statement.{statement}

@@ -5,7 +5,8 @@ use lib.Seq.{length-take-le}
 use borrow.Author.Needs.{needs}
 use denote.Ref.{now}
 use Rattle.table.specs.Contracts.{held}
-use Rattle.tabledata_writing.proofs.Writing.{sized-text, wrote-long}
+use Rattle.table.proofs.Wrote.{wrote-long}
+use Rattle.tabledata_writing.proofs.Writing.{sized-text}
 use Rattle.tabledata_vectors.proofs.written.Statement.{statement}
 use Rattle.tabledata_vectors.proofs.written.Tie as tie
 

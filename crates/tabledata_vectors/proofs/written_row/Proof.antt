@@ -3,7 +3,7 @@ use native.Mathlib.Omega.{arith}
 use borrow.Author.Needs.{needs}
 use mathlib.Core.Path.{sym}
 use lib.Seq.{length-take-le}
-use Rattle.tabledata_writing.proofs.Writing.{wrote-long}
+use Rattle.table.proofs.Wrote.{wrote-long}
 use Rattle.tabledata_vectors.proofs.written_row.Statement.{statement}
 use Rattle.tabledata_vectors.proofs.written_row.Tie as tie
 

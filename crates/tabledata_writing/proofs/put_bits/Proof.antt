@@ -37,7 +37,9 @@ bit-byte-requires : tie.Need-bit-byte-requires Inv-loop μ-loop
 bit-byte-requires c κs = search needs
 
 room : (c : tie.After-bit-byte Inv-loop μ-loop) → let a = c .before .before .before .before .before .args in a .at + a .count ≤ length (now (a .out))
-room c = let a = c .before .before .before .before .before .args in omega (arith, c .before .before .before .before .before .pre .1, bits-long (now (a .scratch)) (a .count) (c .before .before .before .before .before .pre .0))
+room c =
+    let s = c .before .before .before .before .before in let a = s .args in
+    omega (arith, s .pre .1, bits-long (now (a .scratch)) (a .count) (s .pre .0))
 
 add-out : tie.Need-add-out Inv-loop μ-loop
 add-out c = omega (arith, room c)
@@ -53,20 +55,26 @@ loop-less c = search needs
 
 loop-again : tie.Need-loop-again Inv-loop μ-loop
 loop-again c =
-    let a = c .before .before .before .before .before .args in let l = c .before .before .before .loop in
+    let at-test = c .before .before in let l = at-test .before .loop in let s = at-test .before .before .before in let a = s .args in
     let e : a .at + (l .k + 1) ≡ a .at + l .k + 1 = omega arith in
-    let next = taken-more (λ z. bitText z ∷ []) (now (a .scratch)) (a .count) (l .k) (c .before .before .before .before .before .pre .0) (c .before .before .loop-test .taken)
-    ∙ ap (λ (b : ℕ). (b ∷ []) ++ joined (λ z. bitText z ∷ []) (drop (l .k + 1) (take (a .count) (now (a .scratch))))) (sym (c .bit-byte .ensures ∙ ap bitText (toZ-ofZ {w = w64} (sfits-of (c .before .bit-byte-arg .given))))) in
-    (search needs, rw e (left-step (l .inv .1) next (wrote-one (l .out) (a .at + l .k) (c .bit-byte .result))))
+    let rest = joined (λ z. bitText z ∷ []) (drop (l .k + 1) (take (a .count) (now (a .scratch)))) in
+    let bit = c .bit-byte .ensures ∙ ap bitText (toZ-ofZ {w = w64} (sfits-of (c .before .bit-byte-arg .given))) in
+    let next = taken-more (λ z. bitText z ∷ []) (now (a .scratch)) (a .count) (l .k) (s .pre .0) (at-test .loop-test .taken) in
+    let step = left-step (l .inv .1) (next ∙ ap (λ (b : ℕ). (b ∷ []) ++ rest) (sym bit)) (wrote-one (l .out) (a .at + l .k) (c .bit-byte .result)) in
+    (search needs, rw e step)
 
 add-result : tie.Need-add-result Inv-loop μ-loop
-add-result c = let a = c .before .before .before .args in omega (arith, c .before .before .before .pre .1, bits-long (now (a .scratch)) (a .count) (c .before .before .before .pre .0), c .before .loop .inv .0)
+add-result c =
+    let s = c .before .before .before in let a = s .args in
+    omega (arith, s .pre .1, bits-long (now (a .scratch)) (a .count) (s .pre .0), c .before .loop .inv .0)
 
 same-length : tie.Need-same-length Inv-loop μ-loop
 same-length c = c .before .loop .inv .1 .same-long
 
 returns : tie.Need-returns Inv-loop μ-loop
-returns c = left-none (c .before .loop .inv .1) (taken-end _ (now (c .before .before .before .args .scratch)) (c .before .before .before .args .count) (c .before .loop .k) (c .before .before .before .pre .0) (c .loop-test .left))
+returns c =
+    let s = c .before .before .before in let a = s .args in let l = c .before .loop in
+    left-none (l .inv .1) (taken-end _ (now (a .scratch)) (a .count) (l .k) (s .pre .0) (c .loop-test .left))
 
 pub put-bits-spec : {M : Type 1} → statement M
 put-bits-spec =

@@ -38,9 +38,10 @@ code-of-requires c κs = search needs
 more : (c : tie.After-code-of Inv-loop μ-loop) → let a = c .before .before .before .before .before .before .args in let k = c .before .before .before .before .loop .k in
     joined charForm (drop k (take (a .count) (now (a .scratch)))) ≡ charForm (pos (c .code-of .result)) ++ joined charForm (drop (k + 1) (take (a .count) (now (a .scratch))))
 more c =
-    let a = c .before .before .before .before .before .before .args in let k = c .before .before .before .before .loop .k in
-    taken-more charForm (now (a .scratch)) (a .count) k (c .before .before .before .before .before .before .pre .0) (c .before .before .before .loop-test .taken)
-    ∙ ap (λ (b : List ℕ). b ++ joined charForm (drop (k + 1) (take (a .count) (now (a .scratch))))) (char-code _ _ (c .code-of .result) (toZ-ofZ {w = w64} (sfits-of (c .before .code-of-arg .given))) (c .code-of .ensures .0))
+    let at-test = c .before .before .before in let k = at-test .before .loop .k in let s = at-test .before .before .before in let a = s .args in
+    let code = char-code _ _ (c .code-of .result) (toZ-ofZ {w = w64} (sfits-of (c .before .code-of-arg .given))) (c .code-of .ensures .0) in
+    taken-more charForm (now (a .scratch)) (a .count) k (s .pre .0) (at-test .loop-test .taken)
+    ∙ ap (λ (b : List ℕ). b ++ joined charForm (drop (k + 1) (take (a .count) (now (a .scratch))))) code
 
 put-char-requires : tie.Need-put-char-requires Inv-loop μ-loop
 put-char-requires c κs = left-room (c .before .before .before .before .loop .inv) (charForm (pos (c .code-of .result))) _ (more c) (c .before .before .before .before .before .before .pre .1)
@@ -58,7 +59,9 @@ same-length : tie.Need-same-length Inv-loop μ-loop
 same-length c = c .before .loop .inv .same-long
 
 returns : tie.Need-returns Inv-loop μ-loop
-returns c = left-none (c .before .loop .inv) (taken-end charForm (now (c .before .before .before .args .scratch)) (c .before .before .before .args .count) (c .before .loop .k) (c .before .before .before .pre .0) (c .loop-test .left))
+returns c =
+    let s = c .before .before .before in let a = s .args in let l = c .before .loop in
+    left-none (l .inv) (taken-end charForm (now (a .scratch)) (a .count) (l .k) (s .pre .0) (c .loop-test .left))
 
 pub put-chars-spec : {M : Type 1} → statement M
 put-chars-spec =

@@ -35,8 +35,9 @@ all4 : (c : tie.After-known-told4) → let f = c .before .before .before .before
 all4 c = run-more _ _ _ _ _ _ _ (three (c .before .before .before .before)) (c .before .before .before .next-byte4 .ensures) (c .before .d .given .1)
 
 -- nothing follows the last `=`
-no-more : (c : tie.After-enum-told5) → let f = c .before .before .before .before in
-    dense (drop (f .before .d .given .0 .1 .0) (now (c .before .before .before .before .before .before .before .before .before .before .before .before .before .before .before .before .before .before .before .before .before .args .s))) ≡ []
+no-more : (c : tie.After-enum-told5) → let f = c .before .before .before .before in let e = f .before .before .before .before in
+    let d = e .before .before .before .before in let b = d .before .before .before .before in
+    dense (drop (f .before .d .given .0 .1 .0) (now (b .before .before .before .before .before .args .s))) ≡ []
 no-more c = at-end _ _ _ (c .before .before .next-byte5 .ensures) (c .enum-told5 .given .1)
 
 -- ---- the needs
@@ -111,7 +112,8 @@ enum-told-6 c = search needs
 
 returns-6 : tie.Need-returns-6
 returns-6 c =
-    four-inside _ _ _ _ _ _ _ (all4 (c .before .before .before .before)) _ _ (c .before .before .before .if1 .left) (at-byte _ _ _ _ _ (c .before .before .next-byte5 .ensures) (c .enum-told6 .given .1))
+    four-inside _ _ _ _ _ _ _ (all4 (c .before .before .before .before)) _ _ (c .before .before .before .if1 .left)
+    (at-byte _ _ _ _ _ (c .before .before .next-byte5 .ensures) (c .enum-told6 .given .1))
 
 two-bytes-requires : tie.Need-two-bytes-requires
 two-bytes-requires c κs = search needs

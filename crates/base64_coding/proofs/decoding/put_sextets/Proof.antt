@@ -13,13 +13,15 @@ use Rattle.base64_coding.proofs.decoding.put_sextets.Statement.{stateme
 use Rattle.base64_coding.proofs.decoding.put_sextets.Tie as tie
 
 abbrev Inv-loop : tie.InvT-loop
-Inv-loop t out₀ n k₀ o₀ out k o = (k ≤ 16) × (k % 4 ≡ 0) × (o + (16 - k) / 4 * 3 ≡ n + 12) × (length out ≡ length out₀) × (sets out o (bytesOfSextets (drop k t)) ≡ sets out₀ n (bytesOfSextets t))
+Inv-loop t out₀ n k₀ o₀ out k o =
+    (k ≤ 16) × (k % 4 ≡ 0) × (o + (16 - k) / 4 * 3 ≡ n + 12) × (length out ≡ length out₀) × (sets out o (bytesOfSextets (drop k t)) ≡ sets out₀ n (bytesOfSextets t))
 
 abbrev μ-loop : tie.MeasureT-loop
 μ-loop t out₀ n k₀ o₀ out k o = 16 - k
 
 -- the four values of a turn are letters'
-small : (c : tie.After-put3-arg Inv-loop μ-loop) → let t = now (c .before .before .before .before .before .before .before .before .args .t) in let k = c .before .before .before .before .before .before .loop .k in
+small : (c : tie.After-put3-arg Inv-loop μ-loop) → let l = c .before .before .before .before .before .before in
+    let t = now (l .before .before .args .t) in let k = l .loop .k in
     (getD t k 0 < 64) × (getD t (k + 1) 0 < 64) × (getD t (k + 2) 0 < 64) × (getD t (k + 3) 0 < 64)
 small c =
     let start = c .before .before .before .before .before .before .before .before in
@@ -101,7 +103,8 @@ same-length c = search needs
 returns : tie.Need-returns Inv-loop μ-loop
 unfolding bytesOfSextets
 returns c =
-    ap (λ (l : List ℕ). sets (c .before .loop .out) (c .before .loop .o) (bytesOfSextets l)) (sym (drop-of-length-le (now (c .before .before .before .args .t)) {i = c .before .loop .k} (omega arith))) ∙ c .before .loop .inv .4
+    let l = c .before in let t = now (l .before .before .args .t) in
+    ap (λ (v : List ℕ). sets (l .loop .out) (l .loop .o) (bytesOfSextets v)) (sym (drop-of-length-le t {i = l .loop .k} (omega arith))) ∙ l .loop .inv .4
 
 pub put-sextets-spec : {M : Type 1} → statement M
 put-sextets-spec =

@@ -13,7 +13,8 @@ use Rattle.base64_coding.proofs.decoding.write_bytes.Statement.{stateme
 use Rattle.base64_coding.proofs.decoding.write_bytes.Tie as tie
 
 abbrev Inv-loop : tie.InvT-loop
-Inv-loop s out₀ t₀ i₀ n₀ out t i n = (length t ≡ 16) × (i ≤ length s) × (length out ≡ length out₀) × FitsAt n (decode (drop i s)) (length out₀) × (bufferWith out n (decode (drop i s)) ≡ bufferWith out₀ 0 (decode s))
+Inv-loop s out₀ t₀ i₀ n₀ out t i n =
+    (length t ≡ 16) × (i ≤ length s) × (length out ≡ length out₀) × FitsAt n (decode (drop i s)) (length out₀) × (bufferWith out n (decode (drop i s)) ≡ bufferWith out₀ 0 (decode s))
 
 abbrev μ-loop : tie.MeasureT-loop
 μ-loop s out₀ t₀ i₀ n₀ out t i n = length s - i
@@ -59,7 +60,13 @@ loop-again c =
     let b = block (c .before .before .before .before .before) in
     let long = c .before .before .before .before .before .before .plain .ensures .long in
     let inv = c .before .before .before .before .before .before .before .before .loop .inv in
-    (long, b .place, c .before .before .put-sextets .kept .1 .0 ∙ inv .2, sixteen-fits b long _ _ (inv .3) .1, sixteen-buffer b long _ _ _ _ _ (inv .3) (c .before .before .put-sextets .ensures) (inv .4))
+    let at-put = c .before .before in (
+      long,
+      b .place,
+      at-put .put-sextets .kept .1 .0 ∙ inv .2,
+      sixteen-fits b long _ _ (inv .3) .1,
+      sixteen-buffer b long _ _ _ _ _ (inv .3) (at-put .put-sextets .ensures) (inv .4),
+    )
 
 next-four-requires : tie.Need-next-four-requires Inv-loop μ-loop
 next-four-requires c κs = search needs

@@ -69,7 +69,8 @@ loop-again c =
       omega arith,
       c .before .before .put4 .kept .0 ∙ at-loop .loop .inv .1,
       omega arith,
-      ap (λ (z : List ℕ). sets z (at-loop .loop .o + 4) (encode (drop (i + 3) s))) (c .before .before .put4 .ensures) ∙ turn3 s _ i _ _ (omega arith) (c .before .before .before .before .letters-of .ensures) ∙ at-loop .loop .inv .3,
+      ap (λ (z : List ℕ). sets z (at-loop .loop .o + 4) (encode (drop (i + 3) s))) (c .before .before .put4 .ensures)
+          ∙ turn3 s _ i _ _ (omega arith) (c .before .before .before .before .letters-of .ensures) ∙ at-loop .loop .inv .3,
     )
 
 sub-left : tie.Need-sub-left Inv-loop μ-loop
