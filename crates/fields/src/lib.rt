@@ -20,7 +20,7 @@ use table::Columns;
 use table::Kind;
 use table::Len;
 use table::Null;
-use words::Reading;
+use words::IntegerRead;
 
 // Bytes that stand together: white space, a name, what a quote holds, a word.
 enum Class {
@@ -545,9 +545,9 @@ fn null_word(word: &[u8], kind: Integer) -> NullRead
     ensures { λ r. ⌜ nullValue (isSigned kind) (widthOf kind) (now (word .entry) ∷ []) ≡ nullRead r ⌝ }
 {
     match words::read_word(word, kind) {
-        Reading::Value(z) => NullRead::Counts(Null::Declared(z)),
-        Reading::Outside => NullRead::NoValue,
-        Reading::Unwritten => NullRead::NoValue,
+        IntegerRead::Value(z) => NullRead::Counts(Null::Declared(z)),
+        IntegerRead::Outside => NullRead::NoValue,
+        IntegerRead::Unwritten => NullRead::NoValue,
     }
 }
 

@@ -2,8 +2,8 @@
 // front, with the place after; an integer's has the bytes that it became, the place after them, and what they read as. What is not written holds.
 use libc::STDOUT_FILENO;
 use number::Integer;
+use words::IntegerRead;
 use words::Quick;
-use words::Reading;
 use words::Word;
 
 fn say(text: &[u8]) {
@@ -24,14 +24,14 @@ fn say_integer(z: i64) {
 
 // ---- words
 
-fn say_reading(reading: Reading) {
+fn say_reading(reading: IntegerRead) {
     match reading {
-        Reading::Value(z) => {
+        IntegerRead::Value(z) => {
             say(b" ");
             say_integer(z);
         }
-        Reading::Outside => say(b" outside"),
-        Reading::Unwritten => say(b" unwritten"),
+        IntegerRead::Outside => say(b" outside"),
+        IntegerRead::Unwritten => say(b" unwritten"),
     }
 }
 

@@ -16,7 +16,7 @@ use Rattle.number.proofs.Laws.{digit-fails, digit-lt, digit-no, hexadigit-fails
 use Rattle.number.specs.Contracts.{isSigned, size}
 use Rattle.words.specs.Contracts.{top}
 use Rattle.number.specs.Number.{Fault, Outside, Unwritten, decimal, digit, hexadecimal, hexadigit, numeral, ofPattern, ranged, readInteger, sized, withSign}
-use Rattle.words.specs.Words.{brokenWord, capped, decimalNext, decimalReading, feed, firstNext, fresh, hexadecimalNext, hexadecimalReading, reading, signedReading, step, word, zeroNext}
+use Rattle.words.specs.Words.{brokenWord, capped, decimalNext, decimalReading, feed, firstNext, fresh, hexadecimalNext, hexadecimalReading, reading, signedReading, nextWord, word, zeroNext}
 use Rattle.table.proofs.Bytes.{between-no}
 use Rattle.table.proofs.Laws.{between-yes}
 use Rattle.table.specs.Bytes.{between}
@@ -137,7 +137,7 @@ hexadecimal-bad n v c e = rw e
 -- ---- a word is fed
 
 read-broken : (k : Integer) (s : List ℕ) → reading k (feed brokenWord s) ≡ bad Unwritten
-unfolding feed step reading
+unfolding feed nextWord reading
 read-broken k [] = refl
 read-broken k (c ∷ s) = read-broken k s
 
@@ -157,9 +157,9 @@ hexadecimal-end k n v h =
     let exact : v % 256 ^ size k ≡ v = mod-eq-of-lt (omega (arith, pow-16 (size k))) in
     rw (le-ltb (2 * size k) n m, between-yes 1 (2 * size k) n l m, exact))))
 
-step-hexadecimal : (n v c : ℕ) → step (word Hexadecimal n v) c ≡ hexadecimalNext n v c
-unfolding step
-step-hexadecimal n v c = refl
+next-hexadecimal : (n v c : ℕ) → nextWord (word Hexadecimal n v) c ≡ hexadecimalNext n v c
+unfolding nextWord
+next-hexadecimal n v c = refl
 
 read-hexadecimal : (k : Integer) (n v : ℕ) → reading k (word Hexadecimal n v) ≡ hexadecimalReading k n v
 unfolding reading
@@ -171,7 +171,7 @@ hexadecimal-fed : (k : Integer) (n v : ℕ) (s : List ℕ) → n ≤ 16 → v < 
 unfolding feed numeral
 hexadecimal-fed k n v [] h b = rw (add-zero n, read-hexadecimal k n v) (hexadecimal-end k n v b)
 hexadecimal-fed k n v (c ∷ s) h b =
-    rw (step-hexadecimal n v c)
+    rw (next-hexadecimal n v c)
     (digit-or (hexadigit-lt c) (hexadigit-fails c)
     (λ d l e. rw e (lt-or n 16
     (λ m.
@@ -185,7 +185,7 @@ hexadecimal-fed k n v (c ∷ s) h b =
     (λ e. rw (hexadecimal-bad n v c e, e, both-bad (between 1 (2 * size k) (n + suc (length s))) (bad Unwritten)) (read-broken k s)))
 
 -- decimal digits, in a form whose characters are digits: what the form reads as is handed in
-module _ (k : Integer) (f : Form) (steps : (n v c : ℕ) → step (word f n v) c ≡ decimalNext f n v c) where
+module _ (k : Integer) (f : Form) (steps : (n v c : ℕ) → nextWord (word f n v) c ≡ decimalNext f n v c) where
   decimal-fed : (negative : Bool) → ((n v : ℕ) → reading k (word f n v) ≡ decimalReading k negative n v) → (n m : ℕ) (s : List ℕ) → n ≤ 20
       → reading k (feed (word f n (cap m)) s)
       ≡ cond (between 1 20 (n + length s)) (numeral digit 10 m s >>= λ x. ranged (isSigned k) (size k) (withSign negative x)) (bad Unwritten)
@@ -228,7 +228,8 @@ pub decimal-parts : (signed : Bool) (w : ℕ) (negative : Bool) (s : List ℕ)
 unfolding decimal sized
 decimal-parts signed w negative s = by (between 1 20 (length s))
   where
-    by : (t : Bool) → (cond t (numeral digit 10 0 s) (bad Unwritten) >>= λ n. ranged signed w (withSign negative n)) ≡ cond t (numeral digit 10 0 s >>= λ n. ranged signed w (withSign negative n)) (bad Unwritten)
+    by : (t : Bool) → (cond t (numeral digit 10 0 s) (bad Unwritten) >>= λ n. ranged signed w (withSign negative n))
+        ≡ cond t (numeral digit 10 0 s >>= λ n. ranged signed w (withSign negative n)) (bad Unwritten)
     by true = refl
     by false = refl
 
@@ -246,7 +247,7 @@ unfolding numeral
 bad-first signed w b s e = decimal-parts signed w false (b ∷ s) ∙ rw (e, both-bad (between 1 20 (suc (length s))) (bad Unwritten))
 
 -- a form whose characters are digits, from its first
-module _ (k : Integer) (f : Form) (steps : (n v c : ℕ) → step (word f n v) c ≡ decimalNext f n v c) where
+module _ (k : Integer) (f : Form) (steps : (n v c : ℕ) → nextWord (word f n v) c ≡ decimalNext f n v c) where
   decimal-of : (negative : Bool) → ((n v : ℕ) → reading k (word f n v) ≡ decimalReading k negative n v)
       → (s : List ℕ) → reading k (feed (word f 0 0) s) ≡ decimal (isSigned k) (size k) negative s
   unfolding cap
@@ -266,9 +267,9 @@ module _ (k : Integer) (f : Form) (steps : (n v c : ℕ) → step (word f n v) c
       by true e = decimal-of negative (has e) s ∙ ap (λ (g : Bool). decimal g (size k) negative s) e ∙ sym (with-sign (size k) s)
       by false e = unsigned-fed k f steps (lacks e) 0 0 s ∙ sym (without (size k) s)
 
-step-plus : (n v c : ℕ) → step (word Plus n v) c ≡ decimalNext Plus n v c
-unfolding step
-step-plus n v c = refl
+next-plus : (n v c : ℕ) → nextWord (word Plus n v) c ≡ decimalNext Plus n v c
+unfolding nextWord
+next-plus n v c = refl
 
 plus-yes : (k : Integer) → isSigned k ≡ true → (n v : ℕ) → reading k (word Plus n v) ≡ decimalReading k false n v
 unfolding reading
@@ -289,11 +290,11 @@ no-plus w [] = bad-first false w 43 [] (digit-no 43 (omega arith))
 no-plus w (c ∷ s) = bad-first false w 43 (c ∷ s) (digit-no 43 (omega arith))
 
 plus-case : (k : Integer) (s : List ℕ) → reading k (feed (word Plus 0 0) s) ≡ readInteger (isSigned k) (size k) (43 ∷ s)
-plus-case k s = sign-case k Plus step-plus false 43 (plus-yes k) (plus-no k) after-plus no-plus s
+plus-case k s = sign-case k Plus next-plus false 43 (plus-yes k) (plus-no k) after-plus no-plus s
 
-step-minus : (n v c : ℕ) → step (word Minus n v) c ≡ decimalNext Minus n v c
-unfolding step
-step-minus n v c = refl
+next-minus : (n v c : ℕ) → nextWord (word Minus n v) c ≡ decimalNext Minus n v c
+unfolding nextWord
+next-minus n v c = refl
 
 minus-yes : (k : Integer) → isSigned k ≡ true → (n v : ℕ) → reading k (word Minus n v) ≡ decimalReading k true n v
 unfolding reading
@@ -314,12 +315,12 @@ no-minus w [] = bad-first false w 45 [] (digit-no 45 (omega arith))
 no-minus w (c ∷ s) = bad-first false w 45 (c ∷ s) (digit-no 45 (omega arith))
 
 minus-case : (k : Integer) (s : List ℕ) → reading k (feed (word Minus 0 0) s) ≡ readInteger (isSigned k) (size k) (45 ∷ s)
-minus-case k s = sign-case k Minus step-minus true 45 (minus-yes k) (minus-no k) after-minus no-minus s
+minus-case k s = sign-case k Minus next-minus true 45 (minus-yes k) (minus-no k) after-minus no-minus s
 
 -- digits without a sign, of which one or none is behind
-step-decimal : (n v c : ℕ) → step (word Decimal n v) c ≡ decimalNext Decimal n v c
-unfolding step
-step-decimal n v c = refl
+next-decimal : (n v c : ℕ) → nextWord (word Decimal n v) c ≡ decimalNext Decimal n v c
+unfolding nextWord
+next-decimal n v c = refl
 
 read-decimal : (k : Integer) (n v : ℕ) → reading k (word Decimal n v) ≡ decimalReading k false n v
 unfolding reading
@@ -334,8 +335,8 @@ other-case : (k : Integer) (b : ℕ) (s : List ℕ) → (b ≡ 43 → ⊥) → (
     → reading k (feed (decimalNext Decimal 0 0 b) s) ≡ readInteger (isSigned k) (size k) (b ∷ s)
 unfolding feed
 other-case k b s p m z =
-    ap (λ (w : Word). reading k (feed w s)) (sym (step-decimal 0 0 b))
-    ∙ decimal-of k Decimal step-decimal false (read-decimal k) (b ∷ s)
+    ap (λ (w : Word). reading k (feed w s)) (sym (next-decimal 0 0 b))
+    ∙ decimal-of k Decimal next-decimal false (read-decimal k) (b ∷ s)
     ∙ sym (plain-integer (isSigned k) (size k) b s p m z)
 
 zero-alone : (k : Integer) → reading k (feed (word Zero 1 0) []) ≡ readInteger (isSigned k) (size k) (48 ∷ [])
@@ -343,13 +344,13 @@ unfolding feed reading readInteger decimal sized numeral digit between ranged wi
 zero-alone k = rw (up-in k 0 zero-le)
 
 zero-x : (k : Integer) (s : List ℕ) → reading k (feed (word Zero 1 0) (120 ∷ s)) ≡ readInteger (isSigned k) (size k) (48 ∷ 120 ∷ s)
-unfolding feed step zeroNext readInteger
+unfolding feed nextWord zeroNext readInteger
 zero-x k s = hexadecimal-fed k 0 0 s zero-le (lit< tt) ∙ rw (zero-add (length s)) (sym (hexadecimal-parts (isSigned k) (size k) s))
 
 -- no x: a decimal word, of which one digit is behind
 module _ (c : ℕ) (s : List ℕ) where
   zero-next : (c ≡ 120 → ⊥) → feed (word Zero 1 0) (c ∷ s) ≡ feed (word Decimal 1 (cap 0)) (c ∷ s)
-  unfolding feed step zeroNext cap
+  unfolding feed nextWord zeroNext cap
   zero-next n = rw (ne-eqb c 120 n)
 
   zero-integer : (signed : Bool) (w : ℕ) → (c ≡ 120 → ⊥) → readInteger signed w (48 ∷ c ∷ s) ≡ decimal signed w false (48 ∷ c ∷ s)
@@ -368,7 +369,7 @@ zero-case k [] = zero-alone k
 zero-case k (c ∷ s) =
     eq-or c 120 (λ e. rw e (zero-x k s))
     (λ n. ap (reading k) (zero-next c s n)
-    ∙ decimal-fed k Decimal step-decimal false (read-decimal k) 1 0 (c ∷ s) (lit≤ tt)
+    ∙ decimal-fed k Decimal next-decimal false (read-decimal k) 1 0 (c ∷ s) (lit≤ tt)
     ∙ sym (zero-integer c s (isSigned k) (size k) n ∙ zero-behind c s (isSigned k) (size k)))
 
 -- a word fed a character at a time reads as the whole word does
@@ -377,7 +378,7 @@ unfolding reading readInteger
 fed-none k = refl
 
 pub fed-reads : (k : Integer) (s : List ℕ) → reading k (feed fresh s) ≡ readInteger (isSigned k) (size k) s
-unfolding feed step firstNext
+unfolding feed nextWord firstNext
 fed-reads k [] = fed-none k
 fed-reads k (b ∷ s) =
     eq-or b 43 (λ e. rw e (plus-case k s)) (λ p.
@@ -385,12 +386,12 @@ fed-reads k (b ∷ s) =
     eq-or b 48 (λ e. rw e (zero-case k s)) (λ z. rw (ne-eqb b 43 p, ne-eqb b 45 m, ne-eqb b 48 z) (other-case k b s p m z))))
 
 -- one character more
-pub feed-more : (w : Word) (s : List ℕ) (c : ℕ) → feed w (s ++ (c ∷ [])) ≡ step (feed w s) c
+pub feed-more : (w : Word) (s : List ℕ) (c : ℕ) → feed w (s ++ (c ∷ [])) ≡ nextWord (feed w s) c
 unfolding feed
 feed-more w [] c = refl
-feed-more w (b ∷ s) c = feed-more (step w b) s c
+feed-more w (b ∷ s) c = feed-more (nextWord w b) s c
 
-pub feed-next : (w : Word) (s : List ℕ) (i : ℕ) → i < length s → feed w (drop i s) ≡ feed (step w (getD s i 0)) (drop (i + 1) s)
+pub feed-next : (w : Word) (s : List ℕ) (i : ℕ) → i < length s → feed w (drop i s) ≡ feed (nextWord w (getD s i 0)) (drop (i + 1) s)
 unfolding feed
 feed-next w s i h = rw (add-one i, drop-cons s i 0 h)
 

@@ -55,16 +55,19 @@ cast-t13 c = omega (arith, c .before .top-of .ensures, top-lt (c .before .before
 
 sub-t14 : tie.Need-sub-t14
 sub-t14 c =
-    search (less-fits w64 (c .before .before .before .quick-digits .result .number) (omega (arith, c .before .top-of .ensures, top-lt (c .before .before .before .before .before .before .before .before .before .args .kind))))
+    let at-run = c .before .before .before in
+    let small = top-lt (at-run .before .before .before .before .before .before .args .kind) in
+    search (less-fits w64 (at-run .quick-digits .result .number) (omega (arith, c .before .top-of .ensures, small)))
 
 returns-5 : tie.Need-returns-5
 returns-5 c =
     let s = c .before .before .before .before .before .before .before .before .before in
     let r = c .before .before .before .quick-digits in
+    let minus = c .before .before .before .before .before .before .if1 .left in
     let h : r .result .number ≤ top (s .args .kind) = omega (arith, c .before .top-of .ensures) in
     let g : isSigned (s .args .kind) ≡ true = sym (c .before .before .before .before .before .is-signed .ensures) ∙ not-false _ (c .before .before .before .before .if2 .left) in
     subst (λ (z : ℤ). QuickAt (s .args .kind) (now (s .args .s)) (s .args .at) z (r .result .next)) (sym (negated w64 (r .result .number) (omega (arith, top-lt (s .args .kind)))))
-    (quick-down (now (s .args .s)) (s .args .at) (r .result .number) (r .result .next) (s .pre) (c .before .before .before .before .before .before .if1 .left) (r .ensures) (c .before .before .if3 .left) (s .args .kind) g h)
+    (quick-down (now (s .args .s)) (s .args .at) (r .result .number) (r .result .next) (s .pre) minus (r .ensures) (c .before .before .if3 .left) (s .args .kind) g h)
 
 pub quick-integer-spec : {M : Type 1} → statement M
 quick-integer-spec =
