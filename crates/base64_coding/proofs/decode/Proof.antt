@@ -21,33 +21,15 @@ small c = c .before .before .before .before .if1 .left
 found : (c : tie.After-known-told) → Good (c .before .n .given .0 .0) ≡ decodedSize 0 (decode (now (c .before .before .before .before .before .before .before .args .input)))
 found c = sym (c .before .n .given .1) ∙ c .before .before .before .decoded-size .ensures
 
-refusal-requires : tie.Need-refusal-requires
-refusal-requires c κs = search needs
-
 returns : tie.Need-returns
 unfolding mostInput
 returns c = made-refusal _ 6 _ _ (decode-refused-6 _ _ (c .before .if1 .taken)) (c .refusal .ensures)
-
-decoded-size-requires : tie.Need-decoded-size-requires
-decoded-size-requires c κs = search needs
-
-enum-known-n : tie.Need-enum-known-n
-enum-known-n c = search needs
-
-enum-told : tie.Need-enum-told
-enum-told c = search needs
-
-refusal-requires-2 : tie.Need-refusal-requires-2
-refusal-requires-2 c κs = search needs
 
 returns-2 : tie.Need-returns-2
 unfolding mostInput
 returns-2 c =
     let bad = sym (c .before .enum-told .given .1) ∙ c .before .before .before .decoded-size .ensures in
     made-refusal _ 7 _ _ (decode-bad _ _ (c .before .before .before .before .if1 .left) bad) (c .refusal2 .ensures)
-
-refusal-requires-3 : tie.Need-refusal-requires-3
-refusal-requires-3 c κs = search needs
 
 returns-3 : tie.Need-returns-3
 returns-3 c =
@@ -56,12 +38,6 @@ returns-3 c =
 
 write-bytes-requires : tie.Need-write-bytes-requires
 write-bytes-requires c κs = fits _ _ _ (found (c .before .before)) (c .before .if2 .left)
-
-acceptance-requires : tie.Need-acceptance-requires
-acceptance-requires c κs = search needs
-
-same-length : tie.Need-same-length
-same-length c = search needs
 
 returns-4 : tie.Need-returns-4
 returns-4 c =
@@ -73,16 +49,16 @@ pub decode-spec : {M : Type 1} → statement M
 decode-spec =
     tie.close
     (tie.spec
-    refusal-requires
+    (λ c κs. search needs)
     returns
-    decoded-size-requires
-    enum-known-n
-    enum-told
-    refusal-requires-2
+    (λ c κs. search needs)
+    (λ c. search needs)
+    (λ c. search needs)
+    (λ c κs. search needs)
     returns-2
-    refusal-requires-3
+    (λ c κs. search needs)
     returns-3
     write-bytes-requires
-    acceptance-requires
-    same-length
+    (λ c κs. search needs)
+    (λ c. search needs)
     returns-4)

@@ -8,21 +8,9 @@ use native.Mathlib.Omega.{arith}
 use Rattle.base64_coding.proofs.encode.Statement.{statement}
 use Rattle.base64_coding.proofs.encode.Tie as tie
 
-refusal-requires : tie.Need-refusal-requires
-refusal-requires c κs = search needs
-
 returns : tie.Need-returns
 unfolding mostInput
 returns c = made-refusal _ 6 _ _ (encode-refused-6 _ _ (c .before .if1 .taken)) (c .refusal .ensures)
-
-add-n : tie.Need-add-n
-add-n c = search needs
-
-mul-n : tie.Need-mul-n
-mul-n c = search needs
-
-refusal-requires-2 : tie.Need-refusal-requires-2
-refusal-requires-2 c κs = search needs
 
 returns-2 : tie.Need-returns-2
 unfolding mostInput
@@ -30,12 +18,6 @@ returns-2 c = made-refusal _ 17 _ _ (encode-long _ _ (c .before .before .if1 .le
 
 write-letters-requires : tie.Need-write-letters-requires
 write-letters-requires c κs = let l = length-encode (now (c .before .before .before .before .before .args .input)) in omega arith
-
-acceptance-requires : tie.Need-acceptance-requires
-acceptance-requires c κs = search needs
-
-same-length : tie.Need-same-length
-same-length c = search needs
 
 returns-3 : tie.Need-returns-3
 unfolding mostInput
@@ -47,13 +29,13 @@ pub encode-spec : {M : Type 1} → statement M
 encode-spec =
     tie.close
     (tie.spec
-    refusal-requires
+    (λ c κs. search needs)
     returns
-    add-n
-    mul-n
-    refusal-requires-2
+    (λ c. search needs)
+    (λ c. search needs)
+    (λ c κs. search needs)
     returns-2
     write-letters-requires
-    acceptance-requires
-    same-length
+    (λ c κs. search needs)
+    (λ c. search needs)
     returns-3)

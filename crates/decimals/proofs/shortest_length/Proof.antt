@@ -19,12 +19,6 @@ use Rattle.decimals.proofs.shortest_length.Tie as tie
 counted : (c : tie.After-digit-count) → c .digit-count .result ≡ length (digits 20 (natAbs (c .before .before .args .z)))
 counted c = c .digit-count .ensures ∙ ap (λ (x : ℕ). length (digits 20 x)) (c .before .magnitude .ensures ∙ ap natAbs (toZ-ofZ (c .before .before .fits .z)))
 
-magnitude-requires : tie.Need-magnitude-requires
-magnitude-requires c κs = search needs
-
-digit-count-requires : tie.Need-digit-count-requires
-digit-count-requires c κs = search needs
-
 add-result : tie.Need-add-result
 add-result c = omega (arith, counted (c .before), digits-are 20 (natAbs (c .before .before .before .args .z)) .1)
 
@@ -41,4 +35,4 @@ returns-2 c =
 
 pub shortest-length-spec : {M : Type 1} → statement M
 shortest-length-spec =
-    tie.close (tie.spec magnitude-requires digit-count-requires add-result returns returns-2)
+    tie.close (tie.spec (λ c κs. search needs) (λ c κs. search needs) add-result returns returns-2)

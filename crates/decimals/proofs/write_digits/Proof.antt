@@ -10,17 +10,11 @@ use borrow.Author.Needs.{needs}
 use Rattle.decimals.proofs.write_digits.Statement.{statement}
 use Rattle.decimals.proofs.write_digits.Tie as tie
 
-digit-count-requires : tie.Need-digit-count-requires
-digit-count-requires c κs = search needs
-
 put-digits-requires : tie.Need-put-digits-requires
 put-digits-requires c κs = omega (arith, c .before .digit-count .ensures)
 
 add-result : tie.Need-add-result
 add-result c = omega (arith, c .before .before .before .before .digit-count .ensures)
-
-same-length : tie.Need-same-length
-same-length c = search needs
 
 returns : tie.Need-returns
 returns c =
@@ -35,4 +29,4 @@ returns c =
 
 pub write-digits-spec : {M : Type 1} → statement M
 write-digits-spec =
-    tie.close (tie.spec digit-count-requires put-digits-requires add-result same-length returns)
+    tie.close (tie.spec (λ c κs. search needs) put-digits-requires add-result (λ c. search needs) returns)

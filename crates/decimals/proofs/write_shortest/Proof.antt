@@ -28,14 +28,8 @@ text-down c =
     ap {B = List ℕ} (λ (x : ℕ). 45 ∷ digits 20 x) (c .before .magnitude .ensures ∙ ap natAbs (toZ-ofZ (s .fits .z)))
     ∙ sym (shortest-down (s .args .z) (down w64 (s .args .z) (s .fits .z) (c .if1 .left)))
 
-magnitude-requires : tie.Need-magnitude-requires
-magnitude-requires c κs = search needs
-
 write-digits-requires : tie.Need-write-digits-requires
 write-digits-requires c κs = omega (arith, ap length (text-up (c .before)), c .before .before .before .before .pre)
-
-same-length : tie.Need-same-length
-same-length c = search needs
 
 returns : tie.Need-returns
 returns c = wrote-as (text-up (c .before .before .before .before)) (c .before .before .write-digits .ensures)
@@ -59,9 +53,9 @@ pub write-shortest-spec : {M : Type 1} → statement M
 write-shortest-spec =
     tie.close
     (tie.spec
-    magnitude-requires
+    (λ c κs. search needs)
     write-digits-requires
-    same-length
+    (λ c. search needs)
     returns
     slice-write-out
     add-write-digits

@@ -8,20 +8,11 @@ use borrow.Author.Needs.{needs}
 use Rattle.integers.proofs.four_bytes.Statement.{statement}
 use Rattle.integers.proofs.four_bytes.Tie as tie
 
-shared-slice-read-result : tie.Need-shared-slice-read-result
-shared-slice-read-result c = search needs
-
 cast-result : tie.Need-cast-result
 cast-result c = omega (arith, c .shared-slice-known .given (c .before .args .at))
 
 mul-result : tie.Need-mul-result
 mul-result c = omega (arith, c .shared-slice-known .given (c .before .args .at))
-
-add-result : tie.Need-add-result
-add-result c = search needs
-
-shared-slice-read-result-2 : tie.Need-shared-slice-read-result-2
-shared-slice-read-result-2 c = search needs
 
 cast-result-2 : tie.Need-cast-result-2
 cast-result-2 c = omega (arith, c .shared-slice-known2 .given (c .before .before .args .at + 1))
@@ -38,12 +29,6 @@ mul-result-2 c =
     let at = c .before .before .args .at in
     omega (arith, k at, k (at + 1))
 
-add-result-3 : tie.Need-add-result-3
-add-result-3 c = search needs
-
-shared-slice-read-result-3 : tie.Need-shared-slice-read-result-3
-shared-slice-read-result-3 c = search needs
-
 cast-result-3 : tie.Need-cast-result-3
 cast-result-3 c = omega (arith, c .shared-slice-known3 .given (c .before .before .before .args .at + 2))
 
@@ -58,12 +43,6 @@ mul-result-3 c =
     let k = c .shared-slice-known3 .given in
     let at = c .before .before .before .args .at in
     omega (arith, k at, k (at + 1), k (at + 2))
-
-add-result-5 : tie.Need-add-result-5
-add-result-5 c = search needs
-
-shared-slice-read-result-4 : tie.Need-shared-slice-read-result-4
-shared-slice-read-result-4 c = search needs
 
 cast-result-4 : tie.Need-cast-result-4
 cast-result-4 c =
@@ -89,21 +68,21 @@ pub four-bytes-spec : {M : Type 1} → statement M
 four-bytes-spec =
     tie.close
     (tie.spec
-    shared-slice-read-result
+    (λ c. search needs)
     cast-result
     mul-result
-    add-result
-    shared-slice-read-result-2
+    (λ c. search needs)
+    (λ c. search needs)
     cast-result-2
     add-result-2
     mul-result-2
-    add-result-3
-    shared-slice-read-result-3
+    (λ c. search needs)
+    (λ c. search needs)
     cast-result-3
     add-result-4
     mul-result-3
-    add-result-5
-    shared-slice-read-result-4
+    (λ c. search needs)
+    (λ c. search needs)
     cast-result-4
     add-result-6
     returns)

@@ -7,15 +7,6 @@ use borrow.Author.Needs.{needs}
 use Rattle.integers.proofs.long_of.Statement.{statement}
 use Rattle.integers.proofs.long_of.Tie as tie
 
-cast-result : tie.Need-cast-result
-cast-result c = search needs
-
-sub-result : tie.Need-sub-result
-sub-result c = search needs
-
-cast-result-2 : tie.Need-cast-result-2
-cast-result-2 c = search needs
-
 sub-result-2 : tie.Need-sub-result-2
 sub-result-2 c = search (upper-fits w64 8 refl (c .before .args .x) (c .if1 .left) (c .before .fits .x))
 
@@ -27,4 +18,4 @@ returns-2 c = upper-is w64 8 refl (c .before .args .x) (c .if1 .left) (c .before
 
 pub long-of-spec : {M : Type 1} → statement M
 long-of-spec =
-    tie.close (tie.spec cast-result sub-result cast-result-2 sub-result-2 returns returns-2)
+    tie.close (tie.spec (λ c. search needs) (λ c. search needs) (λ c. search needs) sub-result-2 returns returns-2)

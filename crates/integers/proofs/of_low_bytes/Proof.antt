@@ -20,41 +20,11 @@ use Rattle.integers.proofs.of_low_bytes.Tie as tie
 abbrev low : ℕ → Integer → ℤ
 low x kind = ofPattern (isSigned kind) (size kind) (x % 256 ^ size kind)
 
-enum-told : tie.Need-enum-told
-enum-told c = search needs
-
-cast-result : tie.Need-cast-result
-cast-result c = search needs
-
-enum-told-2 : tie.Need-enum-told-2
-enum-told-2 c = search needs
-
-cast-short-of : tie.Need-cast-short-of
-cast-short-of c = search needs
-
-short-of-requires : tie.Need-short-of-requires
-short-of-requires c κs = search needs
-
 cast-result-2 : tie.Need-cast-result-2
 cast-result-2 c = widens w16 (c .short-of .result) tt (record { sfits = c .short-of .ok })
 
-enum-told-3 : tie.Need-enum-told-3
-enum-told-3 c = search needs
-
-cast-int-of : tie.Need-cast-int-of
-cast-int-of c = search needs
-
-int-of-requires : tie.Need-int-of-requires
-int-of-requires c κs = search needs
-
 cast-result-3 : tie.Need-cast-result-3
 cast-result-3 c = widens w32 (c .int-of .result) tt (record { sfits = c .int-of .ok })
-
-enum-told-4 : tie.Need-enum-told-4
-enum-told-4 c = search needs
-
-long-of-requires : tie.Need-long-of-requires
-long-of-requires c κs = search needs
 
 returns : tie.Need-returns
 unfolding last ofPattern
@@ -83,18 +53,18 @@ pub of-low-bytes-spec : {M : Type 1} → statement M
 of-low-bytes-spec =
     tie.close
     (tie.spec
-    enum-told
-    cast-result
-    enum-told-2
-    cast-short-of
-    short-of-requires
+    (λ c. search needs)
+    (λ c. search needs)
+    (λ c. search needs)
+    (λ c. search needs)
+    (λ c κs. search needs)
     cast-result-2
-    enum-told-3
-    cast-int-of
-    int-of-requires
+    (λ c. search needs)
+    (λ c. search needs)
+    (λ c κs. search needs)
     cast-result-3
-    enum-told-4
-    long-of-requires
+    (λ c. search needs)
+    (λ c κs. search needs)
     returns
     returns-2
     returns-3

@@ -9,22 +9,10 @@ use borrow.Author.Needs.{needs}
 use Rattle.integers.proofs.put_eight.Statement.{statement}
 use Rattle.integers.proofs.put_eight.Tie as tie
 
-cast-put-four : tie.Need-cast-put-four
-cast-put-four c = search needs
-
-put-four-requires : tie.Need-put-four-requires
-put-four-requires c κs = search needs
-
-cast-put-four-2 : tie.Need-cast-put-four-2
-cast-put-four-2 c = search needs
-
 put-four-requires-2 : tie.Need-put-four-requires-2
 put-four-requires-2 c κs =
     let first = c .before .before .before .put-four in
     omega (arith, first .ensures .next-is, length-to 256 4 (c .before .before .before .before .before .before .args .x / 4294967296), first .kept .0)
-
-same-length : tie.Need-same-length
-same-length c = search needs
 
 returns : tie.Need-returns
 returns c =
@@ -35,9 +23,9 @@ pub put-eight-spec : {M : Type 1} → statement M
 put-eight-spec =
     tie.close
     (tie.spec
-    cast-put-four
-    put-four-requires
-    cast-put-four-2
+    (λ c. search needs)
+    (λ c κs. search needs)
+    (λ c. search needs)
     put-four-requires-2
-    same-length
+    (λ c. search needs)
     returns)

@@ -9,22 +9,10 @@ use borrow.Author.Needs.{needs}
 use Rattle.integers.proofs.put_four.Statement.{statement}
 use Rattle.integers.proofs.put_four.Tie as tie
 
-cast-put-two : tie.Need-cast-put-two
-cast-put-two c = search needs
-
-put-two-requires : tie.Need-put-two-requires
-put-two-requires c κs = search needs
-
-cast-put-two-2 : tie.Need-cast-put-two-2
-cast-put-two-2 c = search needs
-
 put-two-requires-2 : tie.Need-put-two-requires-2
 put-two-requires-2 c κs =
     let first = c .before .before .before .put-two in
     omega (arith, first .ensures .next-is, length-to 256 2 (c .before .before .before .before .before .before .args .x / 65536), first .kept .0)
-
-same-length : tie.Need-same-length
-same-length c = search needs
 
 returns : tie.Need-returns
 returns c =
@@ -34,4 +22,4 @@ returns c =
 pub put-four-spec : {M : Type 1} → statement M
 put-four-spec =
     tie.close
-    (tie.spec cast-put-two put-two-requires cast-put-two-2 put-two-requires-2 same-length returns)
+    (tie.spec (λ c. search needs) (λ c κs. search needs) (λ c. search needs) put-two-requires-2 (λ c. search needs) returns)

@@ -7,12 +7,6 @@ use borrow.Author.Needs.{needs}
 use Rattle.integers.proofs.read_int.Statement.{statement}
 use Rattle.integers.proofs.read_int.Tie as tie
 
-four-bytes-requires : tie.Need-four-bytes-requires
-four-bytes-requires c κs = search needs
-
-int-of-requires : tie.Need-int-of-requires
-int-of-requires c κs = search needs
-
 cast-result : tie.Need-cast-result
 cast-result c = widens w32 (c .int-of .result) tt (record { sfits = c .int-of .ok })
 
@@ -22,4 +16,4 @@ returns c =
     ∙ c .int-of .ensures ∙ ap (ofPattern _ 4) (c .before .four-bytes .ensures)
 
 pub read-int-spec : {M : Type 1} → statement M
-read-int-spec = tie.close (tie.spec four-bytes-requires int-of-requires cast-result returns)
+read-int-spec = tie.close (tie.spec (λ c κs. search needs) (λ c κs. search needs) cast-result returns)

@@ -20,29 +20,17 @@ use Rattle.integers.proofs.read_integer.Tie as tie
 abbrev read : List ℕ → ℕ → Integer → ℤ
 read s at kind = ofPattern (isSigned kind) (size kind) (ofDigits 256 0 (take (size kind) (drop at s)))
 
-enum-told : tie.Need-enum-told
-enum-told c = search needs
-
 read-unsigned-byte-requires : tie.Need-read-unsigned-byte-requires
 unfolding last
 read-unsigned-byte-requires c κs = omega (arith, ap size (c .enum-told .given .1))
-
-enum-told-2 : tie.Need-enum-told-2
-enum-told-2 c = search needs
 
 read-short-requires : tie.Need-read-short-requires
 unfolding last
 read-short-requires c κs = omega (arith, ap size (c .enum-told2 .given .1))
 
-enum-told-3 : tie.Need-enum-told-3
-enum-told-3 c = search needs
-
 read-int-requires : tie.Need-read-int-requires
 unfolding last
 read-int-requires c κs = omega (arith, ap size (c .enum-told3 .given .1))
-
-enum-told-4 : tie.Need-enum-told-4
-enum-told-4 c = search needs
 
 read-long-requires : tie.Need-read-long-requires
 unfolding last
@@ -80,13 +68,13 @@ pub read-integer-spec : {M : Type 1} → statement M
 read-integer-spec =
     tie.close
     (tie.spec
-    enum-told
+    (λ c. search needs)
     read-unsigned-byte-requires
-    enum-told-2
+    (λ c. search needs)
     read-short-requires
-    enum-told-3
+    (λ c. search needs)
     read-int-requires
-    enum-told-4
+    (λ c. search needs)
     read-long-requires
     returns
     returns-2

@@ -7,16 +7,10 @@ use borrow.Author.Needs.{needs}
 use Rattle.integers.proofs.read_long.Statement.{statement}
 use Rattle.integers.proofs.read_long.Tie as tie
 
-eight-bytes-requires : tie.Need-eight-bytes-requires
-eight-bytes-requires c κs = search needs
-
-long-of-requires : tie.Need-long-of-requires
-long-of-requires c κs = search needs
-
 returns : tie.Need-returns
 returns c =
     toZ-ofZ {w = w64} (record { sfits = c .long-of .ok })
     ∙ c .long-of .ensures ∙ ap (ofPattern _ 8) (c .before .eight-bytes .ensures)
 
 pub read-long-spec : {M : Type 1} → statement M
-read-long-spec = tie.close (tie.spec eight-bytes-requires long-of-requires returns)
+read-long-spec = tie.close (tie.spec (λ c κs. search needs) (λ c κs. search needs) returns)

@@ -11,9 +11,6 @@ use borrow.Author.Needs.{needs}
 use Rattle.integers.proofs.read_unsigned_byte.Statement.{statement}
 use Rattle.integers.proofs.read_unsigned_byte.Tie as tie
 
-shared-slice-read-result : tie.Need-shared-slice-read-result
-shared-slice-read-result c = search needs
-
 cast-result : tie.Need-cast-result
 cast-result c = omega (arith, c .shared-slice-known .given (c .before .args .at))
 
@@ -24,4 +21,4 @@ returns c =
     toZ-pos w64 (omega (arith, c .shared-slice-known .given (a .at))) ∙ ap pos (sym (of-one 256 (a .at) (now (a .s)) (omega arith)))
 
 pub read-unsigned-byte-spec : {M : Type 1} → statement M
-read-unsigned-byte-spec = tie.close (tie.spec shared-slice-read-result cast-result returns)
+read-unsigned-byte-spec = tie.close (tie.spec (λ c. search needs) cast-result returns)

@@ -9,18 +9,6 @@ use borrow.Author.Needs.{needs}
 use Rattle.integers.proofs.write_int.Statement.{statement}
 use Rattle.integers.proofs.write_int.Tie as tie
 
-pattern-of-requires : tie.Need-pattern-of-requires
-pattern-of-requires c κs = search needs
-
-cast-put-four : tie.Need-cast-put-four
-cast-put-four c = search needs
-
-put-four-requires : tie.Need-put-four-requires
-put-four-requires c κs = search needs
-
-same-length : tie.Need-same-length
-same-length c = search needs
-
 returns : tie.Need-returns
 returns c =
     let s = c .before .before .before .before .before .before in
@@ -31,4 +19,4 @@ returns c =
 
 pub write-int-spec : {M : Type 1} → statement M
 write-int-spec =
-    tie.close (tie.spec pattern-of-requires cast-put-four put-four-requires same-length returns)
+    tie.close (tie.spec (λ c κs. search needs) (λ c. search needs) (λ c κs. search needs) (λ c. search needs) returns)

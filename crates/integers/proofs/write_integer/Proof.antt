@@ -19,36 +19,21 @@ written : (c : tie.Start) (kind : Integer) → c .args .kind ≡ kind
     → toDigits 256 (size kind) (pattern 8 (toZ w64 (ofZ w64 (c .args .z)))) ≡ toDigits 256 (size (c .args .kind)) (pattern 8 (c .args .z))
 written c kind e = ap (λ (z : ℤ). toDigits 256 (size kind) (pattern 8 z)) (toZ-ofZ (c .fits .z)) ∙ sym (ap (λ (k : Integer). toDigits 256 (size k) (pattern 8 (c .args .z))) e)
 
-enum-told : tie.Need-enum-told
-enum-told c = search needs
-
 write-unsigned-byte-requires : tie.Need-write-unsigned-byte-requires
 unfolding last
 write-unsigned-byte-requires c κs = omega (arith, ap size (c .before .enum-told .given .1))
-
-enum-told-2 : tie.Need-enum-told-2
-enum-told-2 c = search needs
 
 write-short-requires : tie.Need-write-short-requires
 unfolding last
 write-short-requires c κs = omega (arith, ap size (c .before .enum-told2 .given .1))
 
-enum-told-3 : tie.Need-enum-told-3
-enum-told-3 c = search needs
-
 write-int-requires : tie.Need-write-int-requires
 unfolding last
 write-int-requires c κs = omega (arith, ap size (c .before .enum-told3 .given .1))
 
-enum-told-4 : tie.Need-enum-told-4
-enum-told-4 c = search needs
-
 write-long-requires : tie.Need-write-long-requires
 unfolding last
 write-long-requires c κs = omega (arith, ap size (c .before .enum-told4 .given .1))
-
-same-length : tie.Need-same-length
-same-length c = search needs
 
 returns : tie.Need-returns
 unfolding last
@@ -56,26 +41,17 @@ returns c =
     wrote-as (written (c .before .before .before .before .before .before .before) _ (c .before .before .before .before .enum-told .given .1))
     (c .before .before .write-unsigned-byte .ensures)
 
-same-length-2 : tie.Need-same-length-2
-same-length-2 c = search needs
-
 returns-2 : tie.Need-returns-2
 unfolding last
 returns-2 c =
     wrote-as (written (c .before .before .before .before .before .before .before) _ (c .before .before .before .before .enum-told2 .given .1))
     (c .before .before .write-short .ensures)
 
-same-length-3 : tie.Need-same-length-3
-same-length-3 c = search needs
-
 returns-3 : tie.Need-returns-3
 unfolding last
 returns-3 c =
     wrote-as (written (c .before .before .before .before .before .before .before) _ (c .before .before .before .before .enum-told3 .given .1))
     (c .before .before .write-int .ensures)
-
-same-length-4 : tie.Need-same-length-4
-same-length-4 c = search needs
 
 returns-4 : tie.Need-returns-4
 unfolding last
@@ -87,19 +63,19 @@ pub write-integer-spec : {M : Type 1} → statement M
 write-integer-spec =
     tie.close
     (tie.spec
-    enum-told
+    (λ c. search needs)
     write-unsigned-byte-requires
-    enum-told-2
+    (λ c. search needs)
     write-short-requires
-    enum-told-3
+    (λ c. search needs)
     write-int-requires
-    enum-told-4
+    (λ c. search needs)
     write-long-requires
-    same-length
+    (λ c. search needs)
     returns
-    same-length-2
+    (λ c. search needs)
     returns-2
-    same-length-3
+    (λ c. search needs)
     returns-3
-    same-length-4
+    (λ c. search needs)
     returns-4)

@@ -7,15 +7,6 @@ use borrow.Author.Needs.{needs}
 use Rattle.integers.proofs.write_long.Statement.{statement}
 use Rattle.integers.proofs.write_long.Tie as tie
 
-pattern-of-requires : tie.Need-pattern-of-requires
-pattern-of-requires c κs = search needs
-
-put-eight-requires : tie.Need-put-eight-requires
-put-eight-requires c κs = search needs
-
-same-length : tie.Need-same-length
-same-length c = search needs
-
 returns : tie.Need-returns
 returns c =
     let s = c .before .before .before .before .before .before in
@@ -23,4 +14,4 @@ returns c =
     (c .before .before .put-eight .ensures)
 
 pub write-long-spec : {M : Type 1} → statement M
-write-long-spec = tie.close (tie.spec pattern-of-requires put-eight-requires same-length returns)
+write-long-spec = tie.close (tie.spec (λ c κs. search needs) (λ c κs. search needs) (λ c. search needs) returns)

@@ -9,18 +9,6 @@ use borrow.Author.Needs.{needs}
 use Rattle.integers.proofs.write_short.Statement.{statement}
 use Rattle.integers.proofs.write_short.Tie as tie
 
-pattern-of-requires : tie.Need-pattern-of-requires
-pattern-of-requires c κs = search needs
-
-cast-put-two : tie.Need-cast-put-two
-cast-put-two c = search needs
-
-put-two-requires : tie.Need-put-two-requires
-put-two-requires c κs = search needs
-
-same-length : tie.Need-same-length
-same-length c = search needs
-
 returns : tie.Need-returns
 returns c =
     let s = c .before .before .before .before .before .before in
@@ -31,4 +19,4 @@ returns c =
 
 pub write-short-spec : {M : Type 1} → statement M
 write-short-spec =
-    tie.close (tie.spec pattern-of-requires cast-put-two put-two-requires same-length returns)
+    tie.close (tie.spec (λ c κs. search needs) (λ c. search needs) (λ c κs. search needs) (λ c. search needs) returns)

@@ -9,21 +9,6 @@ use borrow.Author.Needs.{needs}
 use Rattle.integers.proofs.write_unsigned_byte.Statement.{statement}
 use Rattle.integers.proofs.write_unsigned_byte.Tie as tie
 
-pattern-of-requires : tie.Need-pattern-of-requires
-pattern-of-requires c κs = search needs
-
-cast-out : tie.Need-cast-out
-cast-out c = search needs
-
-slice-write-out : tie.Need-slice-write-out
-slice-write-out c = search needs
-
-add-result : tie.Need-add-result
-add-result c = search needs
-
-same-length : tie.Need-same-length
-same-length c = search needs
-
 returns : tie.Need-returns
 returns c =
     let s = c .before .before in
@@ -33,4 +18,4 @@ returns c =
 pub write-unsigned-byte-spec : {M : Type 1} → statement M
 write-unsigned-byte-spec =
     tie.close
-    (tie.spec pattern-of-requires cast-out slice-write-out add-result same-length returns)
+    (tie.spec (λ c κs. search needs) (λ c. search needs) (λ c. search needs) (λ c. search needs) (λ c. search needs) returns)

@@ -25,18 +25,6 @@ abbrev μ-loop : tie.MeasureT-loop
 loop-holds : tie.Need-loop-holds Inv-loop μ-loop
 loop-holds c = (search needs, search needs, refl)
 
-mul-code-of : tie.Need-mul-code-of Inv-loop μ-loop
-mul-code-of c = search needs
-
-shared-slice-copy-out-code-of : tie.Need-shared-slice-copy-out-code-of Inv-loop μ-loop
-shared-slice-copy-out-code-of c = search needs
-
-code-of-requires : tie.Need-code-of-requires Inv-loop μ-loop
-code-of-requires c κs = search needs
-
-form-size-requires : tie.Need-form-size-requires Inv-loop μ-loop
-form-size-requires c κs = search needs
-
 -- the next char's form has this size
 form : (c : tie.After-form-size Inv-loop μ-loop) → let l = c .before .before .before .before in let a = l .before .args in
     sizeOf (formOf (getD (take (a .count) (now (a .scratch))) (l .loop .k) (pos 0))) ≡ formSize (c .form-size .result)
@@ -59,12 +47,6 @@ add-size c =
     let at-form = c .before in let l = at-form .before .before .before .before in
     omega (arith, at-form .form-size .ensures .1, l .loop .inv .1, l .before .pre .1)
 
-add-k : tie.Need-add-k Inv-loop μ-loop
-add-k c = search needs
-
-loop-less : tie.Need-loop-less Inv-loop μ-loop
-loop-less c = search needs
-
 loop-again : tie.Need-loop-again Inv-loop μ-loop
 loop-again c =
     let at-form = c .before in let at-test = at-form .before .before .before in let l = at-test .before .loop in (
@@ -86,13 +68,13 @@ chars-size-spec =
     Inv-loop
     μ-loop
     loop-holds
-    mul-code-of
-    shared-slice-copy-out-code-of
-    code-of-requires
-    form-size-requires
+    (λ c. search needs)
+    (λ c. search needs)
+    (λ c κs. search needs)
+    (λ c κs. search needs)
     returns
     add-size
-    add-k
-    loop-less
+    (λ c. search needs)
+    (λ c. search needs)
     loop-again
     returns-2)

@@ -29,16 +29,6 @@ abbrev μ-loop : tie.MeasureT-loop
 loop-holds : tie.Need-loop-holds Inv-loop μ-loop
 loop-holds c = (search needs, search needs, refl)
 
-mul-shortest-length : tie.Need-mul-shortest-length Inv-loop μ-loop
-mul-shortest-length c = search needs
-
-shared-slice-copy-out-shortest-length :
-    tie.Need-shared-slice-copy-out-shortest-length Inv-loop μ-loop
-shared-slice-copy-out-shortest-length c = search needs
-
-shortest-length-requires : tie.Need-shortest-length-requires Inv-loop μ-loop
-shortest-length-requires c κs = search needs
-
 -- the next word
 word : (c : tie.After-shortest-length Inv-loop μ-loop) → let l = c .before .before .before in
     c .shortest-length .result ≡ length (shortest (getD (now (l .before .args .scratch)) (l .loop .k) (pos 0)))
@@ -52,12 +42,6 @@ add-size c = omega (arith, few c)
 
 add-size-2 : tie.Need-add-size-2 Inv-loop μ-loop
 add-size-2 c = let l = c .before .before .before in omega (arith, few c, l .loop .inv .1, l .before .pre .1)
-
-add-k : tie.Need-add-k Inv-loop μ-loop
-add-k c = search needs
-
-loop-less : tie.Need-loop-less Inv-loop μ-loop
-loop-less c = search needs
 
 loop-again : tie.Need-loop-again Inv-loop μ-loop
 loop-again c =
@@ -78,12 +62,12 @@ integers-size-spec =
     Inv-loop
     μ-loop
     loop-holds
-    mul-shortest-length
-    shared-slice-copy-out-shortest-length
-    shortest-length-requires
+    (λ c. search needs)
+    (λ c. search needs)
+    (λ c κs. search needs)
     add-size
     add-size-2
-    add-k
-    loop-less
+    (λ c. search needs)
+    (λ c. search needs)
     loop-again
     returns)

@@ -3,7 +3,7 @@ use Prim.Native.Nat.{_+_, _-_, _≤_, ℕ}
 use native.Mathlib.Omega.{arith}
 use mathlib.Core.List.{List, _++_, _∷_}
 use mathlib.Core.Path.{_∙_, _≡_, ap, sym}
-use lib.IntN.{pos, ℤ}
+use lib.IntN.{pos}
 use lib.ListN.{drop, getD, length, length-set, take}
 use borrow.Author.Needs.{needs, sfits-of}
 use denote.Ref.{now}
@@ -46,13 +46,6 @@ slice-write-out c = omega (arith, room c)
 add-write-shortest : tie.Need-add-write-shortest Inv-loop μ-loop
 add-write-shortest c = omega (arith, room (c .before))
 
-mul-write-shortest : tie.Need-mul-write-shortest Inv-loop μ-loop
-mul-write-shortest c = search needs
-
-shared-slice-copy-out-write-shortest :
-    tie.Need-shared-slice-copy-out-write-shortest Inv-loop μ-loop
-shared-slice-copy-out-write-shortest c = search needs
-
 -- the word, as it was lent
 word : (c : tie.After-write-shortest-arg2 Inv-loop μ-loop) → let l = c .before .before .before in
     let z = getD (now (l .before .before .args .scratch)) (l .loop .k) (pos 0) in shortest (toZ w64 (ofZ w64 z)) ≡ shortest z
@@ -60,12 +53,6 @@ word c = ap shortest (toZ-ofZ {w = w64} (sfits-of (c .write-shortest-arg2 .given
 
 write-shortest-requires : tie.Need-write-shortest-requires Inv-loop μ-loop
 write-shortest-requires c κs = simp length-set (omega (arith, room (c .before .before), ap length (word c)))
-
-add-k : tie.Need-add-k Inv-loop μ-loop
-add-k c = search needs
-
-loop-less : tie.Need-loop-less Inv-loop μ-loop
-loop-less c = search needs
 
 loop-again : tie.Need-loop-again Inv-loop μ-loop
 loop-again c =
@@ -92,11 +79,11 @@ more-integers-spec =
     loop-holds
     slice-write-out
     add-write-shortest
-    mul-write-shortest
-    shared-slice-copy-out-write-shortest
+    (λ c. search needs)
+    (λ c. search needs)
     write-shortest-requires
-    add-k
-    loop-less
+    (λ c. search needs)
+    (λ c. search needs)
     loop-again
     same-length
     returns)

@@ -40,15 +40,6 @@ room c =
 slice-write-out : tie.Need-slice-write-out Inv-loop μ-loop
 slice-write-out c = omega (arith, room c)
 
-mul-truth-byte : tie.Need-mul-truth-byte Inv-loop μ-loop
-mul-truth-byte c = search needs
-
-shared-slice-copy-out-truth-byte : tie.Need-shared-slice-copy-out-truth-byte Inv-loop μ-loop
-shared-slice-copy-out-truth-byte c = search needs
-
-truth-byte-requires : tie.Need-truth-byte-requires Inv-loop μ-loop
-truth-byte-requires c κs = search needs
-
 add-out : tie.Need-add-out Inv-loop μ-loop
 add-out c = omega (arith, room (c .before .before))
 
@@ -57,12 +48,6 @@ slice-write-out-2 c = simp length-set (omega (arith, room (c .before .before)))
 
 add-i : tie.Need-add-i Inv-loop μ-loop
 add-i c = omega (arith, room (c .before .before))
-
-add-k : tie.Need-add-k Inv-loop μ-loop
-add-k c = search needs
-
-loop-less : tie.Need-loop-less Inv-loop μ-loop
-loop-less c = search needs
 
 loop-again : tie.Need-loop-again Inv-loop μ-loop
 loop-again c =
@@ -87,14 +72,14 @@ more-truths-spec =
     μ-loop
     loop-holds
     slice-write-out
-    mul-truth-byte
-    shared-slice-copy-out-truth-byte
-    truth-byte-requires
+    (λ c. search needs)
+    (λ c. search needs)
+    (λ c κs. search needs)
     add-out
     slice-write-out-2
     add-i
-    add-k
-    loop-less
+    (λ c. search needs)
+    (λ c. search needs)
     loop-again
     same-length
     returns)

@@ -27,15 +27,6 @@ loop-holds c =
     let e : a .at + 0 ≡ a .at = omega arith in
     (search needs, rw (e, ← bits-joined) (left-all (now (a .out)) (a .at) (elementBytes Bits (take (a .count) (now (a .scratch))))))
 
-mul-bit-byte : tie.Need-mul-bit-byte Inv-loop μ-loop
-mul-bit-byte c = search needs
-
-shared-slice-copy-out-bit-byte : tie.Need-shared-slice-copy-out-bit-byte Inv-loop μ-loop
-shared-slice-copy-out-bit-byte c = search needs
-
-bit-byte-requires : tie.Need-bit-byte-requires Inv-loop μ-loop
-bit-byte-requires c κs = search needs
-
 room : (c : tie.After-bit-byte Inv-loop μ-loop) → let a = c .before .before .before .before .before .args in a .at + a .count ≤ length (now (a .out))
 room c =
     let s = c .before .before .before .before .before in let a = s .args in
@@ -46,12 +37,6 @@ add-out c = omega (arith, room c)
 
 slice-write-out : tie.Need-slice-write-out Inv-loop μ-loop
 slice-write-out c = omega (arith, room c, c .before .before .before .loop .inv .1 .same-long)
-
-add-k : tie.Need-add-k Inv-loop μ-loop
-add-k c = search needs
-
-loop-less : tie.Need-loop-less Inv-loop μ-loop
-loop-less c = search needs
 
 loop-again : tie.Need-loop-again Inv-loop μ-loop
 loop-again c =
@@ -83,13 +68,13 @@ put-bits-spec =
     Inv-loop
     μ-loop
     loop-holds
-    mul-bit-byte
-    shared-slice-copy-out-bit-byte
-    bit-byte-requires
+    (λ c. search needs)
+    (λ c. search needs)
+    (λ c κs. search needs)
     add-out
     slice-write-out
-    add-k
-    loop-less
+    (λ c. search needs)
+    (λ c. search needs)
     loop-again
     add-result
     same-length

@@ -25,15 +25,6 @@ loop-holds : tie.Need-loop-holds Inv-loop μ-loop
 unfolding elementBytes
 loop-holds c = left-all (now (c .before .args .out)) (c .before .args .at) _
 
-mul-code-of : tie.Need-mul-code-of Inv-loop μ-loop
-mul-code-of c = search needs
-
-shared-slice-copy-out-code-of : tie.Need-shared-slice-copy-out-code-of Inv-loop μ-loop
-shared-slice-copy-out-code-of c = search needs
-
-code-of-requires : tie.Need-code-of-requires Inv-loop μ-loop
-code-of-requires c κs = search needs
-
 -- the next character, by its code
 more : (c : tie.After-code-of Inv-loop μ-loop) → let a = c .before .before .before .before .before .before .args in let k = c .before .before .before .before .loop .k in
     joined charForm (drop k (take (a .count) (now (a .scratch)))) ≡ charForm (pos (c .code-of .result)) ++ joined charForm (drop (k + 1) (take (a .count) (now (a .scratch))))
@@ -45,12 +36,6 @@ more c =
 
 put-char-requires : tie.Need-put-char-requires Inv-loop μ-loop
 put-char-requires c κs = left-room (c .before .before .before .before .loop .inv) (charForm (pos (c .code-of .result))) _ (more c) (c .before .before .before .before .before .before .pre .1)
-
-add-k : tie.Need-add-k Inv-loop μ-loop
-add-k c = search needs
-
-loop-less : tie.Need-loop-less Inv-loop μ-loop
-loop-less c = search needs
 
 loop-again : tie.Need-loop-again Inv-loop μ-loop
 loop-again c = left-step (c .before .before .before .before .before .before .before .loop .inv) (more (c .before .before .before)) (c .before .before .put-char .ensures)
@@ -70,12 +55,12 @@ put-chars-spec =
     Inv-loop
     μ-loop
     loop-holds
-    mul-code-of
-    shared-slice-copy-out-code-of
-    code-of-requires
+    (λ c. search needs)
+    (λ c. search needs)
+    (λ c κs. search needs)
     put-char-requires
-    add-k
-    loop-less
+    (λ c. search needs)
+    (λ c. search needs)
     loop-again
     same-length
     returns)

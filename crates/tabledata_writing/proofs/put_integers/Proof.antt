@@ -22,9 +22,6 @@ returns c =
     let a = c .before .before .args in
     wrote-as (sym (spaced-none shortest (now (a .scratch)) (a .count) (c .if1 .taken))) (wrote-none (now (a .out)) (a .at))
 
-shared-slice-copy-out-write-shortest : tie.Need-shared-slice-copy-out-write-shortest
-shared-slice-copy-out-write-shortest c = search needs
-
 -- the first word, and those behind it
 abbrev others : List ℤ → ℕ → List ℕ
 others scratch count = joined (λ z. 32 ∷ shortest z) (drop 1 (take count scratch))
@@ -70,7 +67,7 @@ put-integers-spec =
     tie.close
     (tie.spec
     returns
-    shared-slice-copy-out-write-shortest
+    (λ c. search needs)
     write-shortest-requires
     more-integers-requires
     same-length

@@ -19,12 +19,6 @@ returns c =
     let a = c .before .before .args in
     wrote-as (sym (spaced-none truthText (now (a .scratch)) (a .count) (c .if1 .taken))) (wrote-none (now (a .out)) (a .at))
 
-shared-slice-copy-out-truth-byte : tie.Need-shared-slice-copy-out-truth-byte
-shared-slice-copy-out-truth-byte c = search needs
-
-truth-byte-requires : tie.Need-truth-byte-requires
-truth-byte-requires c κs = search needs
-
 -- the first word, and those behind it
 whole : (c : tie.After-truth-byte) → let a = c .before .before .before .before .args in
     spaced (map truthText (take (a .count) (now (a .scratch)))) ≡ (c .truth-byte .result ∷ []) ++ joined (λ z. 32 ∷ truthText z) (drop 1 (take (a .count) (now (a .scratch))))
@@ -56,8 +50,8 @@ put-truths-spec =
     tie.close
     (tie.spec
     returns
-    shared-slice-copy-out-truth-byte
-    truth-byte-requires
+    (λ c. search needs)
+    (λ c κs. search needs)
     slice-write-out
     add-more-truths
     more-truths-requires

@@ -27,51 +27,6 @@ returns-2 c =
     let s = c .before .before in
     rw (c .before .if1 .left) (sym (size-none (s .args .column) _ (omega (arith, taken s))))
 
-enum-told : tie.Need-enum-told
-enum-told c = search needs
-
-mul-t8 : tie.Need-mul-t8
-mul-t8 c = search needs
-
-add-t9 : tie.Need-add-t9
-add-t9 c = search needs
-
-enum-told-2 : tie.Need-enum-told-2
-enum-told-2 c = search needs
-
-add-t10 : tie.Need-add-t10
-add-t10 c = search needs
-
-enum-told-3 : tie.Need-enum-told-3
-enum-told-3 c = search needs
-
-integers-size-requires : tie.Need-integers-size-requires
-integers-size-requires c κs = search needs
-
-enum-told-4 : tie.Need-enum-told-4
-enum-told-4 c = search needs
-
-integers-size-requires-2 : tie.Need-integers-size-requires-2
-integers-size-requires-2 c κs = search needs
-
-enum-told-5 : tie.Need-enum-told-5
-enum-told-5 c = search needs
-
-integers-size-requires-3 : tie.Need-integers-size-requires-3
-integers-size-requires-3 c κs = search needs
-
-enum-told-6 : tie.Need-enum-told-6
-enum-told-6 c = search needs
-
-integers-size-requires-4 : tie.Need-integers-size-requires-4
-integers-size-requires-4 c κs = search needs
-
-enum-told-7 : tie.Need-enum-told-7
-enum-told-7 c = search needs
-
-chars-size-requires : tie.Need-chars-size-requires
-chars-size-requires c κs = search needs
-
 returns-3 : tie.Need-returns-3
 unfolding shape
 returns-3 c =
@@ -127,21 +82,21 @@ size-text-spec =
     (tie.spec
     returns
     returns-2
-    enum-told
-    mul-t8
-    add-t9
-    enum-told-2
-    add-t10
-    enum-told-3
-    integers-size-requires
-    enum-told-4
-    integers-size-requires-2
-    enum-told-5
-    integers-size-requires-3
-    enum-told-6
-    integers-size-requires-4
-    enum-told-7
-    chars-size-requires
+    (λ c. search needs)
+    (λ c. search needs)
+    (λ c. search needs)
+    (λ c. search needs)
+    (λ c. search needs)
+    (λ c. search needs)
+    (λ c κs. search needs)
+    (λ c. search needs)
+    (λ c κs. search needs)
+    (λ c. search needs)
+    (λ c κs. search needs)
+    (λ c. search needs)
+    (λ c κs. search needs)
+    (λ c. search needs)
+    (λ c κs. search needs)
     returns-3
     returns-4
     returns-5

@@ -14,9 +14,6 @@ use Rattle.tabledata.specs.TableData.{elementBytes, textBytes}
 use Rattle.tabledata_writing.proofs.write_text.Statement.{statement}
 use Rattle.tabledata_writing.proofs.write_text.Tie as tie
 
-slice-aggregate-put-bytes : tie.Need-slice-aggregate-put-bytes
-slice-aggregate-put-bytes c = search needs
-
 -- the room of the whole cell, where it is known whether it is null
 room-if : (c : tie.Start) (null : Bool) → c .args .null ≡ null → let a = c .args in
     a .at + length (textBytes (a .column) (held null (a .count) (now (a .scratch)))) ≤ length (now (a .out))
@@ -35,9 +32,6 @@ returns : tie.Need-returns
 unfolding textBytes
 returns c = rw (c .before .before .before .before .before .if1 .taken) (c .before .before .put-bytes .ensures)
 
-slice-aggregate-put-bytes-2 : tie.Need-slice-aggregate-put-bytes-2
-slice-aggregate-put-bytes-2 c = search needs
-
 -- room for the tags and what stands between them
 room : (c : tie.After-put-bytes-arg4) → let a = c .before .before .before .before .args in
     a .at + (9 + length (elementBytes (shape (a .column .kind)) (take (a .count) (now (a .scratch))))) ≤ length (now (a .out))
@@ -52,9 +46,6 @@ put-elements-requires : tie.Need-put-elements-requires
 put-elements-requires c κs =
     let at-tag = c .before .before .before in let tag = at-tag .put-bytes2 .ensures in
     (at-tag .before .before .before .before .before .pre .0, omega (arith, room (at-tag .before), tag .next-is, wrote-long tag))
-
-slice-aggregate-put-bytes-3 : tie.Need-slice-aggregate-put-bytes-3
-slice-aggregate-put-bytes-3 c = search needs
 
 put-bytes-requires-3 : tie.Need-put-bytes-requires-3
 put-bytes-requires-3 c κs =
@@ -81,14 +72,14 @@ pub write-text-spec : {M : Type 1} → statement M
 write-text-spec =
     tie.close
     (tie.spec
-    slice-aggregate-put-bytes
+    (λ c. search needs)
     put-bytes-requires
     same-length
     returns
-    slice-aggregate-put-bytes-2
+    (λ c. search needs)
     put-bytes-requires-2
     put-elements-requires
-    slice-aggregate-put-bytes-3
+    (λ c. search needs)
     put-bytes-requires-3
     same-length-2
     returns-2)

@@ -10,26 +10,11 @@ use borrow.Author.Needs.{needs}
 use Rattle.words.proofs.decimal_next.Statement.{statement}
 use Rattle.words.proofs.decimal_next.Tie as tie
 
-broken-requires : tie.Need-broken-requires
-broken-requires c κs = search needs
-
 returns : tie.Need-returns
 returns c =
     let a = c .before .before .before .before .args in
     c .broken .ensures
     ∙ sym (decimal-full (a .form) (a .count) (a .value) (a .c) (a .c - 48) (digit-yes (a .c) (omega arith) (omega arith)) (omega arith))
-
-add-t8 : tie.Need-add-t8
-add-t8 c = search needs
-
-cast-with-digit : tie.Need-cast-with-digit
-cast-with-digit c = search needs
-
-with-digit-requires : tie.Need-with-digit-requires
-with-digit-requires c κs = search needs
-
-broken-requires-2 : tie.Need-broken-requires-2
-broken-requires-2 c κs = search needs
 
 returns-2 : tie.Need-returns-2
 returns-2 c =
@@ -47,11 +32,11 @@ pub decimal-next-spec : {M : Type 1} → statement M
 decimal-next-spec =
     tie.close
     (tie.spec
-    broken-requires
+    (λ c κs. search needs)
     returns
-    add-t8
-    cast-with-digit
-    with-digit-requires
-    broken-requires-2
+    (λ c. search needs)
+    (λ c. search needs)
+    (λ c κs. search needs)
+    (λ c κs. search needs)
     returns-2
     returns-3)

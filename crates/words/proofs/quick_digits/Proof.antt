@@ -27,12 +27,6 @@ Inv-loop s at end number₀ i₀ number i =
 abbrev μ-loop : tie.MeasureT-loop
 μ-loop s at end number₀ i₀ number i = end - i
 
-add-earlier : tie.Need-add-earlier Inv-loop μ-loop
-add-earlier c = search needs
-
-earlier-requires : tie.Need-earlier-requires Inv-loop μ-loop
-earlier-requires c κs = search needs
-
 loop-holds : tie.Need-loop-holds Inv-loop μ-loop
 unfolding numeral
 loop-holds c =
@@ -49,9 +43,6 @@ mul-number c =
     let l = c .before .before .before .before .loop in
     let a = c .before .before .before .before .before .before .before .args in
     omega (arith, number-lt (now (a .s)) (a .at) (l .i) (l .number) (l .inv .0 .0) (l .inv .2) (omega (arith, c .before .before .before .before .before .earlier .ensures .by-second)))
-
-cast-number : tie.Need-cast-number Inv-loop μ-loop
-cast-number c = search needs
 
 add-number : tie.Need-add-number Inv-loop μ-loop
 add-number c =
@@ -114,12 +105,12 @@ quick-digits-spec =
     (tie.spec
     Inv-loop
     μ-loop
-    add-earlier
-    earlier-requires
+    (λ c. search needs)
+    (λ c κs. search needs)
     loop-holds
     shared-slice-read-c
     mul-number
-    cast-number
+    (λ c. search needs)
     add-number
     add-i
     loop-less

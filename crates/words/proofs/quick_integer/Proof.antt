@@ -17,39 +17,6 @@ use borrow.Author.Needs.{needs}
 use Rattle.words.proofs.quick_integer.Statement.{statement}
 use Rattle.words.proofs.quick_integer.Tie as tie
 
-shared-slice-read-if1 : tie.Need-shared-slice-read-if1
-shared-slice-read-if1 c = search needs
-
-quick-positive-requires : tie.Need-quick-positive-requires
-quick-positive-requires c κs = search needs
-
-returns : tie.Need-returns
-returns c = search needs
-
-is-signed-requires : tie.Need-is-signed-requires
-is-signed-requires c κs = search needs
-
-returns-2 : tie.Need-returns-2
-returns-2 c = search needs
-
-add-quick-digits : tie.Need-add-quick-digits
-add-quick-digits c = search needs
-
-quick-digits-requires : tie.Need-quick-digits-requires
-quick-digits-requires c κs = search needs
-
-add-if3 : tie.Need-add-if3
-add-if3 c = search needs
-
-returns-3 : tie.Need-returns-3
-returns-3 c = search needs
-
-top-of-requires : tie.Need-top-of-requires
-top-of-requires c κs = search needs
-
-returns-4 : tie.Need-returns-4
-returns-4 c = search needs
-
 cast-t13 : tie.Need-cast-t13
 cast-t13 c = omega (arith, c .before .top-of .ensures, top-lt (c .before .before .before .before .before .before .before .before .before .args .kind))
 
@@ -73,17 +40,17 @@ pub quick-integer-spec : {M : Type 1} → statement M
 quick-integer-spec =
     tie.close
     (tie.spec
-    shared-slice-read-if1
-    quick-positive-requires
-    returns
-    is-signed-requires
-    returns-2
-    add-quick-digits
-    quick-digits-requires
-    add-if3
-    returns-3
-    top-of-requires
-    returns-4
+    (λ c. search needs)
+    (λ c κs. search needs)
+    (λ c. search needs)
+    (λ c κs. search needs)
+    (λ c. search needs)
+    (λ c. search needs)
+    (λ c κs. search needs)
+    (λ c. search needs)
+    (λ c. search needs)
+    (λ c κs. search needs)
+    (λ c. search needs)
     cast-t13
     sub-t14
     returns-5)

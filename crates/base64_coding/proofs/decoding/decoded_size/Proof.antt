@@ -49,15 +49,6 @@ loop-again c =
     let long = c .before .plain .ensures .long in
     (long, b, omega arith, sixteen-size (block c) long _ _ (at-loop .loop .inv .3))
 
-next-four-requires : tie.Need-next-four-requires Inv-loop μ-loop
-next-four-requires c κs = search needs
-
-enum-known-count : tie.Need-enum-known-count Inv-loop μ-loop
-enum-known-count c = search needs
-
-enum-told : tie.Need-enum-told Inv-loop μ-loop
-enum-told c = search needs
-
 returns : tie.Need-returns Inv-loop μ-loop
 unfolding decodedSize
 returns c = sym (c .before .before .before .before .before .before .loop .inv .3 ∙ ap (decodedSize _) (refused _ _ _ (c .before .before .next-four .ensures) (c .enum-told .given .1)))
@@ -90,9 +81,9 @@ decoded-size-spec =
     add-n
     loop-less
     loop-again
-    next-four-requires
-    enum-known-count
-    enum-told
+    (λ c κs. search needs)
+    (λ c. search needs)
+    (λ c. search needs)
     returns
     add-n-2
     returns-2

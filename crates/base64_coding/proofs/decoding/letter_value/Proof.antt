@@ -6,21 +6,6 @@ use Rattle.base64_coding.proofs.Alphabet.{value-ranges}
 use Rattle.base64_coding.proofs.decoding.letter_value.Statement.{statement}
 use Rattle.base64_coding.proofs.decoding.letter_value.Tie as tie
 
-ranged-requires : tie.Need-ranged-requires
-ranged-requires c κs = search needs
-
-ranged-requires-2 : tie.Need-ranged-requires-2
-ranged-requires-2 c κs = search needs
-
-ranged-requires-3 : tie.Need-ranged-requires-3
-ranged-requires-3 c κs = search needs
-
-ranged-requires-4 : tie.Need-ranged-requires-4
-ranged-requires-4 c κs = search needs
-
-ranged-requires-5 : tie.Need-ranged-requires-5
-ranged-requires-5 c κs = search needs
-
 returns : tie.Need-returns
 returns c =
     let p4 = c .before .ranged4 .ensures in let p3 = c .before .before .ranged3 .ensures in
@@ -30,4 +15,4 @@ returns c =
 pub letter-value-spec : {M : Type 1} → statement M
 letter-value-spec =
     tie.close
-    (tie.spec ranged-requires ranged-requires-2 ranged-requires-3 ranged-requires-4 ranged-requires-5 returns)
+    (tie.spec (λ c κs. search needs) (λ c κs. search needs) (λ c κs. search needs) (λ c κs. search needs) (λ c κs. search needs) returns)

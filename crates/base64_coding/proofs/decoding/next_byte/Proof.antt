@@ -4,15 +4,6 @@ use Rattle.base64_coding.proofs.Fours.{next-none, next-there}
 use Rattle.base64_coding.proofs.decoding.next_byte.Statement.{statement}
 use Rattle.base64_coding.proofs.decoding.next_byte.Tie as tie
 
-skip-white-requires : tie.Need-skip-white-requires
-skip-white-requires c κs = search needs
-
-shared-slice-read-t7 : tie.Need-shared-slice-read-t7
-shared-slice-read-t7 c = search needs
-
-add-t8 : tie.Need-add-t8
-add-t8 c = search needs
-
 returns : tie.Need-returns
 returns c = next-there _ _ _ (c .before .before .skip-white .ensures) (c .before .if1 .taken)
 
@@ -20,4 +11,4 @@ returns-2 : tie.Need-returns-2
 returns-2 c = next-none _ _ _ (c .before .skip-white .ensures) (c .if1 .left)
 
 pub next-byte-spec : {M : Type 1} → statement M
-next-byte-spec = tie.close (tie.spec skip-white-requires shared-slice-read-t7 add-t8 returns returns-2)
+next-byte-spec = tie.close (tie.spec (λ c κs. search needs) (λ c. search needs) (λ c. search needs) returns returns-2)

@@ -42,26 +42,11 @@ no-more c = at-end _ _ _ (c .before .before .next-byte5 .ensures) (c .enum-told5
 
 -- ---- the needs
 
-next-byte-requires : tie.Need-next-byte-requires
-next-byte-requires c κs = search needs
-
-enum-known-a : tie.Need-enum-known-a
-enum-known-a c = search needs
-
-enum-told : tie.Need-enum-told
-enum-told c = search needs
-
 returns : tie.Need-returns
 returns c = four-none _ _ (search needs) (at-end _ _ _ (c .before .before .next-byte .ensures) (c .enum-told .given .1))
 
 next-byte-requires-2 : tie.Need-next-byte-requires-2
 next-byte-requires-2 c κs = one c .within
-
-enum-known-b : tie.Need-enum-known-b
-enum-known-b c = search needs
-
-enum-told-2 : tie.Need-enum-told-2
-enum-told-2 c = search needs
 
 returns-2 : tie.Need-returns-2
 unfolding fours
@@ -70,12 +55,6 @@ returns-2 c = four-short _ _ _ _ (one (c .before .before .before)) (at-end _ _ _
 next-byte-requires-3 : tie.Need-next-byte-requires-3
 next-byte-requires-3 c κs = two c .within
 
-enum-known-c : tie.Need-enum-known-c
-enum-known-c c = search needs
-
-enum-told-3 : tie.Need-enum-told-3
-enum-told-3 c = search needs
-
 returns-3 : tie.Need-returns-3
 unfolding fours
 returns-3 c = four-short _ _ _ _ (two (c .before .before .before)) (at-end _ _ _ (c .before .before .next-byte3 .ensures) (c .enum-told3 .given .1)) refl
@@ -83,18 +62,9 @@ returns-3 c = four-short _ _ _ _ (two (c .before .before .before)) (at-end _ _ _
 next-byte-requires-4 : tie.Need-next-byte-requires-4
 next-byte-requires-4 c κs = three c .within
 
-enum-known-d : tie.Need-enum-known-d
-enum-known-d c = search needs
-
-enum-told-4 : tie.Need-enum-told-4
-enum-told-4 c = search needs
-
 returns-4 : tie.Need-returns-4
 unfolding fours
 returns-4 c = four-short _ _ _ _ (three (c .before .before .before)) (at-end _ _ _ (c .before .before .next-byte4 .ensures) (c .enum-told4 .given .1)) refl
-
-three-bytes-requires : tie.Need-three-bytes-requires
-three-bytes-requires c κs = search needs
 
 returns-5 : tie.Need-returns-5
 unfolding isPad
@@ -104,19 +74,10 @@ returns-5 c =
 next-byte-requires-5 : tie.Need-next-byte-requires-5
 next-byte-requires-5 c κs = all4 (c .before) .within
 
-enum-told-5 : tie.Need-enum-told-5
-enum-told-5 c = search needs
-
-enum-told-6 : tie.Need-enum-told-6
-enum-told-6 c = search needs
-
 returns-6 : tie.Need-returns-6
 returns-6 c =
     four-inside _ _ _ _ _ _ _ (all4 (c .before .before .before .before)) _ _ (c .before .before .before .if1 .left)
     (at-byte _ _ _ _ _ (c .before .before .next-byte5 .ensures) (c .enum-told6 .given .1))
-
-two-bytes-requires : tie.Need-two-bytes-requires
-two-bytes-requires c κs = search needs
 
 returns-7 : tie.Need-returns-7
 unfolding isPad
@@ -124,9 +85,6 @@ returns-7 c =
     subst (FourIs _ _) (sym (c .two-bytes .ensures))
     (four-two _ _ _ _ _ _ _ (all4 (c .before .before .before .before .before .before)) (c .before .before .before .before .before .if1 .left)
     (no-more (c .before .before)) (ne-eqb _ _ (c .before .if2 .taken)))
-
-one-byte-requires : tie.Need-one-byte-requires
-one-byte-requires c κs = search needs
 
 returns-8 : tie.Need-returns-8
 returns-8 c =
@@ -138,29 +96,29 @@ pub next-four-spec : {M : Type 1} → statement M
 next-four-spec =
     tie.close
     (tie.spec
-    next-byte-requires
-    enum-known-a
-    enum-told
+    (λ c κs. search needs)
+    (λ c. search needs)
+    (λ c. search needs)
     returns
     next-byte-requires-2
-    enum-known-b
-    enum-told-2
+    (λ c. search needs)
+    (λ c. search needs)
     returns-2
     next-byte-requires-3
-    enum-known-c
-    enum-told-3
+    (λ c. search needs)
+    (λ c. search needs)
     returns-3
     next-byte-requires-4
-    enum-known-d
-    enum-told-4
+    (λ c. search needs)
+    (λ c. search needs)
     returns-4
-    three-bytes-requires
+    (λ c κs. search needs)
     returns-5
     next-byte-requires-5
-    enum-told-5
-    enum-told-6
+    (λ c. search needs)
+    (λ c. search needs)
     returns-6
-    two-bytes-requires
+    (λ c κs. search needs)
     returns-7
-    one-byte-requires
+    (λ c κs. search needs)
     returns-8)

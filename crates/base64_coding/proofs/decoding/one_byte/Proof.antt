@@ -8,12 +8,6 @@ use native.Mathlib.Omega.{arith}
 use Rattle.base64_coding.proofs.decoding.one_byte.Statement.{statement}
 use Rattle.base64_coding.proofs.decoding.one_byte.Tie as tie
 
-letter-value-requires : tie.Need-letter-value-requires
-letter-value-requires c κs = search needs
-
-letter-value-requires-2 : tie.Need-letter-value-requires-2
-letter-value-requires-2 c κs = search needs
-
 returns : tie.Need-returns
 unfolding oneByte
 returns c = rw (no-letter _ _ (c .before .before .letter-value .ensures) (c .if1 .taken))
@@ -33,12 +27,6 @@ returns-3 c = rw (
   ne-eqb (c .before .before .before .letter-value2 .result % 16) 0 (omega arith),
 )
 
-mul-t7 : tie.Need-mul-t7
-mul-t7 c = search needs
-
-add-t9 : tie.Need-add-t9
-add-t9 c = search needs
-
 returns-4 : tie.Need-returns-4
 unfolding oneByte
 returns-4 c = rw (
@@ -50,4 +38,4 @@ returns-4 c = rw (
 pub one-byte-spec : {M : Type 1} → statement M
 one-byte-spec =
     tie.close
-    (tie.spec letter-value-requires letter-value-requires-2 returns returns-2 returns-3 mul-t7 add-t9 returns-4)
+    (tie.spec (λ c κs. search needs) (λ c κs. search needs) returns returns-2 returns-3 (λ c. search needs) (λ c. search needs) returns-4)

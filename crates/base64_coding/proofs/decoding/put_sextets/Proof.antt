@@ -33,27 +33,6 @@ small c =
 loop-holds : tie.Need-loop-holds Inv-loop μ-loop
 loop-holds c = (search needs, refl, refl, refl, refl)
 
-element-copy-out-w : tie.Need-element-copy-out-w Inv-loop μ-loop
-element-copy-out-w c = search needs
-
-add-x : tie.Need-add-x Inv-loop μ-loop
-add-x c = search needs
-
-element-copy-out-x : tie.Need-element-copy-out-x Inv-loop μ-loop
-element-copy-out-x c = search needs
-
-add-y : tie.Need-add-y Inv-loop μ-loop
-add-y c = search needs
-
-element-copy-out-y : tie.Need-element-copy-out-y Inv-loop μ-loop
-element-copy-out-y c = search needs
-
-add-z : tie.Need-add-z Inv-loop μ-loop
-add-z c = search needs
-
-element-copy-out-z : tie.Need-element-copy-out-z Inv-loop μ-loop
-element-copy-out-z c = search needs
-
 mul-put3 : tie.Need-mul-put3 Inv-loop μ-loop
 mul-put3 c = let s = small c in omega arith
 
@@ -72,18 +51,6 @@ mul-put3-3 c = let s = small c in omega arith
 add-put3-3 : tie.Need-add-put3-3 Inv-loop μ-loop
 add-put3-3 c = let s = small c in omega arith
 
-put3-requires : tie.Need-put3-requires Inv-loop μ-loop
-put3-requires c κs = search needs
-
-add-k : tie.Need-add-k Inv-loop μ-loop
-add-k c = search needs
-
-add-o : tie.Need-add-o Inv-loop μ-loop
-add-o c = search needs
-
-loop-less : tie.Need-loop-less Inv-loop μ-loop
-loop-less c = search needs
-
 loop-again : tie.Need-loop-again Inv-loop μ-loop
 loop-again c =
     let at-loop = c .before .before .before .before .before .before .before .before .before in
@@ -96,9 +63,6 @@ loop-again c =
       c .before .before .put3 .kept .0 ∙ at-loop .loop .inv .3,
       ap (λ (z : List ℕ). sets z (at-loop .loop .o + 3) (bytesOfSextets (drop (k + 4) t))) (c .before .before .put3 .ensures) ∙ pack-turn t _ k _ (omega arith) ∙ at-loop .loop .inv .4,
     )
-
-same-length : tie.Need-same-length Inv-loop μ-loop
-same-length c = search needs
 
 returns : tie.Need-returns Inv-loop μ-loop
 unfolding bytesOfSextets
@@ -113,23 +77,23 @@ put-sextets-spec =
     Inv-loop
     μ-loop
     loop-holds
-    element-copy-out-w
-    add-x
-    element-copy-out-x
-    add-y
-    element-copy-out-y
-    add-z
-    element-copy-out-z
+    (λ c. search needs)
+    (λ c. search needs)
+    (λ c. search needs)
+    (λ c. search needs)
+    (λ c. search needs)
+    (λ c. search needs)
+    (λ c. search needs)
     mul-put3
     add-put3
     mul-put3-2
     add-put3-2
     mul-put3-3
     add-put3-3
-    put3-requires
-    add-k
-    add-o
-    loop-less
+    (λ c κs. search needs)
+    (λ c. search needs)
+    (λ c. search needs)
+    (λ c. search needs)
     loop-again
-    same-length
+    (λ c. search needs)
     returns)

@@ -5,18 +5,6 @@ use borrow.Author.Needs.{needs}
 use Rattle.base64_coding.proofs.decoding.three_bytes.Statement.{statement}
 use Rattle.base64_coding.proofs.decoding.three_bytes.Tie as tie
 
-letter-value-requires : tie.Need-letter-value-requires
-letter-value-requires c κs = search needs
-
-letter-value-requires-2 : tie.Need-letter-value-requires-2
-letter-value-requires-2 c κs = search needs
-
-letter-value-requires-3 : tie.Need-letter-value-requires-3
-letter-value-requires-3 c κs = search needs
-
-letter-value-requires-4 : tie.Need-letter-value-requires-4
-letter-value-requires-4 c κs = search needs
-
 returns : tie.Need-returns
 unfolding threeBytes
 returns c = rw (no-letter _ _ (c .before .before .before .before .letter-value .ensures) (c .if1 .taken))
@@ -45,24 +33,6 @@ returns-4 c = rw (
   no-letter _ _ (c .before .before .before .before .letter-value4 .ensures) (c .if4 .taken),
 )
 
-mul-t11 : tie.Need-mul-t11
-mul-t11 c = search needs
-
-add-t13 : tie.Need-add-t13
-add-t13 c = search needs
-
-mul-t15 : tie.Need-mul-t15
-mul-t15 c = search needs
-
-add-t17 : tie.Need-add-t17
-add-t17 c = search needs
-
-mul-t19 : tie.Need-mul-t19
-mul-t19 c = search needs
-
-add-t20 : tie.Need-add-t20
-add-t20 c = search needs
-
 returns-5 : tie.Need-returns-5
 unfolding threeBytes
 returns-5 c = rw (
@@ -76,18 +46,18 @@ pub three-bytes-spec : {M : Type 1} → statement M
 three-bytes-spec =
     tie.close
     (tie.spec
-    letter-value-requires
-    letter-value-requires-2
-    letter-value-requires-3
-    letter-value-requires-4
+    (λ c κs. search needs)
+    (λ c κs. search needs)
+    (λ c κs. search needs)
+    (λ c κs. search needs)
     returns
     returns-2
     returns-3
     returns-4
-    mul-t11
-    add-t13
-    mul-t15
-    add-t17
-    mul-t19
-    add-t20
+    (λ c. search needs)
+    (λ c. search needs)
+    (λ c. search needs)
+    (λ c. search needs)
+    (λ c. search needs)
+    (λ c. search needs)
     returns-5)

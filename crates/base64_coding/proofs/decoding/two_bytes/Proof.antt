@@ -8,15 +8,6 @@ use native.Mathlib.Omega.{arith}
 use Rattle.base64_coding.proofs.decoding.two_bytes.Statement.{statement}
 use Rattle.base64_coding.proofs.decoding.two_bytes.Tie as tie
 
-letter-value-requires : tie.Need-letter-value-requires
-letter-value-requires c κs = search needs
-
-letter-value-requires-2 : tie.Need-letter-value-requires-2
-letter-value-requires-2 c κs = search needs
-
-letter-value-requires-3 : tie.Need-letter-value-requires-3
-letter-value-requires-3 c κs = search needs
-
 returns : tie.Need-returns
 unfolding twoBytes
 returns c = rw (no-letter _ _ (c .before .before .before .letter-value .ensures) (c .if1 .taken))
@@ -45,18 +36,6 @@ returns-4 c = rw (
   ne-eqb (c .before .before .before .before .letter-value3 .result % 4) 0 (omega arith),
 )
 
-mul-t9 : tie.Need-mul-t9
-mul-t9 c = search needs
-
-add-t11 : tie.Need-add-t11
-add-t11 c = search needs
-
-mul-t13 : tie.Need-mul-t13
-mul-t13 c = search needs
-
-add-t15 : tie.Need-add-t15
-add-t15 c = search needs
-
 returns-5 : tie.Need-returns-5
 unfolding twoBytes
 returns-5 c = rw (
@@ -70,15 +49,15 @@ pub two-bytes-spec : {M : Type 1} → statement M
 two-bytes-spec =
     tie.close
     (tie.spec
-    letter-value-requires
-    letter-value-requires-2
-    letter-value-requires-3
+    (λ c κs. search needs)
+    (λ c κs. search needs)
+    (λ c κs. search needs)
     returns
     returns-2
     returns-3
     returns-4
-    mul-t9
-    add-t11
-    mul-t13
-    add-t15
+    (λ c. search needs)
+    (λ c. search needs)
+    (λ c. search needs)
+    (λ c. search needs)
     returns-5)

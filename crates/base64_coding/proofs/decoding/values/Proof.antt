@@ -18,21 +18,6 @@ abbrev μ-loop : tie.MeasureT-loop
 loop-holds : tie.Need-loop-holds Inv-loop μ-loop
 loop-holds c = (search needs, search needs, record { each = refl; bounded = tt })
 
-shared-slice-read-letter-value : tie.Need-shared-slice-read-letter-value Inv-loop μ-loop
-shared-slice-read-letter-value c = search needs
-
-letter-value-requires : tie.Need-letter-value-requires Inv-loop μ-loop
-letter-value-requires c κs = search needs
-
-element-write-t : tie.Need-element-write-t Inv-loop μ-loop
-element-write-t c = search needs
-
-add-k : tie.Need-add-k Inv-loop μ-loop
-add-k c = search needs
-
-loop-less : tie.Need-loop-less Inv-loop μ-loop
-loop-less c = search needs
-
 loop-again : tie.Need-loop-again Inv-loop μ-loop
 loop-again c =
     let at-loop = c .before .before .before .before in
@@ -50,10 +35,10 @@ values-spec =
     Inv-loop
     μ-loop
     loop-holds
-    shared-slice-read-letter-value
-    letter-value-requires
-    element-write-t
-    add-k
-    loop-less
+    (λ c. search needs)
+    (λ c κs. search needs)
+    (λ c. search needs)
+    (λ c. search needs)
+    (λ c. search needs)
     loop-again
     returns)

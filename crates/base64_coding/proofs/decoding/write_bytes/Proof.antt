@@ -68,15 +68,6 @@ loop-again c =
       sixteen-buffer b long _ _ _ _ _ (inv .3) (at-put .put-sextets .ensures) (inv .4),
     )
 
-next-four-requires : tie.Need-next-four-requires Inv-loop μ-loop
-next-four-requires c κs = search needs
-
-enum-known-count : tie.Need-enum-known-count Inv-loop μ-loop
-enum-known-count c = search needs
-
-enum-told : tie.Need-enum-told Inv-loop μ-loop
-enum-told c = search needs
-
 same-length : tie.Need-same-length Inv-loop μ-loop
 same-length c = c .before .before .before .before .before .before .loop .inv .2
 
@@ -136,9 +127,9 @@ write-bytes-spec =
     add-n
     loop-less
     loop-again
-    next-four-requires
-    enum-known-count
-    enum-told
+    (λ c κs. search needs)
+    (λ c. search needs)
+    (λ c. search needs)
     same-length
     returns
     put-some-requires

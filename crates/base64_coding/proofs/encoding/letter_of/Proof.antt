@@ -8,15 +8,6 @@ use Rattle.base64_coding.proofs.Alphabet.{letter-digit, letter-lower, l
 use Rattle.base64_coding.proofs.encoding.letter_of.Statement.{statement}
 use Rattle.base64_coding.proofs.encoding.letter_of.Tie as tie
 
-add-r : tie.Need-add-r
-add-r c = search needs
-
-add-r-2 : tie.Need-add-r-2
-add-r-2 c = search needs
-
-sub-r : tie.Need-sub-r
-sub-r c = search needs
-
 returns : tie.Need-returns
 unfolding letter
 returns c = sym (ap letter (c .if4 .taken))
@@ -36,4 +27,4 @@ returns-2 c =
     (b3 .if3 .came)
 
 pub letter-of-spec : {M : Type 1} → statement M
-letter-of-spec = tie.close (tie.spec add-r add-r-2 sub-r returns returns-2)
+letter-of-spec = tie.close (tie.spec (λ c. search needs) (λ c. search needs) (λ c. search needs) returns returns-2)

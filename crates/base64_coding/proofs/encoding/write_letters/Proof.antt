@@ -21,27 +21,6 @@ abbrev μ-loop : tie.MeasureT-loop
 loop-holds : tie.Need-loop-holds Inv-loop μ-loop
 loop-holds c = (search needs, refl, omega arith, refl)
 
-sub-loop : tie.Need-sub-loop Inv-loop μ-loop
-sub-loop c = search needs
-
-shared-slice-read-letters-of : tie.Need-shared-slice-read-letters-of Inv-loop μ-loop
-shared-slice-read-letters-of c = search needs
-
-add-letters-of : tie.Need-add-letters-of Inv-loop μ-loop
-add-letters-of c = search needs
-
-shared-slice-read-letters-of-2 : tie.Need-shared-slice-read-letters-of-2 Inv-loop μ-loop
-shared-slice-read-letters-of-2 c = search needs
-
-add-letters-of-2 : tie.Need-add-letters-of-2 Inv-loop μ-loop
-add-letters-of-2 c = search needs
-
-shared-slice-read-letters-of-3 : tie.Need-shared-slice-read-letters-of-3 Inv-loop μ-loop
-shared-slice-read-letters-of-3 c = search needs
-
-letters-of-requires : tie.Need-letters-of-requires Inv-loop μ-loop
-letters-of-requires c κs = search needs
-
 put4-requires : tie.Need-put4-requires Inv-loop μ-loop
 put4-requires c κs =
     let at-loop = c .before .before .before .before .before .before in
@@ -49,15 +28,6 @@ put4-requires c κs =
     let i = at-loop .loop .i in
     let room = at-loop .loop .inv .2 in
     let l = length3 s i (omega arith) in omega arith
-
-add-i : tie.Need-add-i Inv-loop μ-loop
-add-i c = search needs
-
-add-o : tie.Need-add-o Inv-loop μ-loop
-add-o c = search needs
-
-loop-less : tie.Need-loop-less Inv-loop μ-loop
-loop-less c = search needs
 
 loop-again : tie.Need-loop-again Inv-loop μ-loop
 loop-again c =
@@ -73,15 +43,6 @@ loop-again c =
           ∙ turn3 s _ i _ _ (omega arith) (c .before .before .before .before .letters-of .ensures) ∙ at-loop .loop .inv .3,
     )
 
-sub-left : tie.Need-sub-left Inv-loop μ-loop
-sub-left c = search needs
-
-shared-slice-read-letters-of-4 : tie.Need-shared-slice-read-letters-of-4 Inv-loop μ-loop
-shared-slice-read-letters-of-4 c = search needs
-
-letters-of-requires-2 : tie.Need-letters-of-requires-2 Inv-loop μ-loop
-letters-of-requires-2 c κs = search needs
-
 put4-requires-2 : tie.Need-put4-requires-2 Inv-loop μ-loop
 put4-requires-2 c κs =
     let at-loop = c .before .before .before .before .before in
@@ -89,9 +50,6 @@ put4-requires-2 c κs =
     let i = at-loop .loop .i in
     let room = at-loop .loop .inv .2 in
     let l = length1 s i (omega arith) in omega arith
-
-same-length : tie.Need-same-length Inv-loop μ-loop
-same-length c = search needs
 
 returns : tie.Need-returns Inv-loop μ-loop
 returns c =
@@ -101,18 +59,6 @@ returns c =
     let room = at-loop .loop .inv .2 in
     c .before .before .put42 .ensures ∙ turn1 s _ i _ _ (omega arith) (c .before .before .before .before .letters-of2 .ensures) ∙ at-loop .loop .inv .3
 
-shared-slice-read-letters-of-5 : tie.Need-shared-slice-read-letters-of-5 Inv-loop μ-loop
-shared-slice-read-letters-of-5 c = search needs
-
-add-letters-of-3 : tie.Need-add-letters-of-3 Inv-loop μ-loop
-add-letters-of-3 c = search needs
-
-shared-slice-read-letters-of-6 : tie.Need-shared-slice-read-letters-of-6 Inv-loop μ-loop
-shared-slice-read-letters-of-6 c = search needs
-
-letters-of-requires-3 : tie.Need-letters-of-requires-3 Inv-loop μ-loop
-letters-of-requires-3 c κs = search needs
-
 put4-requires-3 : tie.Need-put4-requires-3 Inv-loop μ-loop
 put4-requires-3 c κs =
     let at-loop = c .before .before .before .before .before .before .before in
@@ -121,9 +67,6 @@ put4-requires-3 c κs =
     let room = at-loop .loop .inv .2 in
     let l = length2 s i (omega arith) in omega arith
 
-same-length-2 : tie.Need-same-length-2 Inv-loop μ-loop
-same-length-2 c = search needs
-
 returns-2 : tie.Need-returns-2 Inv-loop μ-loop
 returns-2 c =
     let at-loop = c .before .before .before .before .before .before .before .before .before .before in
@@ -131,9 +74,6 @@ returns-2 c =
     let i = at-loop .loop .i in
     let room = at-loop .loop .inv .2 in
     c .before .before .put43 .ensures ∙ turn2 s _ i _ _ (omega arith) (c .before .before .before .before .letters-of3 .ensures) ∙ at-loop .loop .inv .3
-
-same-length-3 : tie.Need-same-length-3 Inv-loop μ-loop
-same-length-3 c = search needs
 
 returns-3 : tie.Need-returns-3 Inv-loop μ-loop
 returns-3 c =
@@ -150,30 +90,30 @@ write-letters-spec =
     Inv-loop
     μ-loop
     loop-holds
-    sub-loop
-    shared-slice-read-letters-of
-    add-letters-of
-    shared-slice-read-letters-of-2
-    add-letters-of-2
-    shared-slice-read-letters-of-3
-    letters-of-requires
+    (λ c. search needs)
+    (λ c. search needs)
+    (λ c. search needs)
+    (λ c. search needs)
+    (λ c. search needs)
+    (λ c. search needs)
+    (λ c κs. search needs)
     put4-requires
-    add-i
-    add-o
-    loop-less
+    (λ c. search needs)
+    (λ c. search needs)
+    (λ c. search needs)
     loop-again
-    sub-left
-    shared-slice-read-letters-of-4
-    letters-of-requires-2
+    (λ c. search needs)
+    (λ c. search needs)
+    (λ c κs. search needs)
     put4-requires-2
-    same-length
+    (λ c. search needs)
     returns
-    shared-slice-read-letters-of-5
-    add-letters-of-3
-    shared-slice-read-letters-of-6
-    letters-of-requires-3
+    (λ c. search needs)
+    (λ c. search needs)
+    (λ c. search needs)
+    (λ c κs. search needs)
     put4-requires-3
-    same-length-2
+    (λ c. search needs)
     returns-2
-    same-length-3
+    (λ c. search needs)
     returns-3)

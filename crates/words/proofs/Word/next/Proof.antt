@@ -6,45 +6,6 @@ use borrow.Author.Needs.{needs}
 use Rattle.words.proofs.Word.next.Statement.{statement}
 use Rattle.words.proofs.Word.next.Tie as tie
 
-enum-told : tie.Need-enum-told
-enum-told c = search needs
-
-first-next-requires : tie.Need-first-next-requires
-first-next-requires c κs = search needs
-
-enum-told-2 : tie.Need-enum-told-2
-enum-told-2 c = search needs
-
-zero-next-requires : tie.Need-zero-next-requires
-zero-next-requires c κs = search needs
-
-enum-told-3 : tie.Need-enum-told-3
-enum-told-3 c = search needs
-
-decimal-next-requires : tie.Need-decimal-next-requires
-decimal-next-requires c κs = search needs
-
-enum-told-4 : tie.Need-enum-told-4
-enum-told-4 c = search needs
-
-decimal-next-requires-2 : tie.Need-decimal-next-requires-2
-decimal-next-requires-2 c κs = search needs
-
-enum-told-5 : tie.Need-enum-told-5
-enum-told-5 c = search needs
-
-decimal-next-requires-3 : tie.Need-decimal-next-requires-3
-decimal-next-requires-3 c κs = search needs
-
-enum-told-6 : tie.Need-enum-told-6
-enum-told-6 c = search needs
-
-hexadecimal-next-requires : tie.Need-hexadecimal-next-requires
-hexadecimal-next-requires c κs = search needs
-
-enum-told-7 : tie.Need-enum-told-7
-enum-told-7 c = search needs
-
 returns : tie.Need-returns
 unfolding nextWord
 returns c =
@@ -92,19 +53,19 @@ pub next-spec : {M : Type 1} → statement M
 next-spec =
     tie.close
     (tie.spec
-    enum-told
-    first-next-requires
-    enum-told-2
-    zero-next-requires
-    enum-told-3
-    decimal-next-requires
-    enum-told-4
-    decimal-next-requires-2
-    enum-told-5
-    decimal-next-requires-3
-    enum-told-6
-    hexadecimal-next-requires
-    enum-told-7
+    (λ c. search needs)
+    (λ c κs. search needs)
+    (λ c. search needs)
+    (λ c κs. search needs)
+    (λ c. search needs)
+    (λ c κs. search needs)
+    (λ c. search needs)
+    (λ c κs. search needs)
+    (λ c. search needs)
+    (λ c κs. search needs)
+    (λ c. search needs)
+    (λ c κs. search needs)
+    (λ c. search needs)
     returns
     returns-2
     returns-3
