@@ -213,7 +213,13 @@ fours-encode [] h = refl
 fours-encode (a ∷ []) h =
     rw (sextet-letter (a / 4) (omega arith), sextet-letter (a % 4 * 16) (omega arith), eq-eqb (a % 4 * 16 % 16) 0 (omega arith)) (ap (λ (x : ℕ). good (x ∷ [])) (omega arith))
 fours-encode (a ∷ b ∷ []) h =
-    rw (letter-not-pad (b % 16 * 4) (omega arith), sextet-letter (a / 4) (omega arith), sextet-letter (a % 4 * 16 + b / 16) (omega arith), sextet-letter (b % 16 * 4) (omega arith), eq-eqb (b % 16 * 4 % 4) 0 (omega arith))
+    rw (
+      letter-not-pad (b % 16 * 4) (omega arith),
+      sextet-letter (a / 4) (omega arith),
+      sextet-letter (a % 4 * 16 + b / 16) (omega arith),
+      sextet-letter (b % 16 * 4) (omega arith),
+      eq-eqb (b % 16 * 4 % 4) 0 (omega arith),
+    )
     (ap₂ (λ (x y : ℕ). good (x ∷ y ∷ [])) (omega arith) (omega arith))
 fours-encode (a ∷ b ∷ c ∷ []) h = rw (letter-not-pad (c % 64) (omega arith)) (three-back a b c (h .0) (h .1 .0) (h .1 .1 .0))
 fours-encode (a ∷ b ∷ c ∷ d ∷ s) h =

@@ -1,7 +1,1 @@
 pub mod Laws
-pub mod Alphabet
-pub mod Fours
-pub mod Blocks
-pub mod Turns
-pub mod Coding
-pub mod Calls

@@ -40,7 +40,7 @@ fn write_line(call: &[u8], input: &[u8], answer: Answer, out: &[u8]) {
 }
 
 fn decode_into(input: &[u8], out: &mut [u8]) {
-    let answer = base64::decode(input, out);
+    let answer = base64_coding::decode(input, out);
     write_line(b"decode ", input, answer, out);
 }
 
@@ -52,7 +52,7 @@ fn decode(input: &[u8], room: usize) {
 }
 
 fn encode_into(input: &[u8], out: &mut [u8]) {
-    let answer = base64::encode(input, out);
+    let answer = base64_coding::encode(input, out);
     write_line(b"encode ", input, answer, out);
 }
 
@@ -67,9 +67,9 @@ fn encode(input: &[u8], room: usize) {
 fn back(input: &[u8]) {
     let mut bytes = [0u8; 96];
     let mut out = [b'.'; 96];
-    let n = base64::decode(input, &mut bytes).bytes as usize;
+    let n = base64_coding::decode(input, &mut bytes).bytes as usize;
     if n <= 96 {
-        let answer = base64::encode(&bytes[..n], &mut out);
+        let answer = base64_coding::encode(&bytes[..n], &mut out);
         write_line(b"back ", input, answer, &out);
     }
 }

@@ -41,7 +41,7 @@ fn count_up_to(s: &[u8], at: usize, most: usize) -> Count
     if s.len() - at < 4 {
         return Count::Uncounted(8);
     }
-    let n = number::four_bytes(s, at) as usize;
+    let n = integers::four_bytes(s, at) as usize;
     if most < n {
         return Count::Uncounted(9);
     }
@@ -128,7 +128,7 @@ fn read_integers(part: &[u8], n: usize, kind: Integer, scratch: &mut [i64]) -> C
     let w = integer_bytes(kind);
     let mut k: usize = 0;
     while k < n {
-        let z = number::read_integer(part, k * w, kind);
+        let z = integers::read_integer(part, k * w, kind);
         scratch[k] = z;
         k += 1;
     }

@@ -144,8 +144,8 @@ fn put_count(len: Len, count: usize, out: &mut [u8], at: usize) -> usize
 {
     match len {
         Len::Fixed(_) => at,
-        Len::Bounded(_) => number::put_four(out, at, count as u32),
-        Len::Free => number::put_four(out, at, count as u32),
+        Len::Bounded(_) => integers::put_four(out, at, count as u32),
+        Len::Free => integers::put_four(out, at, count as u32),
     }
 }
 
@@ -183,7 +183,7 @@ fn put_integers(kind: Integer, count: usize, scratch: &[i64], out: &mut [u8], at
     let mut k: usize = 0;
     let mut o = at;
     while k < count {
-        o = number::write_integer(out, o, kind, scratch[k]);
+        o = integers::write_integer(out, o, kind, scratch[k]);
         k += 1;
     }
     o

@@ -18,7 +18,7 @@ use table::Len;
 use table::Null;
 use text::same_bytes;
 use text::skip_white;
-use words::Reading;
+use words::IntegerRead;
 
 // What an attribute's value says, or that it says nothing.
 enum KindRead {
@@ -164,9 +164,9 @@ fn null_word(word: &[u8], kind: Integer) -> NullRead
     ensures { λ r. ⌜ nullValue (isSigned kind) (widthOf kind) (now (word .entry) ∷ []) ≡ nullRead r ⌝ }
 {
     match words::read_word(word, kind) {
-        Reading::Value(z) => NullRead::Counts(Null::Declared(z)),
-        Reading::Outside => NullRead::Broken,
-        Reading::Unwritten => NullRead::Broken,
+        IntegerRead::Value(z) => NullRead::Counts(Null::Declared(z)),
+        IntegerRead::Outside => NullRead::Broken,
+        IntegerRead::Unwritten => NullRead::Broken,
     }
 }
 

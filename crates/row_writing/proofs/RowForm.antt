@@ -10,7 +10,7 @@ use mathlib.Core.Path.{_∙_, _≡_, ap, ap₂, refl, sym}
 use lib.ListN.{drop, drop-of-length-le, length, length-append}
 use lib.Seq.{length-sets, sets}
 use Rattle.binary.specs.Binary.{pack}
-use Rattle.number.proofs.Places.{sets-append, wrote-then}
+use Rattle.table.proofs.Wrote.{sets-append, wrote-then}
 use Rattle.number.specs.Number.{toDigits}
 use Rattle.row_reading.proofs.Parts.{cellThen, flags-next, push}
 use Rattle.row_writing.specs.Contracts.{Rewritten, cellBytes, cellForm, restOf, rowBytes, rowForm, startBytes}

@@ -53,7 +53,7 @@ pub extern "C" fn sailmortar_convert(
         *answer = NO_SUCH_KIND;
         return;
     };
-    put_answer(rows::convert(decls, source, target, input, out), answer);
+    put_answer(convert::convert(decls, source, target, input, out), answer);
 }
 
 // Base64 to bytes.
@@ -62,7 +62,7 @@ pub extern "C" fn sailmortar_base64_decode(input: &[u8], out: &mut [u8], answer:
     ensures numbers { λ _. ⌜ now (answer .exit) ≡ decodeFace (now (input .entry)) (now (out .entry)) .numbers ⌝ }
     ensures buffer { λ _. ⌜ now (out .exit) ≡ decodeFace (now (input .entry)) (now (out .entry)) .buffer ⌝ }
 {
-    put_answer(base64::decode(input, out), answer);
+    put_answer(base64_coding::decode(input, out), answer);
 }
 
 // Bytes to base64, without line breaks.
@@ -71,7 +71,7 @@ pub extern "C" fn sailmortar_base64_encode(input: &[u8], out: &mut [u8], answer:
     ensures numbers { λ _. ⌜ now (answer .exit) ≡ encodeFace (now (input .entry)) (now (out .entry)) .numbers ⌝ }
     ensures buffer { λ _. ⌜ now (out .exit) ≡ encodeFace (now (input .entry)) (now (out .entry)) .buffer ⌝ }
 {
-    put_answer(base64::encode(input, out), answer);
+    put_answer(base64_coding::encode(input, out), answer);
 }
 
 // Declarations alone: `answer` gets the number, 0, the place, how many columns are declared, and 0.

@@ -14,7 +14,7 @@ use Rattle.words.proofs.WordLaws.{fed-reads, feed-more}
 use Rattle.number.specs.Contracts.{isSigned, size}
 use Rattle.words.specs.Contracts.{IsPlain, QuickAt}
 use Rattle.number.specs.Number.{Fault, digit, hexadigit}
-use Rattle.words.specs.Words.{addDecimal, addHexadecimal, brokenWord, capped, decimalNext, feed, firstNext, fresh, hexadecimalNext, reading, stepFrom, word, zeroNext, step as letter}
+use Rattle.words.specs.Words.{addDecimal, addHexadecimal, brokenWord, capped, decimalNext, feed, firstNext, fresh, hexadecimalNext, nextFrom, reading, word, zeroNext, nextWord as letter}
 use Rattle.words.specs.declared.Form.{Form}
 use Rattle.words.specs.declared.Form.the-variants.{Decimal, Hexadecimal, Minus, Plus, Start, Zero}
 use Rattle.number.specs.declared.Integer.{Integer}
@@ -73,7 +73,7 @@ zero-begun : (c : ℕ) → begun (zeroNext c) ≡ true
 unfolding zeroNext
 zero-begun c = cond-cases (λ (x : Word). begun x ≡ true) (eqb c 120) (word Hexadecimal 0 0) (decimalNext Decimal 1 0 c) (λ _. refl) (λ _. decimal-begun Decimal 1 0 c refl)
 
-step-begun : (f : Form) (n v c : ℕ) → begun (stepFrom f n v c) ≡ true
+step-begun : (f : Form) (n v c : ℕ) → begun (nextFrom f n v c) ≡ true
 step-begun Start n v c = first-begun c
 step-begun Zero n v c = zero-begun c
 step-begun Decimal n v c = decimal-begun Decimal n v c refl

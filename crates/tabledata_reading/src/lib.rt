@@ -8,8 +8,8 @@ use table::Len;
 use tabledata::is_plain;
 use tabledata::is_text;
 use words::Form;
+use words::IntegerRead;
 use words::Quick;
-use words::Reading;
 use words::Word;
 ghost use Prim.Native.Nat.{_*_, _+_, _<_, _≤_};
 ghost use Rattle.number.specs.Contracts.{isSigned, size, widthOf};
@@ -647,9 +647,9 @@ fn add_integer(word: Word, kind: Integer, scratch: &mut [i64], count: usize) -> 
         return Added::To(count);
     }
     match word.read(kind) {
-        Reading::Outside => Added::NoWord,
-        Reading::Unwritten => Added::NoWord,
-        Reading::Value(z) => {
+        IntegerRead::Outside => Added::NoWord,
+        IntegerRead::Unwritten => Added::NoWord,
+        IntegerRead::Value(z) => {
             put(scratch, count, z);
             Added::To(count + 1)
         }

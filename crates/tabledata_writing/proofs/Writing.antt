@@ -1,20 +1,19 @@
--- A cell that is written: bytes behind bytes, the elements of each kind one after the other, and the length of it all. A loop that writes
--- keeps: what is still to be written here gives the buffer that the whole gives (`Left`).
+-- A cell that is written: the elements of each kind one after the other, and the length of it all.
 use Prim.Native.Nat.{_*_, _+_, _<_, _≤_, suc, zero, ℕ}
-use native.Mathlib.Numerals.{add-one, towards-suc}
+use native.Mathlib.Numerals.{add-one}
 use native.Mathlib.Omega.{arith}
 use mathlib.Core.Bool.{Bool, false, false≢true, true}
 use mathlib.Core.List.{List, [], _++_, _∷_, append-nil, map}
-use mathlib.Core.Path.{_∙_, _≡_, ap, refl, subst, sym}
+use mathlib.Core.Path.{_∙_, _≡_, ap, refl, sym}
 use lib.IntN.{negsuc, pos, ℤ}
-use lib.ListN.{drop, drop-of-length-le, getD, length, length-append, length-map, set, take}
-use lib.Seq.{drop-cons, getD-take, length-sets, length-take-le, sets}
+use lib.ListN.{drop, getD, length, length-append, length-map, set, take}
+use lib.Seq.{getD-take, length-take-le}
 use borrow.Author.Tests.{eq-eqb, ne-eqb}
 use mir.Syntax.{w64}
 use mir.Val.{ofZ, toZ}
-use Rattle.number.proofs.Laws.{digits-are}
 use Rattle.number.specs.Number.{shortest}
 use Rattle.table.proofs.Laws.{bad-good}
+use Rattle.table.proofs.Places.{done, element-at}
 use Rattle.table.specs.Bytes.{between, bytes}
 use Rattle.table.specs.Cell.{Cell, null, shown}
 use Rattle.table.specs.Contracts.{formBytes, sizeOf}
@@ -28,66 +27,16 @@ use Rattle.tabledata.specs.Contracts.{isPlain}
 use Rattle.tabledata_writing.specs.Contracts.{formSize, sizeWith}
 use Rattle.tabledata.specs.TableData.{bitText, close-TD, elementBytes, elementText, escaped, formOf, forms, isText, joined, open-TD, spaced, tagged, textBytes, truthText, writeText}
 
--- ---- writing
-
-pub sets-append : (l : List ℕ) (i : ℕ) (a b : List ℕ) → sets l i (a ++ b) ≡ sets (sets l i a) (i + length a) b
-sets-append l i [] b = ap (λ (n : ℕ). sets l n b) (omega arith)
-sets-append l i (v ∷ a) b = sets-append (set l i v) (suc i) a b ∙ ap (λ (n : ℕ). sets (sets (set l i v) (suc i) a) n b) (omega arith)
-
-pub wrote-long : {old new : List ℕ} {at next : ℕ} {b : List ℕ} → Wrote old at b new next → length new ≡ length old
-wrote-long {old} {new} {at} {next} {b} w = ap length (w .now-is) ∙ length-sets old at b
-
-pub wrote-then : {x y z : List ℕ} {i j k : ℕ} {a b : List ℕ} → Wrote x i a y j → Wrote y j b z k → Wrote x i (a ++ b) z k
-wrote-then {x} {y} {z} {i} {j} {k} {a} {b} p q = record {
-  now-is = q .now-is ∙ ap (λ (l : List ℕ). sets l j b) (p .now-is) ∙ ap (λ (n : ℕ). sets (sets x i a) n b) (p .next-is) ∙ sym (sets-append x i a b);
-  next-is = omega (arith, p .next-is, q .next-is, length-append a b);
-}
-
-pub wrote-one : (l : List ℕ) (i v : ℕ) → Wrote l i (v ∷ []) (set l i v) (i + 1)
-wrote-one l i v = record { now-is = refl; next-is = refl }
-
-pub wrote-none : (l : List ℕ) (i : ℕ) → Wrote l i [] l i
-wrote-none l i = record { now-is = refl; next-is = omega arith }
-
-pub wrote-as : {old new : List ℕ} {at next : ℕ} {a b : List ℕ} → a ≡ b → Wrote old at a new next → Wrote old at b new next
-wrote-as {old} {new} {at} {next} e w = subst (λ (t : List ℕ). Wrote old at t new next) e w
-
--- ---- a loop that writes: `rest` is still to be written at i
-
-pub record Left (old : List ℕ) (at : ℕ) (whole : List ℕ) (new : List ℕ) (i : ℕ) (rest : List ℕ) : Type 0 where
-  pub same-end : sets new i rest ≡ sets old at whole
-  pub same-next : i + length rest ≡ at + length whole
-  pub same-long : length new ≡ length old
-
-pub left-all : (old : List ℕ) (at : ℕ) (whole : List ℕ) → Left old at whole old at whole
-left-all old at whole = record { same-end = refl; same-next = refl; same-long = refl }
-
-pub left-step : {old new newer : List ℕ} {at i j : ℕ} {whole a rest more : List ℕ} → Left old at whole new i rest → rest ≡ a ++ more → Wrote new i a newer j → Left old at whole newer j more
-left-step {old} {new} {newer} {at} {i} {j} {whole} {a} {rest} {more} p e w = record {
-  same-end = ap (λ (l : List ℕ). sets l j more) (w .now-is) ∙ ap (λ (n : ℕ). sets (sets new i a) n more) (w .next-is) ∙ sym (sets-append new i a more) ∙ ap (sets new i) (sym e) ∙ p .same-end;
-  same-next = omega (arith, p .same-next, w .next-is, ap length e, length-append a more);
-  same-long = wrote-long w ∙ p .same-long;
-}
-
-pub left-none : {old new : List ℕ} {at i : ℕ} {whole rest : List ℕ} → Left old at whole new i rest → rest ≡ [] → Wrote old at whole new i
-left-none {old} {new} {at} {i} {whole} {rest} p e = record {
-  now-is = ap (sets new i) (sym e) ∙ p .same-end;
-  next-is = omega (arith, p .same-next, ap length e);
-}
-
 -- ---- elements one after the other
-
-pub part : (es : List ℤ) (k : ℕ) → k < length es → drop k es ≡ getD es k (pos 0) ∷ drop (k + 1) es
-part es k h = simp towards-suc (drop-cons es k (pos 0) h)
 
 module _ (f : ℤ → List ℕ) (es : List ℤ) (k : ℕ) where
   pub joined-more : k < length es → joined f (drop k es) ≡ f (getD es k (pos 0)) ++ joined f (drop (k + 1) es)
   unfolding joined
-  joined-more h = rw (part es k h)
+  joined-more h = rw (element-at es k (pos 0) h)
 
   pub joined-end : length es ≤ k → joined f (drop k es) ≡ []
   unfolding joined
-  joined-end h = rw (drop-of-length-le es h)
+  joined-end h = rw (done es k h)
 
 -- the elements of the scratch
 pub taken-at : (l : List ℤ) (n k : ℕ) → k < n → getD (take n l) k (pos 0) ≡ getD l k (pos 0)
@@ -147,7 +96,7 @@ charForm z = formBytes (formOf z)
 module _ (n : ℕ) (es : List ℤ) (k : ℕ) where
   pub size-more : (m : ℕ) → k < length es → sizeOf (formOf (getD es k (pos 0))) ≡ good m → sizeWith n (forms (drop k es)) ≡ sizeWith (n + m) (forms (drop (k + 1) es))
   unfolding sizeWith forms
-  size-more m h e = rw (part es k h) (go (formOf (getD es k (pos 0))) e (forms (drop (k + 1) es)))
+  size-more m h e = rw (element-at es k (pos 0) h) (go (formOf (getD es k (pos 0))) e (forms (drop (k + 1) es)))
     where
       go : (r : Result ℕ (List ℕ)) → sizeOf r ≡ good m → (q : Result ℕ (List ℕ)) → (r >>= (λ b. q >>= λ t. good (b ++ t)) >>= λ t. good (n + length t)) ≡ (q >>= λ t. good (n + m + length t))
       go (good b) i (good t) = ap good (let j : length b ≡ m = cc in omega (arith, length-append b t, j))
@@ -156,7 +105,7 @@ module _ (n : ℕ) (es : List ℤ) (k : ℕ) where
 
   pub size-bad : k < length es → sizeOf (formOf (getD es k (pos 0))) ≡ bad 16 → sizeWith n (forms (drop k es)) ≡ bad 16
   unfolding sizeWith forms
-  size-bad h e = rw (part es k h) (go (formOf (getD es k (pos 0))) e)
+  size-bad h e = rw (element-at es k (pos 0) h) (go (formOf (getD es k (pos 0))) e)
     where
       go : (r : Result ℕ (List ℕ)) → sizeOf r ≡ bad 16 → (r >>= (λ b. forms (drop (k + 1) es) >>= λ t. good (b ++ t)) >>= λ t. good (n + length t)) ≡ bad 16
       go (good b) i = absurd (bad-good (sym i))
@@ -164,7 +113,7 @@ module _ (n : ℕ) (es : List ℤ) (k : ℕ) where
 
   pub size-end : length es ≤ k → sizeWith n (forms (drop k es)) ≡ good n
   unfolding sizeWith forms
-  size-end h = rw (drop-of-length-le es h) (ap good (omega arith))
+  size-end h = rw (done es k h) (ap good (omega arith))
 
 pub formSize-none : (m : ℕ) → m ≡ 0 → formSize m ≡ bad 16
 unfolding formSize
@@ -173,11 +122,6 @@ formSize-none m e = rw (eq-eqb m 0 e)
 pub formSize-some : (m : ℕ) → (m ≡ 0 → ⊥) → formSize m ≡ good m
 unfolding formSize
 formSize-some m e = rw (ne-eqb m 0 e)
-
-pub shortest-le : (z : ℤ) → length (shortest z) ≤ 21
-unfolding shortest
-shortest-le (pos n) = omega (arith, digits-are 20 n .1)
-shortest-le (negsuc n) = omega (arith, digits-are 20 (suc n) .1)
 
 -- ---- the size of a whole cell
 
@@ -277,11 +221,6 @@ size-no c t = ap sizeOf (form-none c t)
 
 pub wrote-two : (l : List ℕ) (i a b : ℕ) → Wrote l i (a ∷ b ∷ []) (set (set l i a) (i + 1) b) (i + 2)
 wrote-two l i a b = record { now-is = ap (λ (n : ℕ). set (set l i a) n b) (add-one i); next-is = refl }
-
--- ---- room
-
-pub left-room : {old new : List ℕ} {at i : ℕ} {whole rest : List ℕ} → Left old at whole new i rest → (a more : List ℕ) → rest ≡ a ++ more → at + length whole ≤ length old → i + length a ≤ length new
-left-room p a more e h = omega (arith, p .same-next, p .same-long, ap length e, length-append a more)
 
 -- a char that stands for itself, and one that is left out
 pub char-itself : (c : ℕ) → isText c ≡ true → (c ≡ 38 → ⊥) → (c ≡ 60 → ⊥) → (c ≡ 62 → ⊥) → (c ≡ 13 → ⊥) → charForm (pos c) ≡ c ∷ []

@@ -4,6 +4,7 @@ use table::Kind;
 use table::Size;
 use tabledata::is_plain;
 use tabledata::is_text;
+use text::put_bytes;
 ghost use Prim.Native.Nat.{_+_, _≤_};
 ghost use Rattle.number.specs.Number.{shortest};
 ghost use Rattle.table.specs.Bytes.{bytes};
@@ -69,7 +70,7 @@ fn integers_size(count: usize, scratch: &[i64]) -> usize
     let mut size = 8;
     let mut k = 0;
     while k < count {
-        size += 1 + number::shortest_length(scratch[k]);
+        size += 1 + decimals::shortest_length(scratch[k]);
         k += 1;
     }
     size
@@ -99,18 +100,6 @@ pub fn size_text(column: Column, null: bool, count: usize, scratch: &[i64]) -> S
 }
 
 // ---- a cell is written
-
-fn put_bytes(out: &mut [u8], at: usize, word: &[u8]) -> usize
-    requires { ⌜ at + length (now word) ≤ length (now out) ⌝ }
-    ensures { λ r. ⌜ Wrote (now (out .entry)) at (now (word .entry)) (now (out .exit)) r ⌝ }
-{
-    let mut k = 0;
-    while k < word.len() {
-        out[at + k] = word[k];
-        k += 1;
-    }
-    at + k
-}
 
 // "Char writes `&amp;`, `&lt;`, `&gt;` and `&#xD;`"; a code with no form is left out.
 fn put_escaped(out: &mut [u8], at: usize, c: u32) -> usize
@@ -225,7 +214,7 @@ fn more_integers(count: usize, scratch: &[i64], out: &mut [u8], at: usize) -> us
     let mut k = 1;
     while k < count {
         out[i] = 32;
-        i = number::write_shortest(out, i + 1, scratch[k]);
+        i = decimals::write_shortest(out, i + 1, scratch[k]);
         k += 1;
     }
     i
@@ -238,7 +227,7 @@ fn put_integers(count: usize, scratch: &[i64], out: &mut [u8], at: usize) -> usi
     if count == 0 {
         return at;
     }
-    let next = number::write_shortest(out, at, scratch[0]);
+    let next = decimals::write_shortest(out, at, scratch[0]);
     more_integers(count, scratch, out, next)
 }
 

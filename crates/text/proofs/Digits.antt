@@ -1,11 +1,13 @@
 -- What a byte is worth as a digit of base 16 and of base 10: the three ranges of digit_value, and what lies around them.
-use Prim.Native.Nat.{_-_, _≤_, ℕ}
+use Prim.Native.Nat.{_-_, _<_, _≤_, ℕ}
 use native.Mathlib.Omega.{arith}
+use mathlib.Core.Path.{_∙_, _≡_}
 use lib.Dec.{lit≤}
 use borrow.Author.Tests.{le-ltb, lt-ltb}
-use Rattle.number.specs.Number.{digit, hexadigit}
+use Rattle.number.specs.Number.{Unwritten, digit, hexadigit}
 use Rattle.table.proofs.Bytes.{between-no}
 use Rattle.table.proofs.Laws.{between-yes}
+use Rattle.table.specs.Result.{bad, good}
 use Rattle.text.specs.Contracts.{DigitIs, digitIn}
 
 pub digit-low : (c : ℕ) → 48 ≤ c → c ≤ 57 → DigitIs c (c - 48)
@@ -39,3 +41,12 @@ digit-none c x y z = record {
   deci = rw (between-no 48 57 c x);
   low = lit≤ tt;
 }
+
+-- a hexadigit by its value
+pub hexadigit-is : {c d : ℕ} → DigitIs c d → d < 16 → hexadigit c ≡ good d
+unfolding digitIn
+hexadigit-is {c} {d} w h = w .hexa ∙ rw (lt-ltb d 16 h)
+
+pub hexadigit-no : {c d : ℕ} → DigitIs c d → 16 ≤ d → hexadigit c ≡ bad Unwritten
+unfolding digitIn
+hexadigit-no {c} {d} w h = w .hexa ∙ rw (le-ltb d 16 h)

@@ -13,7 +13,7 @@ use lib.Seq.{drop-cons, getD-drop, length-take-le, take-suc}
 use Rattle.number.proofs.Laws.{IsDigit, digit-lt, numeral-append, plain-read, value-lt}
 use Rattle.words.proofs.WordLaws.{after-minus, decimal-parts, down-in, up-in}
 use Rattle.number.specs.Contracts.{isSigned, size}
-use Rattle.words.specs.Contracts.{IsPlain, QuickAt, RunAt, run, top}
+use Rattle.words.specs.Contracts.{IsPlain, QuickAt, DigitsAt, leadingDigits, top}
 use Rattle.number.specs.Number.{decimal, digit, numeral, ranged, readInteger, withSign}
 use Rattle.table.proofs.Laws.{all-weaken, between-is, between-yes, cond-cases, holds-at}
 use Rattle.table.specs.All.{All}
@@ -24,42 +24,42 @@ use Rattle.number.specs.declared.Integer.{Integer}
 
 -- ---- a run
 
-pub run-le : (n : ℕ) (s : List ℕ) → (run n s ≤ n) × (run n s ≤ length s)
-unfolding run
-run-le zero s = (zero-le, zero-le)
-run-le (suc n) [] = (zero-le, zero-le)
-run-le (suc n) (b ∷ s) =
-    cond-cases (λ (k : ℕ). (k ≤ suc n) × (k ≤ suc (length s))) (between 48 57 b) (suc (run n s)) 0
-    (λ _. (omega (arith, run-le n s), omega (arith, run-le n s))) (λ _. (zero-le, zero-le))
+pub leading-le : (n : ℕ) (s : List ℕ) → (leadingDigits n s ≤ n) × (leadingDigits n s ≤ length s)
+unfolding leadingDigits
+leading-le zero s = (zero-le, zero-le)
+leading-le (suc n) [] = (zero-le, zero-le)
+leading-le (suc n) (b ∷ s) =
+    cond-cases (λ (k : ℕ). (k ≤ suc n) × (k ≤ suc (length s))) (between 48 57 b) (suc (leadingDigits n s)) 0
+    (λ _. (omega (arith, leading-le n s), omega (arith, leading-le n s))) (λ _. (zero-le, zero-le))
 
-pub run-digits : (n : ℕ) (s : List ℕ) → All IsDigit (take (run n s) s)
-unfolding run
-run-digits zero s = tt
-run-digits (suc n) [] = tt
-run-digits (suc n) (b ∷ s) =
-    cond-cases (λ (k : ℕ). All IsDigit (take k (b ∷ s))) (between 48 57 b) (suc (run n s)) 0
-    (λ e. (between-is 48 57 b e, run-digits n s)) (λ _. tt)
+pub leading-all : (n : ℕ) (s : List ℕ) → All IsDigit (take (leadingDigits n s) s)
+unfolding leadingDigits
+leading-all zero s = tt
+leading-all (suc n) [] = tt
+leading-all (suc n) (b ∷ s) =
+    cond-cases (λ (k : ℕ). All IsDigit (take k (b ∷ s))) (between 48 57 b) (suc (leadingDigits n s)) 0
+    (λ e. (between-is 48 57 b e, leading-all n s)) (λ _. tt)
 
 -- at a place: nothing is left, no digit is there, or a digit is
 module _ (s : List ℕ) (i : ℕ) where
-  pub run-zero : run 0 (drop i s) ≡ 0
-  unfolding run
-  run-zero = refl
+  pub leading-zero : leadingDigits 0 (drop i s) ≡ 0
+  unfolding leadingDigits
+  leading-zero = refl
 
-  pub run-out : (n : ℕ) → length s ≤ i → run n (drop i s) ≡ 0
-  run-out n h = rw (drop-of-length-le s h) (none n)
+  pub leading-out : (n : ℕ) → length s ≤ i → leadingDigits n (drop i s) ≡ 0
+  leading-out n h = rw (drop-of-length-le s h) (none n)
     where
-      none : (n : ℕ) → run n [] ≡ 0
-      none n = omega (arith, run-le n [])
+      none : (n : ℕ) → leadingDigits n [] ≡ 0
+      none n = omega (arith, leading-le n [])
 
-  pub run-stop : (n : ℕ) → i < length s → between 48 57 (getD s i 0) ≡ false → run n (drop i s) ≡ 0
-  unfolding run
-  run-stop zero h e = refl
-  run-stop (suc n) h e = rw (drop-cons s i 0 h, e)
+  pub leading-stop : (n : ℕ) → i < length s → between 48 57 (getD s i 0) ≡ false → leadingDigits n (drop i s) ≡ 0
+  unfolding leadingDigits
+  leading-stop zero h e = refl
+  leading-stop (suc n) h e = rw (drop-cons s i 0 h, e)
 
-  pub run-go : (n : ℕ) → i < length s → between 48 57 (getD s i 0) ≡ true → run (suc n) (drop i s) ≡ suc (run n (drop (i + 1) s))
-  unfolding run
-  run-go n h e = rw (drop-cons s i 0 h, e, add-one i)
+  pub leading-go : (n : ℕ) → i < length s → between 48 57 (getD s i 0) ≡ true → leadingDigits (suc n) (drop i s) ≡ suc (leadingDigits n (drop (i + 1) s))
+  unfolding leadingDigits
+  leading-go n h e = rw (drop-cons s i 0 h, e, add-one i)
 
 -- ---- the loop: what is behind, and what is still to come
 
@@ -83,9 +83,9 @@ module _ (s : List ℕ) (place i x : ℕ) (begun : place ≤ i) (so-far : numera
       omega (arith, holds-at (value-lt digit 10 digit-lt 0 (take (i - place) (drop place s))) so-far)
 
   -- the end
-  pub run-end : i + run (place + 18 - i) (drop i s) ≡ place + run 18 (drop place s) → run (place + 18 - i) (drop i s) ≡ 0 → RunAt s place x i
-  run-end all none =
-      let whole : run 18 (drop place s) ≡ i - place = omega arith in
+  pub leading-end : i + leadingDigits (place + 18 - i) (drop i s) ≡ place + leadingDigits 18 (drop place s) → leadingDigits (place + 18 - i) (drop i s) ≡ 0 → DigitsAt s place x i
+  leading-end all none =
+      let whole : leadingDigits 18 (drop place s) ≡ i - place = omega arith in
       record { next-is = omega arith; number-is = rw whole so-far }
 
 -- ---- what a run reads as
@@ -94,35 +94,37 @@ plain-digits : (s : List ℕ) → All IsDigit s → All IsPlain s
 plain-digits s h = all-weaken IsDigit IsPlain s (λ b d. (omega (arith, d .0), d .1)) h
 
 -- the characters of a run, from its record
-module _ (s : List ℕ) (place number next : ℕ) (at-most : place ≤ length s) (r : RunAt s place number next) (some : next ≡ place → ⊥) where
-  run-is : next - place ≡ run 18 (drop place s)
-  run-is = omega (arith, r .next-is)
+module _ (s : List ℕ) (place number next : ℕ) (at-most : place ≤ length s) (r : DigitsAt s place number next) (some : next ≡ place → ⊥) where
+  leading-is : next - place ≡ leadingDigits 18 (drop place s)
+  leading-is = omega (arith, r .next-is)
 
-  run-more : place < next
-  run-more = omega (arith, r .next-is)
+  leading-more : place < next
+  leading-more = omega (arith, r .next-is)
 
-  run-within : next ≤ length s
-  run-within = omega (arith, r .next-is, run-le 18 (drop place s) .1, length-drop place s)
+  leading-within : next ≤ length s
+  leading-within = omega (arith, r .next-is, leading-le 18 (drop place s) .1, length-drop place s)
 
-  run-length : length (take (run 18 (drop place s)) (drop place s)) ≡ run 18 (drop place s)
-  run-length = length-take-le (run 18 (drop place s)) (drop place s) (run-le 18 (drop place s) .1)
+  leading-length : length (take (leadingDigits 18 (drop place s)) (drop place s)) ≡ leadingDigits 18 (drop place s)
+  leading-length = length-take-le (leadingDigits 18 (drop place s)) (drop place s) (leading-le 18 (drop place s) .1)
 
-  run-decimal : (signed : Bool) (w : ℕ) (negative : Bool) → inRange signed w (withSign negative number) ≡ true
-      → decimal signed w negative (take (run 18 (drop place s)) (drop place s)) ≡ good (withSign negative number)
+  leading-decimal : (signed : Bool) (w : ℕ) (negative : Bool) → inRange signed w (withSign negative number) ≡ true
+      → decimal signed w negative (take (leadingDigits 18 (drop place s)) (drop place s)) ≡ good (withSign negative number)
   unfolding ranged
-  run-decimal signed w negative h =
-      decimal-parts signed w negative (take (run 18 (drop place s)) (drop place s))
-      ∙ rw (between-yes 1 20 (length (take (run 18 (drop place s)) (drop place s))) (omega (arith, run-length, run-is, run-more)) (omega (arith, run-length, run-le 18 (drop place s) .0)), r .number-is, h)
+  leading-decimal signed w negative h =
+      let few = leading-le 18 (drop place s) .0 in
+      let l = leading-length in
+      let sized = between-yes 1 20 (length (take (leadingDigits 18 (drop place s)) (drop place s))) (omega (arith, l, leading-is, leading-more)) (omega (arith, l, few)) in
+      decimal-parts signed w negative (take (leadingDigits 18 (drop place s)) (drop place s)) ∙ rw (sized, r .number-is, h)
 
   pub quick-up : (k : Integer) → number ≤ top k → QuickAt k s place (pos number) next
   unfolding withSign
   quick-up k h = record {
-    later = run-more;
-    within = run-within;
-    plain = rw run-is (plain-digits (take (run 18 (drop place s)) (drop place s)) (run-digits 18 (drop place s)));
-    reads = rw run-is
-        (plain-read (isSigned k) (size k) (take (run 18 (drop place s)) (drop place s)) (run-digits 18 (drop place s)) (omega (arith, run-length, run-is, run-more))
-        ∙ run-decimal (isSigned k) (size k) false (up-in k number h));
+    later = leading-more;
+    within = leading-within;
+    plain = rw leading-is (plain-digits (take (leadingDigits 18 (drop place s)) (drop place s)) (leading-all 18 (drop place s)));
+    reads = rw leading-is
+        (plain-read (isSigned k) (size k) (take (leadingDigits 18 (drop place s)) (drop place s)) (leading-all 18 (drop place s)) (omega (arith, leading-length, leading-is, leading-more))
+        ∙ leading-decimal (isSigned k) (size k) false (up-in k number h));
   }
 
 -- after a minus
@@ -131,23 +133,23 @@ unfolding withSign
 minus-in k zero g h = up-in k 0 zero-le
 minus-in k (suc n) g h = down-in k n g (omega arith)
 
-module _ (s : List ℕ) (place number next : ℕ) (minus : place < length s) (is-minus : getD s place 0 ≡ 45) (r : RunAt s (place + 1) number next) (some : next ≡ place + 1 → ⊥) where
-  minus-word : take (next - place) (drop place s) ≡ 45 ∷ take (run 18 (drop (place + 1) s)) (drop (place + 1) s)
+module _ (s : List ℕ) (place number next : ℕ) (minus : place < length s) (is-minus : getD s place 0 ≡ 45) (r : DigitsAt s (place + 1) number next) (some : next ≡ place + 1 → ⊥) where
+  minus-word : take (next - place) (drop place s) ≡ 45 ∷ take (leadingDigits 18 (drop (place + 1) s)) (drop (place + 1) s)
   minus-word =
-      let one : next - place ≡ suc (run 18 (drop (place + 1) s)) = omega (arith, r .next-is) in
+      let one : next - place ≡ suc (leadingDigits 18 (drop (place + 1) s)) = omega (arith, r .next-is) in
       rw (one, drop-cons s place 0 minus, is-minus, add-one place)
 
   pub quick-down : (k : Integer) → isSigned k ≡ true → number ≤ top k → QuickAt k s place (negℤ (pos number)) next
   unfolding withSign
   quick-down k g h =
-      let ds : List ℕ = take (run 18 (drop (place + 1) s)) (drop (place + 1) s) in
+      let ds : List ℕ = take (leadingDigits 18 (drop (place + 1) s)) (drop (place + 1) s) in
       record {
         later = omega (arith, r .next-is);
-        within = run-within s (place + 1) number next (omega arith) r some;
-        plain = rw minus-word ((lit≤ tt, lit≤ tt), plain-digits ds (run-digits 18 (drop (place + 1) s)));
+        within = leading-within s (place + 1) number next (omega arith) r some;
+        plain = rw minus-word ((lit≤ tt, lit≤ tt), plain-digits ds (leading-all 18 (drop (place + 1) s)));
         reads = rw minus-word
             (ap (λ (signed : Bool). readInteger signed (size k) (45 ∷ ds)) g
             ∙ after-minus (size k) ds
             ∙ ap (λ (signed : Bool). decimal signed (size k) true ds) (sym g)
-            ∙ run-decimal s (place + 1) number next (omega arith) r some (isSigned k) (size k) true (minus-in k number g h));
+            ∙ leading-decimal s (place + 1) number next (omega arith) r some (isSigned k) (size k) true (minus-in k number g h));
       }

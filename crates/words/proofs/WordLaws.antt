@@ -11,15 +11,16 @@ use lib.Dec.{eqb, lit<, lit≤, ltb}
 use lib.IntN.{negsuc, negℤ, pos, ℤ}
 use lib.ListN.{drop, drop-of-length-le, getD, length}
 use lib.Seq.{drop-cons}
-use borrow.Author.Tests.{eq-eqb, eqb-false, eqb-true, le-leb, le-ltb, lt-leb, lt-ltb, ltb-false, ltb-true, ne-eqb}
-use Rattle.number.proofs.Laws.{pow-16, size-le}
+use borrow.Author.Tests.{eq-eqb, eqb-false, eqb-true, le-ltb, lt-ltb, ltb-false, ltb-true, ne-eqb}
+use Rattle.number.proofs.Laws.{digit-fails, digit-lt, digit-no, hexadigit-fails, hexadigit-lt, pow-16, size-le}
 use Rattle.number.specs.Contracts.{isSigned, size}
-use Rattle.words.specs.Contracts.{top, valueOr16}
+use Rattle.words.specs.Contracts.{top}
 use Rattle.number.specs.Number.{Fault, Outside, Unwritten, decimal, digit, hexadecimal, hexadigit, numeral, ofPattern, ranged, readInteger, sized, withSign}
-use Rattle.words.specs.Words.{brokenWord, capped, decimalNext, decimalReading, feed, firstNext, fresh, hexadecimalNext, hexadecimalReading, reading, signedReading, step, word, zeroNext}
+use Rattle.words.specs.Words.{brokenWord, capped, decimalNext, decimalReading, feed, firstNext, fresh, hexadecimalNext, hexadecimalReading, reading, signedReading, nextWord, word, zeroNext}
+use Rattle.table.proofs.Bytes.{between-no}
 use Rattle.table.proofs.Laws.{between-yes}
 use Rattle.table.specs.Bytes.{between}
-use Rattle.table.specs.Result.{Result, _>>=_, bad, good}
+use Rattle.table.specs.Result.{Fails, Holds, Result, _>>=_, bad, fails, gives, good, holds, refuses}
 use Rattle.table.specs.Shape.{half, inRange, last}
 use Rattle.number.specs.declared.Integer.the-variants.{Int, Long, Short, UnsignedByte}
 use Rattle.number.specs.declared.Integer.{Integer}
@@ -29,55 +30,6 @@ use Rattle.words.specs.declared.Word.{Word}
 
 -- ---- a character
 
-pub under : (lo hi c : ℕ) → c < lo → between lo hi c ≡ false
-unfolding between
-under lo hi c h = rw (lt-leb lo c h)
-
-pub above : (lo hi c : ℕ) → lo ≤ c → hi < c → between lo hi c ≡ false
-unfolding between
-above lo hi c h k = rw (le-leb lo c h, lt-leb c hi k)
-
-pub digit-yes : (c : ℕ) → 48 ≤ c → c ≤ 57 → digit c ≡ good (c - 48)
-unfolding digit
-digit-yes c h k = rw (between-yes 48 57 c h k)
-
-pub digit-under : (c : ℕ) → c < 48 → digit c ≡ bad Unwritten
-unfolding digit
-digit-under c h = rw (under 48 57 c h)
-
-pub digit-over : (c : ℕ) → 57 < c → digit c ≡ bad Unwritten
-unfolding digit
-digit-over c h = rw (above 48 57 c (omega arith) h)
-
-pub hexadigit-0 : (c : ℕ) → 48 ≤ c → c ≤ 57 → hexadigit c ≡ good (c - 48)
-unfolding hexadigit
-hexadigit-0 c h k = rw (between-yes 48 57 c h k)
-
-pub hexadigit-A : (c : ℕ) → 65 ≤ c → c ≤ 70 → hexadigit c ≡ good (c - 55)
-unfolding hexadigit
-hexadigit-A c h k = rw (above 48 57 c (omega arith) (omega arith), between-yes 65 70 c h k)
-
-pub hexadigit-a : (c : ℕ) → 97 ≤ c → c ≤ 102 → hexadigit c ≡ good (c - 87)
-unfolding hexadigit
-hexadigit-a c h k = rw (above 48 57 c (omega arith) (omega arith), above 65 70 c (omega arith) (omega arith), between-yes 97 102 c h k)
-
--- the characters between the ranges
-pub hexadigit-1 : (c : ℕ) → c < 48 → hexadigit c ≡ bad Unwritten
-unfolding hexadigit
-hexadigit-1 c h = rw (under 48 57 c h, under 65 70 c (omega arith), under 97 102 c (omega arith))
-
-pub hexadigit-2 : (c : ℕ) → 57 < c → c < 65 → hexadigit c ≡ bad Unwritten
-unfolding hexadigit
-hexadigit-2 c h k = rw (above 48 57 c (omega arith) h, under 65 70 c k, under 97 102 c (omega arith))
-
-pub hexadigit-3 : (c : ℕ) → 70 < c → c < 97 → hexadigit c ≡ bad Unwritten
-unfolding hexadigit
-hexadigit-3 c h k = rw (above 48 57 c (omega arith) (omega arith), above 65 70 c (omega arith) h, under 97 102 c k)
-
-pub hexadigit-4 : (c : ℕ) → 102 < c → hexadigit c ≡ bad Unwritten
-unfolding hexadigit
-hexadigit-4 c h = rw (above 48 57 c (omega arith) (omega arith), above 65 70 c (omega arith) (omega arith), above 97 102 c (omega arith) h)
-
 -- below, or not
 lt-or : {P : Type 0} (a b : ℕ) → (a < b → P) → (b ≤ a → P) → P
 lt-or {P} a b f g = by (ltb a b) refl
@@ -86,21 +38,11 @@ lt-or {P} a b f g = by (ltb a b) refl
     by true e = f (ltb-true a b e)
     by false e = g (ltb-false a b e)
 
-digit-or : {P : Type 0} (c : ℕ) → ((d : ℕ) → d < 10 → digit c ≡ good d → P) → (digit c ≡ bad Unwritten → P) → P
-digit-or c f g =
-    lt-or c 48 (λ h. g (digit-under c h)) (λ h.
-    lt-or 57 c (λ k. g (digit-over c k)) (λ k. f (c - 48) (omega arith) (digit-yes c h k)))
-
-hexadigit-or : {P : Type 0} (c : ℕ) → ((d : ℕ) → d < 16 → hexadigit c ≡ good d → P) → (hexadigit c ≡ bad Unwritten → P) → P
-hexadigit-or c f g =
-    lt-or c 48 (λ a. g (hexadigit-1 c a)) (λ a.
-    lt-or 57 c (λ b.
-    lt-or c 65 (λ i. g (hexadigit-2 c b i)) (λ i.
-    lt-or 70 c (λ j.
-    lt-or c 97 (λ m. g (hexadigit-3 c j m)) (λ m.
-    lt-or 102 c (λ n. g (hexadigit-4 c n)) (λ n. f (c - 87) (omega arith) (hexadigit-a c m n))))
-    (λ j. f (c - 55) (omega arith) (hexadigit-A c i j))))
-    (λ b. f (c - 48) (omega arith) (hexadigit-0 c a b)))
+-- a digit of a base, or not
+digit-or : {P : Type 0} {r : Result Fault ℕ} {base : ℕ} → Holds (λ (d : ℕ). d < base) r → Fails (λ (e : Fault). e ≡ Unwritten) r
+    → ((d : ℕ) → d < base → r ≡ good d → P) → (r ≡ bad Unwritten → P) → P
+digit-or (holds {a = d} h) gives f g = f d h refl
+digit-or refuses (fails e) f g = g (ap bad e)
 
 -- ---- the range of a kind, by its largest
 
@@ -195,7 +137,7 @@ hexadecimal-bad n v c e = rw e
 -- ---- a word is fed
 
 read-broken : (k : Integer) (s : List ℕ) → reading k (feed brokenWord s) ≡ bad Unwritten
-unfolding feed step reading
+unfolding feed nextWord reading
 read-broken k [] = refl
 read-broken k (c ∷ s) = read-broken k s
 
@@ -208,16 +150,16 @@ hexadecimal-end : (k : Integer) (n v : ℕ) → v < 16 ^ n
     → hexadecimalReading k n v ≡ cond (between 1 (2 * size k) n) (good (ofPattern (isSigned k) (size k) v)) (bad Unwritten)
 unfolding hexadecimalReading
 hexadecimal-end k n v h =
-    lt-or n 1 (λ l. rw (eq-eqb n 0 (omega arith), under 1 (2 * size k) n l)) (λ l.
+    lt-or n 1 (λ l. rw (eq-eqb n 0 (omega arith), between-no 1 (2 * size k) n (omega arith))) (λ l.
     rw (ne-eqb n 0 (λ e. omega arith))
-    (lt-or (2 * size k) n (λ m. rw (lt-ltb (2 * size k) n m, above 1 (2 * size k) n l m)) (λ m.
+    (lt-or (2 * size k) n (λ m. rw (lt-ltb (2 * size k) n m, between-no 1 (2 * size k) n (omega arith))) (λ m.
     let p : 16 ^ n ≤ 16 ^ (2 * size k) = pow-le-pow-right (lit< tt) m in
     let exact : v % 256 ^ size k ≡ v = mod-eq-of-lt (omega (arith, pow-16 (size k))) in
     rw (le-ltb (2 * size k) n m, between-yes 1 (2 * size k) n l m, exact))))
 
-step-hexadecimal : (n v c : ℕ) → step (word Hexadecimal n v) c ≡ hexadecimalNext n v c
-unfolding step
-step-hexadecimal n v c = refl
+next-hexadecimal : (n v c : ℕ) → nextWord (word Hexadecimal n v) c ≡ hexadecimalNext n v c
+unfolding nextWord
+next-hexadecimal n v c = refl
 
 read-hexadecimal : (k : Integer) (n v : ℕ) → reading k (word Hexadecimal n v) ≡ hexadecimalReading k n v
 unfolding reading
@@ -229,8 +171,8 @@ hexadecimal-fed : (k : Integer) (n v : ℕ) (s : List ℕ) → n ≤ 16 → v < 
 unfolding feed numeral
 hexadecimal-fed k n v [] h b = rw (add-zero n, read-hexadecimal k n v) (hexadecimal-end k n v b)
 hexadecimal-fed k n v (c ∷ s) h b =
-    rw (step-hexadecimal n v c)
-    (hexadigit-or c
+    rw (next-hexadecimal n v c)
+    (digit-or (hexadigit-lt c) (hexadigit-fails c)
     (λ d l e. rw e (lt-or n 16
     (λ m.
     let few : n ≤ 15 = omega arith in
@@ -239,26 +181,26 @@ hexadecimal-fed k n v (c ∷ s) h b =
     let long : n + suc (length s) ≡ n + 1 + length s = omega arith in
     rw (hexadecimal-more n v c d e m, exact, long)
     (hexadecimal-fed k (n + 1) (v * 16 + d) s (omega arith) (rw (add-one n, pow-suc 16 n) (omega arith))))
-    (λ m. rw (hexadecimal-full n v c d e m, above 1 (2 * size k) (n + suc (length s)) (omega arith) (omega (arith, size-le k))) (read-broken k s))))
+    (λ m. rw (hexadecimal-full n v c d e m, between-no 1 (2 * size k) (n + suc (length s)) (omega (arith, size-le k))) (read-broken k s))))
     (λ e. rw (hexadecimal-bad n v c e, e, both-bad (between 1 (2 * size k) (n + suc (length s))) (bad Unwritten)) (read-broken k s)))
 
 -- decimal digits, in a form whose characters are digits: what the form reads as is handed in
-module _ (k : Integer) (f : Form) (steps : (n v c : ℕ) → step (word f n v) c ≡ decimalNext f n v c) where
+module _ (k : Integer) (f : Form) (steps : (n v c : ℕ) → nextWord (word f n v) c ≡ decimalNext f n v c) where
   decimal-fed : (negative : Bool) → ((n v : ℕ) → reading k (word f n v) ≡ decimalReading k negative n v) → (n m : ℕ) (s : List ℕ) → n ≤ 20
       → reading k (feed (word f n (cap m)) s)
       ≡ cond (between 1 20 (n + length s)) (numeral digit 10 m s >>= λ x. ranged (isSigned k) (size k) (withSign negative x)) (bad Unwritten)
   unfolding feed numeral decimalReading
   decimal-fed negative reads n m [] h =
       rw (reads n (cap m), cap-ranged k negative m, add-zero n)
-      (lt-or n 1 (λ l. rw (eq-eqb n 0 (omega arith), under 1 20 n l)) (λ l. rw (ne-eqb n 0 (λ e. omega arith), between-yes 1 20 n l h)))
+      (lt-or n 1 (λ l. rw (eq-eqb n 0 (omega arith), between-no 1 20 n (omega arith))) (λ l. rw (ne-eqb n 0 (λ e. omega arith), between-yes 1 20 n l h)))
   decimal-fed negative reads n m (c ∷ s) h =
       rw (steps n (cap m) c)
-      (digit-or c
+      (digit-or (digit-lt c) (digit-fails c)
       (λ d l e. rw e (lt-or n 20
       (λ i.
       let long : n + suc (length s) ≡ n + 1 + length s = omega arith in
       rw (decimal-more f n (cap m) c d e i, cap-step m d l, long) (decimal-fed negative reads (n + 1) (m * 10 + d) s (omega arith)))
-      (λ i. rw (decimal-full f n (cap m) c d e i, above 1 20 (n + suc (length s)) (omega arith) (omega arith)) (read-broken k s))))
+      (λ i. rw (decimal-full f n (cap m) c d e i, between-no 1 20 (n + suc (length s)) (omega arith)) (read-broken k s))))
       (λ e. rw (decimal-bad f n (cap m) c e, e, both-bad (between 1 20 (n + suc (length s))) (bad Unwritten)) (read-broken k s)))
 
   -- a sign that the kind does not have
@@ -267,7 +209,7 @@ module _ (k : Integer) (f : Form) (steps : (n v c : ℕ) → step (word f n v) c
   unsigned-fed reads n v [] = reads n v
   unsigned-fed reads n v (c ∷ s) =
       rw (steps n v c)
-      (digit-or c
+      (digit-or (digit-lt c) (digit-fails c)
       (λ d l e. lt-or n 20 (λ i. rw (decimal-more f n v c d e i) (unsigned-fed reads (n + 1) (capped v d) s)) (λ i. rw (decimal-full f n v c d e i) (read-broken k s)))
       (λ e. rw (decimal-bad f n v c e) (read-broken k s)))
 
@@ -286,7 +228,8 @@ pub decimal-parts : (signed : Bool) (w : ℕ) (negative : Bool) (s : List ℕ)
 unfolding decimal sized
 decimal-parts signed w negative s = by (between 1 20 (length s))
   where
-    by : (t : Bool) → (cond t (numeral digit 10 0 s) (bad Unwritten) >>= λ n. ranged signed w (withSign negative n)) ≡ cond t (numeral digit 10 0 s >>= λ n. ranged signed w (withSign negative n)) (bad Unwritten)
+    by : (t : Bool) → (cond t (numeral digit 10 0 s) (bad Unwritten) >>= λ n. ranged signed w (withSign negative n))
+        ≡ cond t (numeral digit 10 0 s >>= λ n. ranged signed w (withSign negative n)) (bad Unwritten)
     by true = refl
     by false = refl
 
@@ -304,7 +247,7 @@ unfolding numeral
 bad-first signed w b s e = decimal-parts signed w false (b ∷ s) ∙ rw (e, both-bad (between 1 20 (suc (length s))) (bad Unwritten))
 
 -- a form whose characters are digits, from its first
-module _ (k : Integer) (f : Form) (steps : (n v c : ℕ) → step (word f n v) c ≡ decimalNext f n v c) where
+module _ (k : Integer) (f : Form) (steps : (n v c : ℕ) → nextWord (word f n v) c ≡ decimalNext f n v c) where
   decimal-of : (negative : Bool) → ((n v : ℕ) → reading k (word f n v) ≡ decimalReading k negative n v)
       → (s : List ℕ) → reading k (feed (word f 0 0) s) ≡ decimal (isSigned k) (size k) negative s
   unfolding cap
@@ -324,9 +267,9 @@ module _ (k : Integer) (f : Form) (steps : (n v c : ℕ) → step (word f n v) c
       by true e = decimal-of negative (has e) s ∙ ap (λ (g : Bool). decimal g (size k) negative s) e ∙ sym (with-sign (size k) s)
       by false e = unsigned-fed k f steps (lacks e) 0 0 s ∙ sym (without (size k) s)
 
-step-plus : (n v c : ℕ) → step (word Plus n v) c ≡ decimalNext Plus n v c
-unfolding step
-step-plus n v c = refl
+next-plus : (n v c : ℕ) → nextWord (word Plus n v) c ≡ decimalNext Plus n v c
+unfolding nextWord
+next-plus n v c = refl
 
 plus-yes : (k : Integer) → isSigned k ≡ true → (n v : ℕ) → reading k (word Plus n v) ≡ decimalReading k false n v
 unfolding reading
@@ -343,15 +286,15 @@ after-plus w (c ∷ s) = refl
 
 no-plus : (w : ℕ) (s : List ℕ) → readInteger false w (43 ∷ s) ≡ bad Unwritten
 unfolding readInteger
-no-plus w [] = bad-first false w 43 [] (digit-under 43 (lit< tt))
-no-plus w (c ∷ s) = bad-first false w 43 (c ∷ s) (digit-under 43 (lit< tt))
+no-plus w [] = bad-first false w 43 [] (digit-no 43 (omega arith))
+no-plus w (c ∷ s) = bad-first false w 43 (c ∷ s) (digit-no 43 (omega arith))
 
 plus-case : (k : Integer) (s : List ℕ) → reading k (feed (word Plus 0 0) s) ≡ readInteger (isSigned k) (size k) (43 ∷ s)
-plus-case k s = sign-case k Plus step-plus false 43 (plus-yes k) (plus-no k) after-plus no-plus s
+plus-case k s = sign-case k Plus next-plus false 43 (plus-yes k) (plus-no k) after-plus no-plus s
 
-step-minus : (n v c : ℕ) → step (word Minus n v) c ≡ decimalNext Minus n v c
-unfolding step
-step-minus n v c = refl
+next-minus : (n v c : ℕ) → nextWord (word Minus n v) c ≡ decimalNext Minus n v c
+unfolding nextWord
+next-minus n v c = refl
 
 minus-yes : (k : Integer) → isSigned k ≡ true → (n v : ℕ) → reading k (word Minus n v) ≡ decimalReading k true n v
 unfolding reading
@@ -368,16 +311,16 @@ after-minus w (c ∷ s) = refl
 
 no-minus : (w : ℕ) (s : List ℕ) → readInteger false w (45 ∷ s) ≡ bad Unwritten
 unfolding readInteger
-no-minus w [] = bad-first false w 45 [] (digit-under 45 (lit< tt))
-no-minus w (c ∷ s) = bad-first false w 45 (c ∷ s) (digit-under 45 (lit< tt))
+no-minus w [] = bad-first false w 45 [] (digit-no 45 (omega arith))
+no-minus w (c ∷ s) = bad-first false w 45 (c ∷ s) (digit-no 45 (omega arith))
 
 minus-case : (k : Integer) (s : List ℕ) → reading k (feed (word Minus 0 0) s) ≡ readInteger (isSigned k) (size k) (45 ∷ s)
-minus-case k s = sign-case k Minus step-minus true 45 (minus-yes k) (minus-no k) after-minus no-minus s
+minus-case k s = sign-case k Minus next-minus true 45 (minus-yes k) (minus-no k) after-minus no-minus s
 
 -- digits without a sign, of which one or none is behind
-step-decimal : (n v c : ℕ) → step (word Decimal n v) c ≡ decimalNext Decimal n v c
-unfolding step
-step-decimal n v c = refl
+next-decimal : (n v c : ℕ) → nextWord (word Decimal n v) c ≡ decimalNext Decimal n v c
+unfolding nextWord
+next-decimal n v c = refl
 
 read-decimal : (k : Integer) (n v : ℕ) → reading k (word Decimal n v) ≡ decimalReading k false n v
 unfolding reading
@@ -392,8 +335,8 @@ other-case : (k : Integer) (b : ℕ) (s : List ℕ) → (b ≡ 43 → ⊥) → (
     → reading k (feed (decimalNext Decimal 0 0 b) s) ≡ readInteger (isSigned k) (size k) (b ∷ s)
 unfolding feed
 other-case k b s p m z =
-    ap (λ (w : Word). reading k (feed w s)) (sym (step-decimal 0 0 b))
-    ∙ decimal-of k Decimal step-decimal false (read-decimal k) (b ∷ s)
+    ap (λ (w : Word). reading k (feed w s)) (sym (next-decimal 0 0 b))
+    ∙ decimal-of k Decimal next-decimal false (read-decimal k) (b ∷ s)
     ∙ sym (plain-integer (isSigned k) (size k) b s p m z)
 
 zero-alone : (k : Integer) → reading k (feed (word Zero 1 0) []) ≡ readInteger (isSigned k) (size k) (48 ∷ [])
@@ -401,13 +344,13 @@ unfolding feed reading readInteger decimal sized numeral digit between ranged wi
 zero-alone k = rw (up-in k 0 zero-le)
 
 zero-x : (k : Integer) (s : List ℕ) → reading k (feed (word Zero 1 0) (120 ∷ s)) ≡ readInteger (isSigned k) (size k) (48 ∷ 120 ∷ s)
-unfolding feed step zeroNext readInteger
+unfolding feed nextWord zeroNext readInteger
 zero-x k s = hexadecimal-fed k 0 0 s zero-le (lit< tt) ∙ rw (zero-add (length s)) (sym (hexadecimal-parts (isSigned k) (size k) s))
 
 -- no x: a decimal word, of which one digit is behind
 module _ (c : ℕ) (s : List ℕ) where
   zero-next : (c ≡ 120 → ⊥) → feed (word Zero 1 0) (c ∷ s) ≡ feed (word Decimal 1 (cap 0)) (c ∷ s)
-  unfolding feed step zeroNext cap
+  unfolding feed nextWord zeroNext cap
   zero-next n = rw (ne-eqb c 120 n)
 
   zero-integer : (signed : Bool) (w : ℕ) → (c ≡ 120 → ⊥) → readInteger signed w (48 ∷ c ∷ s) ≡ decimal signed w false (48 ∷ c ∷ s)
@@ -426,7 +369,7 @@ zero-case k [] = zero-alone k
 zero-case k (c ∷ s) =
     eq-or c 120 (λ e. rw e (zero-x k s))
     (λ n. ap (reading k) (zero-next c s n)
-    ∙ decimal-fed k Decimal step-decimal false (read-decimal k) 1 0 (c ∷ s) (lit≤ tt)
+    ∙ decimal-fed k Decimal next-decimal false (read-decimal k) 1 0 (c ∷ s) (lit≤ tt)
     ∙ sym (zero-integer c s (isSigned k) (size k) n ∙ zero-behind c s (isSigned k) (size k)))
 
 -- a word fed a character at a time reads as the whole word does
@@ -435,7 +378,7 @@ unfolding reading readInteger
 fed-none k = refl
 
 pub fed-reads : (k : Integer) (s : List ℕ) → reading k (feed fresh s) ≡ readInteger (isSigned k) (size k) s
-unfolding feed step firstNext
+unfolding feed nextWord firstNext
 fed-reads k [] = fed-none k
 fed-reads k (b ∷ s) =
     eq-or b 43 (λ e. rw e (plus-case k s)) (λ p.
@@ -443,12 +386,12 @@ fed-reads k (b ∷ s) =
     eq-or b 48 (λ e. rw e (zero-case k s)) (λ z. rw (ne-eqb b 43 p, ne-eqb b 45 m, ne-eqb b 48 z) (other-case k b s p m z))))
 
 -- one character more
-pub feed-more : (w : Word) (s : List ℕ) (c : ℕ) → feed w (s ++ (c ∷ [])) ≡ step (feed w s) c
+pub feed-more : (w : Word) (s : List ℕ) (c : ℕ) → feed w (s ++ (c ∷ [])) ≡ nextWord (feed w s) c
 unfolding feed
 feed-more w [] c = refl
-feed-more w (b ∷ s) c = feed-more (step w b) s c
+feed-more w (b ∷ s) c = feed-more (nextWord w b) s c
 
-pub feed-next : (w : Word) (s : List ℕ) (i : ℕ) → i < length s → feed w (drop i s) ≡ feed (step w (getD s i 0)) (drop (i + 1) s)
+pub feed-next : (w : Word) (s : List ℕ) (i : ℕ) → i < length s → feed w (drop i s) ≡ feed (nextWord w (getD s i 0)) (drop (i + 1) s)
 unfolding feed
 feed-next w s i h = rw (add-one i, drop-cons s i 0 h)
 
@@ -457,12 +400,6 @@ unfolding feed
 feed-none w s i h = rw (drop-of-length-le s h)
 
 -- ---- what the code's answers are
-
-pub hexadigit-no : (c r : ℕ) → r ≡ valueOr16 (hexadigit c) → 16 ≤ r → hexadigit c ≡ bad Unwritten
-hexadigit-no c r e h = hexadigit-or c (λ d l q. absurd (omega (arith, e ∙ ap valueOr16 q))) (λ q. q)
-
-pub hexadigit-is : (c r : ℕ) → r ≡ valueOr16 (hexadigit c) → r < 16 → hexadigit c ≡ good r
-hexadigit-is c r e h = hexadigit-or c (λ d l q. q ∙ ap good (sym (e ∙ ap valueOr16 q))) (λ q. absurd (omega (arith, e ∙ ap valueOr16 q)))
 
 pub decimal-none : (k : Integer) (negative : Bool) (n v : ℕ) → n ≡ 0 → decimalReading k negative n v ≡ bad Unwritten
 unfolding decimalReading

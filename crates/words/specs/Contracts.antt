@@ -12,8 +12,8 @@ use Rattle.number.specs.declared.Integer.{Integer}
 use Rattle.number.specs.declared.Integer.the-variants.{Int, Long, Short, UnsignedByte}
 use Rattle.words.specs.declared.Quick.{Quick}
 use Rattle.words.specs.declared.Quick.the-variants.{Careful}
-use Rattle.words.specs.declared.Reading.{Reading}
-use Rattle.words.specs.declared.Reading.the-variants.{Value}
+use Rattle.words.specs.declared.IntegerRead.{IntegerRead}
+use Rattle.words.specs.declared.IntegerRead.the-variants.{Value}
 use Rattle.table.specs.All.{All}
 use Rattle.table.specs.Bytes.{between, byte}
 use Rattle.table.specs.Result.{Result, bad, good}
@@ -27,28 +27,23 @@ top Long = 9223372036854775807
 
 -- ---- what the answers of the code stand for
 
-abbrev pub readingOf : Reading → Result Fault ℤ
+abbrev pub readingOf : IntegerRead → Result Fault ℤ
 readingOf (Value z) = good z
-readingOf Reading.Outside = bad Outside
-readingOf Reading.Unwritten = bad Unwritten
-
--- 16 is no digit
-abbrev pub valueOr16 : Result Fault ℕ → ℕ
-valueOr16 (good d) = d
-valueOr16 (bad f) = 16
+readingOf IntegerRead.Outside = bad Outside
+readingOf IntegerRead.Unwritten = bad Unwritten
 
 -- ---- words of plain digits
 
 -- how many of at most n characters from the front on are digits
-unfoldable pub run : ℕ → List ℕ → ℕ
-run zero s = 0
-run (suc n) [] = 0
-run (suc n) (b ∷ s) = cond (between (byte "0") (byte "9") b) (suc (run n s)) 0
+unfoldable pub leadingDigits : ℕ → List ℕ → ℕ
+leadingDigits zero s = 0
+leadingDigits (suc n) [] = 0
+leadingDigits (suc n) (b ∷ s) = cond (between (byte "0") (byte "9") b) (suc (leadingDigits n s)) 0
 
--- the run of at most 18 digits at a place: it ends at `next`, and is the numeral of `number`
-pub record RunAt (s : List ℕ) (place : ℕ) (number next : ℕ) : Type 0 where
-  pub next-is : next ≡ place + run 18 (drop place s)
-  pub number-is : numeral digit 10 0 (take (run 18 (drop place s)) (drop place s)) ≡ good number
+-- the digits at a place, at most 18: the run of them ends at `next`, and is the numeral of `number`
+pub record DigitsAt (s : List ℕ) (place : ℕ) (number next : ℕ) : Type 0 where
+  pub next-is : next ≡ place + leadingDigits 18 (drop place s)
+  pub number-is : numeral digit 10 0 (take (leadingDigits 18 (drop place s)) (drop place s)) ≡ good number
 
 -- digits and signs: characters of a text that stand for themselves
 abbrev pub IsPlain : ℕ → Type 0

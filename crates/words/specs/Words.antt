@@ -3,7 +3,7 @@
 use Prim.Native.Nat.{_%_, _*_, _+_, _-_, _^_, ℕ}
 use mathlib.Core.Bool.{Bool, cond, false, true}
 use mathlib.Core.List.{List, [], _∷_}
-use lib.Dec.{eqb, leb, ltb}
+use lib.Dec.{eqb, ltb}
 use lib.IntN.{pos, ℤ}
 use Rattle.number.specs.Contracts.{isSigned, size}
 use Rattle.number.specs.Number.{Fault, Unwritten, digit, hexadigit, ofPattern, ranged, withSign}
@@ -55,22 +55,22 @@ firstNext c =
 unfoldable pub zeroNext : ℕ → Word
 zeroNext c = cond (eqb c (byte "x")) (word Hexadecimal 0 0) (decimalNext Decimal 1 0 c)
 
-abbrev pub stepFrom : Form → ℕ → ℕ → ℕ → Word
-stepFrom Start n v c = firstNext c
-stepFrom Zero n v c = zeroNext c
-stepFrom Decimal n v c = decimalNext Decimal n v c
-stepFrom Plus n v c = decimalNext Plus n v c
-stepFrom Minus n v c = decimalNext Minus n v c
-stepFrom Hexadecimal n v c = hexadecimalNext n v c
-stepFrom Broken n v c = word Broken n v
+abbrev pub nextFrom : Form → ℕ → ℕ → ℕ → Word
+nextFrom Start n v c = firstNext c
+nextFrom Zero n v c = zeroNext c
+nextFrom Decimal n v c = decimalNext Decimal n v c
+nextFrom Plus n v c = decimalNext Plus n v c
+nextFrom Minus n v c = decimalNext Minus n v c
+nextFrom Hexadecimal n v c = hexadecimalNext n v c
+nextFrom Broken n v c = word Broken n v
 
-unfoldable pub step : Word → ℕ → Word
-step w c = stepFrom (w .form) (w .count) (w .value) c
+unfoldable pub nextWord : Word → ℕ → Word
+nextWord w c = nextFrom (w .form) (w .count) (w .value) c
 
 -- the characters one after the other
 unfoldable pub feed : Word → List ℕ → Word
 feed w [] = w
-feed w (c ∷ s) = feed (step w c) s
+feed w (c ∷ s) = feed (nextWord w c) s
 
 -- ---- what the word reads as
 

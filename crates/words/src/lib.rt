@@ -5,9 +5,9 @@ ghost use mathlib.Core.Bool.{false, true};
 ghost use Prim.Native.Nat.{_*_, _<_, _≤_};
 ghost use lib.ListN.{length};
 ghost use Rattle.number.specs.Contracts.{isSigned, size};
-ghost use Rattle.number.specs.Number.{hexadigit, readInteger};
-ghost use Rattle.words.specs.Contracts.{Earlier, QuickIs, RunAt, readingOf, top, valueOr16};
-ghost use Rattle.words.specs.Words.{brokenWord, capped, decimalNext, decimalReading, firstNext, fresh, hexadecimalNext, hexadecimalReading, reading, signedReading, step, zeroNext};
+ghost use Rattle.number.specs.Number.{readInteger};
+ghost use Rattle.words.specs.Contracts.{Earlier, QuickIs, DigitsAt, readingOf, top};
+ghost use Rattle.words.specs.Words.{brokenWord, capped, decimalNext, decimalReading, firstNext, fresh, hexadecimalNext, hexadecimalReading, reading, signedReading, nextWord, zeroNext};
 use number::Integer;
 
 // ---- kinds
@@ -70,7 +70,7 @@ pub struct Word {
 }
 
 // What a word is at a kind of integers.
-pub enum Reading {
+pub enum IntegerRead {
     Value(i64),
     // written as an integer, but outside the kind's range
     Outside,
@@ -118,22 +118,10 @@ fn decimal_next(form: Form, count: usize, value: u64, c: u8) -> Word
     }
 }
 
-// The value of a hexadigit; 16 for another character.
-fn hexadigit_value(c: u8) -> u64
-    ensures { λ r. ⌜ r ≡ valueOr16 (hexadigit c) ⌝ }
-{
-    match c {
-        48..=57 => (c - 48) as u64,
-        65..=70 => (c - 55) as u64,
-        97..=102 => (c - 87) as u64,
-        _ => 16,
-    }
-}
-
 fn hexadecimal_next(count: usize, value: u64, c: u8) -> Word
     ensures { λ r. ⌜ r ≡ hexadecimalNext count value c ⌝ }
 {
-    let digit = hexadigit_value(c);
+    let digit = text::digit_value(c) as u64;
     if 16 <= digit {
         return broken();
     }
@@ -184,47 +172,47 @@ fn zero_next(c: u8) -> Word
 }
 
 // A number without a sign, or after a plus.
-fn positive(count: usize, value: u64, kind: Integer) -> Reading
+fn positive(count: usize, value: u64, kind: Integer) -> IntegerRead
     ensures { λ r. ⌜ readingOf r ≡ decimalReading kind false count value ⌝ }
 {
     if count == 0 {
-        return Reading::Unwritten;
+        return IntegerRead::Unwritten;
     }
     if top_of(kind) < value {
-        return Reading::Outside;
+        return IntegerRead::Outside;
     }
-    Reading::Value(value as i64)
+    IntegerRead::Value(value as i64)
 }
 
 // A number after a minus, which a kind without a sign does not have; the least long is -1 - (2 ^ 63 - 1).
-fn negative(count: usize, value: u64, kind: Integer) -> Reading
+fn negative(count: usize, value: u64, kind: Integer) -> IntegerRead
     ensures { λ r. ⌜ readingOf r ≡ signedReading kind true count value ⌝ }
 {
     if !is_signed(kind) {
-        return Reading::Unwritten;
+        return IntegerRead::Unwritten;
     }
     if count == 0 {
-        return Reading::Unwritten;
+        return IntegerRead::Unwritten;
     }
     if value == 0 {
-        return Reading::Value(0);
+        return IntegerRead::Value(0);
     }
     if top_of(kind) < value - 1 {
-        return Reading::Outside;
+        return IntegerRead::Outside;
     }
-    Reading::Value(-1 - ((value - 1) as i64))
+    IntegerRead::Value(-1 - ((value - 1) as i64))
 }
 
-fn hexadecimal_reading(count: usize, value: u64, kind: Integer) -> Reading
+fn hexadecimal_reading(count: usize, value: u64, kind: Integer) -> IntegerRead
     ensures { λ r. ⌜ readingOf r ≡ hexadecimalReading kind count value ⌝ }
 {
     if count == 0 {
-        return Reading::Unwritten;
+        return IntegerRead::Unwritten;
     }
     if most_hexadigits(kind) < count {
-        return Reading::Unwritten;
+        return IntegerRead::Unwritten;
     }
-    Reading::Value(number::of_low_bytes(value, kind))
+    IntegerRead::Value(integers::of_low_bytes(value, kind))
 }
 
 impl Word {
@@ -240,7 +228,7 @@ impl Word {
 
     // The word with a character more.
     pub fn next(self, c: u8) -> Word
-        ensures { λ r. ⌜ r ≡ step self c ⌝ }
+        ensures { λ r. ⌜ r ≡ nextWord self c ⌝ }
     {
         let form = self.form;
         let count = self.count;
@@ -257,32 +245,32 @@ impl Word {
     }
 
     // The word as it is now, at a kind.
-    pub fn read(self, kind: Integer) -> Reading
+    pub fn read(self, kind: Integer) -> IntegerRead
         ensures { λ r. ⌜ readingOf r ≡ reading kind self ⌝ }
     {
         let form = self.form;
         let count = self.count;
         let value = self.value;
         match form {
-            Form::Start => Reading::Unwritten,
-            Form::Zero => Reading::Value(0),
+            Form::Start => IntegerRead::Unwritten,
+            Form::Zero => IntegerRead::Value(0),
             Form::Decimal => positive(count, value, kind),
             Form::Plus => {
                 if is_signed(kind) {
                     positive(count, value, kind)
                 } else {
-                    Reading::Unwritten
+                    IntegerRead::Unwritten
                 }
             }
             Form::Minus => negative(count, value, kind),
             Form::Hexadecimal => hexadecimal_reading(count, value, kind),
-            Form::Broken => Reading::Unwritten,
+            Form::Broken => IntegerRead::Unwritten,
         }
     }
 }
 
 // The whole text as one word.
-pub fn read_word(s: &[u8], kind: Integer) -> Reading
+pub fn read_word(s: &[u8], kind: Integer) -> IntegerRead
     ensures { λ r. ⌜ readingOf r ≡ readInteger (isSigned kind) (size kind) (now (s .entry)) ⌝ }
 {
     let mut word = Word::new();
@@ -311,7 +299,7 @@ fn earlier(a: usize, b: usize) -> usize
 // The digits from `at` on, at most 18 of them, so that no number overflows; the character after them is not looked at.
 fn quick_digits(s: &[u8], at: usize) -> Digits
     requires { ⌜ at ≤ length (now s) ⌝ }
-    ensures { λ r. ⌜ RunAt (now (s .entry)) at (r .number) (r .next) ⌝ }
+    ensures { λ r. ⌜ DigitsAt (now (s .entry)) at (r .number) (r .next) ⌝ }
 {
     let end = earlier(s.len(), at + 18);
     let mut number: u64 = 0;

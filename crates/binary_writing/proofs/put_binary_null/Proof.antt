@@ -2,7 +2,7 @@
 use Prim.Native.Nat.{ℕ}
 use Rattle.binary_writing.proofs.Writing.{empty-zeros, null-bound, null-empty, null-none, null-some}
 use Rattle.binary.specs.Binary.{elementsBytes}
-use Rattle.number.proofs.Places.{wrote-as}
+use Rattle.table.proofs.Wrote.{wrote-as}
 use Rattle.table.specs.Contracts.{formBytes, nullAs}
 use Rattle.table.specs.Result.{Result}
 use borrow.Author.Needs.{needs}

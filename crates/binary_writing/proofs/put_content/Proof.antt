@@ -2,7 +2,7 @@
 use Rattle.binary_writing.proofs.Writing.{length-integers-written, text-filled, truth-bytes, whole-bytes}
 use Rattle.binary.specs.Binary.{bitBytes, bytesOf, contentBytes, number}
 use Rattle.binary.specs.Contracts.{filledBytes}
-use Rattle.number.proofs.Places.{wrote-as, wrote-then}
+use Rattle.table.proofs.Wrote.{wrote-as, wrote-then}
 use Rattle.table.specs.Cell.{isChar}
 use Rattle.table.specs.Shape.{W1, W2, W4, W8, last, shape}
 use Rattle.table.specs.declared.Kind.{Kind}

@@ -4,7 +4,7 @@ use Rattle.binary_writing.proofs.Sizes.{has-room, held-length}
 use Rattle.binary_writing.proofs.Writing.{elements-as}
 use Rattle.binary.specs.Contracts.{filledBytes}
 use Rattle.binary_writing.specs.Contracts.{elementsSize}
-use Rattle.number.proofs.Places.{wrote-as, wrote-then}
+use Rattle.table.proofs.Wrote.{wrote-as, wrote-then}
 use Rattle.table.specs.Shape.{shape}
 use borrow.Author.Needs.{needs}
 use denote.Ref.{now}

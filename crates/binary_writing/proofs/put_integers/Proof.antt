@@ -4,7 +4,7 @@ use Rattle.binary.proofs.Loops.{place-fits}
 use Rattle.binary_writing.proofs.Writing.{integer-next, length-integers-written}
 use Rattle.binary.specs.Binary.{groups}
 use Rattle.number.proofs.Laws.{length-to}
-use Rattle.number.proofs.Places.{wrote-as}
+use Rattle.table.proofs.Wrote.{wrote-as}
 use Rattle.number.specs.Contracts.{size}
 use Rattle.number.specs.Number.{pattern, toDigits}
 use Rattle.table.specs.Outcome.{at}

@@ -4,7 +4,7 @@ use Rattle.binary_writing.proofs.Sizes.{room-bound, zeros-length}
 use Rattle.binary_writing.proofs.Writing.{zeros-as}
 use Rattle.binary.specs.Binary.{contentBytes}
 use Rattle.binary_writing.specs.Contracts.{roomSize}
-use Rattle.number.proofs.Places.{wrote-as, wrote-then}
+use Rattle.table.proofs.Wrote.{wrote-as, wrote-then}
 use Rattle.table.specs.Shape.{shape}
 use borrow.Author.Needs.{needs}
 use mathlib.Core.Path.{_∙_, ap}

@@ -1,7 +1,7 @@
 -- `binary_writing::write_binary` meets its contract: null by its form, nothing for an empty cell, or the elements.
 use Prim.Native.Nat.{ℕ}
 use Rattle.binary_writing.proofs.Writing.{write-empty, write-null, write-shown}
-use Rattle.number.proofs.Places.{wrote-as}
+use Rattle.table.proofs.Wrote.{wrote-as}
 use Rattle.table.specs.Contracts.{formBytes}
 use Rattle.table.specs.Result.{Result}
 use denote.Ref.{now}

@@ -1,6 +1,6 @@
 -- `binary_writing::write_binary2` meets its contract: null as zeros, or the elements.
 use Rattle.binary_writing.proofs.Writing.{write2-null, write2-shown}
-use Rattle.number.proofs.Places.{wrote-as}
+use Rattle.table.proofs.Wrote.{wrote-as}
 use denote.Ref.{now}
 use lib.ListN.{length}
 use mathlib.Core.Path.{ap, sym}

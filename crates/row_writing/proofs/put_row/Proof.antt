@@ -6,7 +6,7 @@ use lib.ListN.{drop, length}
 use denote.Ref.{now}
 use borrow.Author.Needs.{needs}
 use Rattle.table.specs.ColumnList.{listed}
-use Rattle.number.proofs.Places.{wrote-as}
+use Rattle.table.proofs.Wrote.{wrote-as}
 use Rattle.row_writing.specs.Contracts.{HeldReady, putForm, rowBytes}
 use Rattle.row_writing.specs.declared.Holding.{Holding}
 use Rattle.row_writing.proofs.put_row.Statement.{statement}

@@ -4,7 +4,7 @@ use lib.ListN.{length}
 use Rattle.table.specs.declared.Rows.{Rows}
 use Rattle.rows.specs.Stream.{writeEnd}
 use Rattle.tabledata.specs.TableData.{close-TR}
-use Rattle.tabledata_writing.proofs.Writing.{wrote-none}
+use Rattle.table.proofs.Wrote.{wrote-none}
 use native.Mathlib.Omega.{arith}
 use borrow.Author.Needs.{needs}
 use Rattle.row_writing.proofs.write_end.Statement.{statement}

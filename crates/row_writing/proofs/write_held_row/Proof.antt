@@ -16,7 +16,7 @@ use Rattle.row_reading.proofs.Ways.{no-flag}
 use Rattle.row_writing.proofs.RowForm.{WriteInv, write-fits, write-more, write-start, written-end, written-to}
 use Rattle.row_reading.proofs.Parts.{listed-bound}
 use Rattle.row_writing.proofs.RowForm.{row-bytes-length, row-stored}
-use Rattle.tabledata_writing.proofs.Writing.{wrote-long}
+use Rattle.table.proofs.Wrote.{wrote-long}
 use Rattle.row_writing.specs.Contracts.{HeldWithin, heldForm, heldNext, restOf, startBytes}
 use Rattle.rows.specs.Stream.{writeEnd}
 use Rattle.table.specs.declared.Column.{Column}

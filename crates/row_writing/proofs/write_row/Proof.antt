@@ -12,7 +12,7 @@ use Rattle.row_reading.specs.Contracts.{flagsIn}
 use Rattle.row_writing.specs.Contracts.{readForm, startBytes}
 use Rattle.rows.specs.Stream.{readCell}
 use Rattle.row_writing.proofs.RowForm.{WriteInv, write-start, write-fits, write-more, written-end, written-to}
-use Rattle.tabledata_writing.proofs.Writing.{wrote-long}
+use Rattle.table.proofs.Wrote.{wrote-long}
 use Rattle.table.proofs.ColumnList.{listed-length, listed-next}
 use Rattle.row_reading.proofs.Parts.{listed-bound}
 use Rattle.row_writing.proofs.RowForm.{row-bytes-length, row-stored}

@@ -13,14 +13,13 @@ use Rattle.tabledata_writing.proofs.code_of.Tie as tie
 cast-small-code : tie.Need-cast-small-code
 cast-small-code c = up-cast w64 ((c .before) .args .z) ((c .before) .fits .z) ((c .if1) .taken)
 
-small-code-requires : tie.Need-small-code-requires
-small-code-requires c κs = search needs
-
 returns : tie.Need-returns
-returns c = (ap formOf (up w64 ((c .before .before) .args .z) ((c .before .before) .fits .z) ((c .before .if1) .taken)) ∙ ap (λ (y : ℤ). formOf (pos (natAbs y))) (sym (up-held w64 ((c .before .before) .args .z) ((c .before .before) .fits .z) ((c .before .if1) .taken))) ∙ (c .small-code) .ensures .0, (c .small-code) .ensures .1)
+returns c =
+    let s = c .before .before in let z = s .args .z in let f = s .fits .z in let e = c .before .if1 .taken in
+    (ap formOf (up w64 z f e) ∙ ap (λ (y : ℤ). formOf (pos (natAbs y))) (sym (up-held w64 z f e)) ∙ c .small-code .ensures .0, c .small-code .ensures .1)
 
 returns-2 : tie.Need-returns-2
 returns-2 c = (form-negative ((c .before) .args .z) _ (down w64 ((c .before) .args .z) ((c .before) .fits .z) ((c .if1) .left)), lit≤ tt)
 
 pub code-of-spec : {M : Type 1} → statement M
-code-of-spec = tie.close (tie.spec cast-small-code small-code-requires returns returns-2)
+code-of-spec = tie.close (tie.spec cast-small-code (λ c κs. search needs) returns returns-2)

@@ -19,23 +19,25 @@ unfolding formOf isText between escaped formSize
 returns c = (⊎-elim (λ e. ap (λ (n : ℕ). sizeOf (formOf (pos n))) e) (λ e. ap (λ (n : ℕ). sizeOf (formOf (pos n))) e) ((c .match) .keys3), lit≤ tt)
 
 returns-2 : tie.Need-returns-2
-returns-2 c = (size-itself ((c .before .before .before) .args .c) (text-low ((c .before .before .before) .args .c) (omega arith) (omega arith)) (λ e. omega arith) (λ e. omega arith) (λ e. omega arith) (λ e. omega arith), lit≤ tt)
+returns-2 c = (size-itself _ (text-low _ (omega arith) (omega arith)) (λ e. omega arith) (λ e. omega arith) (λ e. omega arith) (λ e. omega arith), lit≤ tt)
 
 returns-3 : tie.Need-returns-3
-returns-3 c = (size-no ((c .before .before) .args .c) (text-not ((c .before .before) .args .c) (λ e. omega arith) (λ e. omega arith) ((c .before .match) .rest .0 .0 .0 .1) (λ e. omega arith)), lit≤ tt)
+returns-3 c = (size-no _ (text-not _ (λ e. omega arith) (λ e. omega arith) (c .before .match .rest .0 .0 .0 .1) (λ e. omega arith)), lit≤ tt)
 
 returns-4 : tie.Need-returns-4
-returns-4 c = (size-no ((c .before .before .before .before) .args .c) (text-not ((c .before .before .before .before) .args .c) (λ e. omega arith) (λ e. omega arith) ((c .before .before .before .match) .rest .0 .0 .0 .1) (λ e. omega arith)), lit≤ tt)
+returns-4 c = (size-no _ (text-not _ (λ e. omega arith) (λ e. omega arith) (c .before .before .before .match .rest .0 .0 .0 .1) (λ e. omega arith)), lit≤ tt)
 
 returns-5 : tie.Need-returns-5
-returns-5 c = (size-no ((c .before .before .before .before .before) .args .c) (text-not ((c .before .before .before .before .before) .args .c) (λ e. omega arith) (λ e. omega arith) ((c .before .before .before .before .match) .rest .0 .0 .0 .1) (λ e. omega arith)), lit≤ tt)
+returns-5 c = (size-no _ (text-not _ (λ e. omega arith) (λ e. omega arith) (c .before .before .before .before .match .rest .0 .0 .0 .1) (λ e. omega arith)), lit≤ tt)
 
 returns-6 : tie.Need-returns-6
 unfolding formOf isText between escaped formSize
 returns-6 c = (ap (λ (n : ℕ). sizeOf (formOf (pos n))) ((c .match) .keys4), lit≤ tt)
 
 returns-7 : tie.Need-returns-7
-returns-7 c = (size-itself ((c .before .before .before .before .before) .args .c) (text-yes ((c .before .before .before .before .before) .args .c) (omega arith) (omega arith)) ((c .before .before .before .before .match) .rest .0 .0 .1) (λ e. ((c .before .before .before .before .match) .rest .0 .1) (inl e)) (λ e. ((c .before .before .before .before .match) .rest .0 .1) (inr e)) (λ e. omega arith), lit≤ tt)
+returns-7 c =
+    let rest = c .before .before .before .before .match .rest .0 in
+    (size-itself _ (text-yes _ (omega arith) (omega arith)) (rest .0 .1) (λ e. rest .1 (inl e)) (λ e. rest .1 (inr e)) (λ e. omega arith), lit≤ tt)
 
 returns-8 : tie.Need-returns-8
 unfolding formOf isText between escaped formSize

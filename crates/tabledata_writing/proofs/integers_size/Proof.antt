@@ -1,23 +1,27 @@
 -- `tabledata_writing::integers_size` meets its contract. The invariant: the size so far and that of what is left are the whole's.
-use Prim.Native.Nat.{_*_, _+_, _-_, _≤_}
+use Prim.Native.Nat.{_*_, _+_, _-_, _≤_, ℕ}
 use native.Mathlib.Omega.{arith}
-use mathlib.Core.List.{_∷_}
-use mathlib.Core.Path.{_∙_, _≡_, ap, refl, sym}
+use mathlib.Core.List.{List, _∷_}
+use mathlib.Core.Path.{_∙_, _≡_, ap, refl}
 use lib.IntN.{pos, ℤ}
 use lib.ListN.{drop, getD, length, length-append, take}
 use borrow.Author.Needs.{needs, sfits-of}
 use denote.Ref.{now}
 use mir.Facts.{toZ-ofZ}
 use mir.Syntax.{w64}
-use Rattle.number.specs.Contracts.{size}
 use Rattle.number.specs.Number.{shortest}
-use Rattle.tabledata_writing.proofs.Writing.{joined-end, joined-more, shortest-le, taken-at, taken-long}
+use Rattle.number.proofs.Decimal.{shortest-most}
+use Rattle.tabledata_writing.proofs.Writing.{taken-end, taken-more}
 use Rattle.tabledata.specs.TableData.{joined}
 use Rattle.tabledata_writing.proofs.integers_size.Statement.{statement}
 use Rattle.tabledata_writing.proofs.integers_size.Tie as tie
 
+abbrev words : List ℤ → List ℕ
+words es = joined (λ z. 32 ∷ shortest z) es
+
 abbrev Inv-loop : tie.InvT-loop
-Inv-loop count scratch size₀ k₀ size k = (k ≤ count) × (size ≤ 8 + 22 * k) × (8 + length (joined (λ z. 32 ∷ shortest z) (take count scratch)) ≡ size + length (joined (λ z. 32 ∷ shortest z) (drop k (take count scratch))))
+Inv-loop count scratch size₀ k₀ size k =
+    (k ≤ count) × (size ≤ 8 + 22 * k) × (8 + length (words (take count scratch)) ≡ size + length (words (drop k (take count scratch))))
 
 abbrev μ-loop : tie.MeasureT-loop
 μ-loop count scratch size₀ k₀ size k = count - k
@@ -25,33 +29,31 @@ abbrev μ-loop : tie.MeasureT-loop
 loop-holds : tie.Need-loop-holds Inv-loop μ-loop
 loop-holds c = (search needs, search needs, refl)
 
-mul-shortest-length : tie.Need-mul-shortest-length Inv-loop μ-loop
-mul-shortest-length c = search needs
+-- the next word
+word : (c : tie.After-shortest-length Inv-loop μ-loop) → let l = c .before .before .before in
+    c .shortest-length .result ≡ length (shortest (getD (now (l .before .args .scratch)) (l .loop .k) (pos 0)))
+word c = c .shortest-length .ensures ∙ ap (λ (z : ℤ). length (shortest z)) (toZ-ofZ {w = w64} (sfits-of (c .before .shortest-length-arg .given)))
 
-shared-slice-copy-out-shortest-length :
-    tie.Need-shared-slice-copy-out-shortest-length Inv-loop μ-loop
-shared-slice-copy-out-shortest-length c = search needs
-
-shortest-length-requires : tie.Need-shortest-length-requires Inv-loop μ-loop
-shortest-length-requires c κs = search needs
+few : (c : tie.After-shortest-length Inv-loop μ-loop) → c .shortest-length .result ≤ 21
+few c = omega (arith, word c, shortest-most (getD (now (c .before .before .before .before .args .scratch)) (c .before .before .before .loop .k) (pos 0)))
 
 add-size : tie.Need-add-size Inv-loop μ-loop
-add-size c = omega (arith, ((c .shortest-length) .ensures ∙ ap (λ (z : ℤ). length (shortest z)) (toZ-ofZ {w = w64} (sfits-of ((c .before .shortest-length-arg) .given)) ∙ sym (taken-at (now ((c .before .before .before .before) .args .scratch)) ((c .before .before .before .before) .args .count) ((c .before .before .before .loop) .k) ((c .before .before .loop-test) .taken)))), shortest-le (getD (take ((c .before .before .before .before) .args .count) (now ((c .before .before .before .before) .args .scratch))) ((c .before .before .before .loop) .k) (pos 0)))
+add-size c = omega (arith, few c)
 
 add-size-2 : tie.Need-add-size-2 Inv-loop μ-loop
-add-size-2 c = omega (arith, ((c .shortest-length) .ensures ∙ ap (λ (z : ℤ). length (shortest z)) (toZ-ofZ {w = w64} (sfits-of ((c .before .shortest-length-arg) .given)) ∙ sym (taken-at (now ((c .before .before .before .before) .args .scratch)) ((c .before .before .before .before) .args .count) ((c .before .before .before .loop) .k) ((c .before .before .loop-test) .taken)))), shortest-le (getD (take ((c .before .before .before .before) .args .count) (now ((c .before .before .before .before) .args .scratch))) ((c .before .before .before .loop) .k) (pos 0)), (c .before .before .before .loop) .inv .1, (c .before .before .before .before) .pre .1)
-
-add-k : tie.Need-add-k Inv-loop μ-loop
-add-k c = search needs
-
-loop-less : tie.Need-loop-less Inv-loop μ-loop
-loop-less c = search needs
+add-size-2 c = let l = c .before .before .before in omega (arith, few c, l .loop .inv .1, l .before .pre .1)
 
 loop-again : tie.Need-loop-again Inv-loop μ-loop
-loop-again c = (search needs, omega (arith, ((c .shortest-length) .ensures ∙ ap (λ (z : ℤ). length (shortest z)) (toZ-ofZ {w = w64} (sfits-of ((c .before .shortest-length-arg) .given)) ∙ sym (taken-at (now ((c .before .before .before .before) .args .scratch)) ((c .before .before .before .before) .args .count) ((c .before .before .before .loop) .k) ((c .before .before .loop-test) .taken)))), shortest-le (getD (take ((c .before .before .before .before) .args .count) (now ((c .before .before .before .before) .args .scratch))) ((c .before .before .before .loop) .k) (pos 0)), (c .before .before .before .loop) .inv .1), omega (arith, (c .before .before .before .loop) .inv .2, ((c .shortest-length) .ensures ∙ ap (λ (z : ℤ). length (shortest z)) (toZ-ofZ {w = w64} (sfits-of ((c .before .shortest-length-arg) .given)) ∙ sym (taken-at (now ((c .before .before .before .before) .args .scratch)) ((c .before .before .before .before) .args .count) ((c .before .before .before .loop) .k) ((c .before .before .loop-test) .taken)))), ap length (joined-more (λ z. 32 ∷ shortest z) (take ((c .before .before .before .before) .args .count) (now ((c .before .before .before .before) .args .scratch))) ((c .before .before .before .loop) .k) (omega (arith, (taken-long (now ((c .before .before .before .before) .args .scratch)) ((c .before .before .before .before) .args .count) ((c .before .before .before .before) .pre .0))))), length-append (shortest (getD (take ((c .before .before .before .before) .args .count) (now ((c .before .before .before .before) .args .scratch))) ((c .before .before .before .loop) .k) (pos 0))) (joined (λ z. 32 ∷ shortest z) (drop (((c .before .before .before .loop) .k) + 1) (take ((c .before .before .before .before) .args .count) (now ((c .before .before .before .before) .args .scratch)))))))
+loop-again c =
+    let at-test = c .before .before in let l = at-test .before in let a = l .before .args in let k = l .loop .k in
+    let more = taken-more (λ z. 32 ∷ shortest z) (now (a .scratch)) (a .count) k (l .before .pre .0) (at-test .loop-test .taken) in
+    let both = length-append (shortest (getD (now (a .scratch)) k (pos 0))) (words (drop (k + 1) (take (a .count) (now (a .scratch))))) in
+    (search needs, omega (arith, few c, l .loop .inv .1), omega (arith, l .loop .inv .2, word c, ap length more, both))
 
 returns : tie.Need-returns Inv-loop μ-loop
-returns c = omega (arith, (c .before .loop) .inv .2, ap length (joined-end (λ z. 32 ∷ shortest z) (take ((c .before .before) .args .count) (now ((c .before .before) .args .scratch))) ((c .before .loop) .k) (omega (arith, (taken-long (now ((c .before .before) .args .scratch)) ((c .before .before) .args .count) ((c .before .before) .pre .0))))))
+returns c =
+    let l = c .before in let a = l .before .args in
+    omega (arith, l .loop .inv .2, ap length (taken-end (λ z. 32 ∷ shortest z) (now (a .scratch)) (a .count) (l .loop .k) (l .before .pre .0) (c .loop-test .left)))
 
 pub integers-size-spec : {M : Type 1} → statement M
 integers-size-spec =
@@ -60,12 +62,12 @@ integers-size-spec =
     Inv-loop
     μ-loop
     loop-holds
-    mul-shortest-length
-    shared-slice-copy-out-shortest-length
-    shortest-length-requires
+    (λ c. search needs)
+    (λ c. search needs)
+    (λ c κs. search needs)
     add-size
     add-size-2
-    add-k
-    loop-less
+    (λ c. search needs)
+    (λ c. search needs)
     loop-again
     returns)

@@ -9,7 +9,8 @@ use borrow.Author.Needs.{needs, sfits-of}
 use denote.Ref.{now}
 use mir.Facts.{toZ-ofZ}
 use mir.Syntax.{w64}
-use Rattle.tabledata_writing.proofs.Writing.{Left, left-all, left-none, left-room, left-step, taken-end, taken-more, truth-long, wrote-two}
+use Rattle.table.proofs.Wrote.{Left, left-all, left-none, left-room, left-step}
+use Rattle.tabledata_writing.proofs.Writing.{taken-end, taken-more, truth-long, wrote-two}
 use Rattle.tabledata.specs.TableData.{joined, truthText}
 use Rattle.tabledata_writing.proofs.more_truths.Statement.{statement}
 use Rattle.tabledata_writing.proofs.more_truths.Tie as tie
@@ -25,25 +26,19 @@ loop-holds c = left-all (now (c .before .args .out)) (c .before .args .at) _
 
 -- the next word
 more : (c : tie.In-loop Inv-loop μ-loop) → let a = c .before .before .before .args in let k = c .before .loop .k in
-    joined (λ z. 32 ∷ truthText z) (drop k (take (a .count) (now (a .scratch)))) ≡ (32 ∷ truthText (getD (now (a .scratch)) k (pos 0))) ++ joined (λ z. 32 ∷ truthText z) (drop (k + 1) (take (a .count) (now (a .scratch))))
-more c = taken-more (λ z. 32 ∷ truthText z) (now (c .before .before .before .args .scratch)) (c .before .before .before .args .count) (c .before .loop .k) (c .before .before .before .pre .0) (c .loop-test .taken)
+    joined (λ z. 32 ∷ truthText z) (drop k (take (a .count) (now (a .scratch))))
+    ≡ (32 ∷ truthText (getD (now (a .scratch)) k (pos 0))) ++ joined (λ z. 32 ∷ truthText z) (drop (k + 1) (take (a .count) (now (a .scratch))))
+more c =
+    let s = c .before .before .before in let a = s .args in
+    taken-more (λ z. 32 ∷ truthText z) (now (a .scratch)) (a .count) (c .before .loop .k) (s .pre .0) (c .loop-test .taken)
 
 room : (c : tie.In-loop Inv-loop μ-loop) → c .before .loop .i + 2 ≤ length (c .before .loop .out)
 room c =
-    let word = truthText (getD (now (c .before .before .before .args .scratch)) (c .before .loop .k) (pos 0)) in
-    omega (arith, left-room (c .before .loop .inv) (32 ∷ word) _ (more c) (c .before .before .before .pre .1), truth-long (getD (now (c .before .before .before .args .scratch)) (c .before .loop .k) (pos 0)))
+    let s = c .before .before .before in let l = c .before .loop in let z = getD (now (s .args .scratch)) (l .k) (pos 0) in
+    omega (arith, left-room (l .inv) (32 ∷ truthText z) _ (more c) (s .pre .1), truth-long z)
 
 slice-write-out : tie.Need-slice-write-out Inv-loop μ-loop
 slice-write-out c = omega (arith, room c)
-
-mul-truth-byte : tie.Need-mul-truth-byte Inv-loop μ-loop
-mul-truth-byte c = search needs
-
-shared-slice-copy-out-truth-byte : tie.Need-shared-slice-copy-out-truth-byte Inv-loop μ-loop
-shared-slice-copy-out-truth-byte c = search needs
-
-truth-byte-requires : tie.Need-truth-byte-requires Inv-loop μ-loop
-truth-byte-requires c κs = search needs
 
 add-out : tie.Need-add-out Inv-loop μ-loop
 add-out c = omega (arith, room (c .before .before))
@@ -53,12 +48,6 @@ slice-write-out-2 c = simp length-set (omega (arith, room (c .before .before)))
 
 add-i : tie.Need-add-i Inv-loop μ-loop
 add-i c = omega (arith, room (c .before .before))
-
-add-k : tie.Need-add-k Inv-loop μ-loop
-add-k c = search needs
-
-loop-less : tie.Need-loop-less Inv-loop μ-loop
-loop-less c = search needs
 
 loop-again : tie.Need-loop-again Inv-loop μ-loop
 loop-again c =
@@ -71,7 +60,9 @@ same-length : tie.Need-same-length Inv-loop μ-loop
 same-length c = c .before .loop .inv .same-long
 
 returns : tie.Need-returns Inv-loop μ-loop
-returns c = left-none (c .before .loop .inv) (taken-end _ (now (c .before .before .before .args .scratch)) (c .before .before .before .args .count) (c .before .loop .k) (c .before .before .before .pre .0) (c .loop-test .left))
+returns c =
+    let s = c .before .before .before in let a = s .args in let l = c .before .loop in
+    left-none (l .inv) (taken-end _ (now (a .scratch)) (a .count) (l .k) (s .pre .0) (c .loop-test .left))
 
 pub more-truths-spec : {M : Type 1} → statement M
 more-truths-spec =
@@ -81,14 +72,14 @@ more-truths-spec =
     μ-loop
     loop-holds
     slice-write-out
-    mul-truth-byte
-    shared-slice-copy-out-truth-byte
-    truth-byte-requires
+    (λ c. search needs)
+    (λ c. search needs)
+    (λ c κs. search needs)
     add-out
     slice-write-out-2
     add-i
-    add-k
-    loop-less
+    (λ c. search needs)
+    (λ c. search needs)
     loop-again
     same-length
     returns)

@@ -9,7 +9,8 @@ use denote.Ref.{now}
 use mir.Facts.{toZ-ofZ}
 use mir.Syntax.{w64}
 use Rattle.table.specs.Shape.{Bits}
-use Rattle.tabledata_writing.proofs.Writing.{Left, bits-joined, bits-long, left-all, left-none, left-step, taken-end, taken-more, wrote-one}
+use Rattle.table.proofs.Wrote.{Left, left-all, left-none, left-step, wrote-one}
+use Rattle.tabledata_writing.proofs.Writing.{bits-joined, bits-long, taken-end, taken-more}
 use Rattle.tabledata.specs.TableData.{bitText, elementBytes, joined}
 use Rattle.tabledata_writing.proofs.put_bits.Statement.{statement}
 use Rattle.tabledata_writing.proofs.put_bits.Tie as tie
@@ -26,17 +27,10 @@ loop-holds c =
     let e : a .at + 0 ≡ a .at = omega arith in
     (search needs, rw (e, ← bits-joined) (left-all (now (a .out)) (a .at) (elementBytes Bits (take (a .count) (now (a .scratch))))))
 
-mul-bit-byte : tie.Need-mul-bit-byte Inv-loop μ-loop
-mul-bit-byte c = search needs
-
-shared-slice-copy-out-bit-byte : tie.Need-shared-slice-copy-out-bit-byte Inv-loop μ-loop
-shared-slice-copy-out-bit-byte c = search needs
-
-bit-byte-requires : tie.Need-bit-byte-requires Inv-loop μ-loop
-bit-byte-requires c κs = search needs
-
 room : (c : tie.After-bit-byte Inv-loop μ-loop) → let a = c .before .before .before .before .before .args in a .at + a .count ≤ length (now (a .out))
-room c = let a = c .before .before .before .before .before .args in omega (arith, c .before .before .before .before .before .pre .1, bits-long (now (a .scratch)) (a .count) (c .before .before .before .before .before .pre .0))
+room c =
+    let s = c .before .before .before .before .before in let a = s .args in
+    omega (arith, s .pre .1, bits-long (now (a .scratch)) (a .count) (s .pre .0))
 
 add-out : tie.Need-add-out Inv-loop μ-loop
 add-out c = omega (arith, room c)
@@ -44,28 +38,28 @@ add-out c = omega (arith, room c)
 slice-write-out : tie.Need-slice-write-out Inv-loop μ-loop
 slice-write-out c = omega (arith, room c, c .before .before .before .loop .inv .1 .same-long)
 
-add-k : tie.Need-add-k Inv-loop μ-loop
-add-k c = search needs
-
-loop-less : tie.Need-loop-less Inv-loop μ-loop
-loop-less c = search needs
-
 loop-again : tie.Need-loop-again Inv-loop μ-loop
 loop-again c =
-    let a = c .before .before .before .before .before .args in let l = c .before .before .before .loop in
+    let at-test = c .before .before in let l = at-test .before .loop in let s = at-test .before .before .before in let a = s .args in
     let e : a .at + (l .k + 1) ≡ a .at + l .k + 1 = omega arith in
-    let next = taken-more (λ z. bitText z ∷ []) (now (a .scratch)) (a .count) (l .k) (c .before .before .before .before .before .pre .0) (c .before .before .loop-test .taken)
-    ∙ ap (λ (b : ℕ). (b ∷ []) ++ joined (λ z. bitText z ∷ []) (drop (l .k + 1) (take (a .count) (now (a .scratch))))) (sym (c .bit-byte .ensures ∙ ap bitText (toZ-ofZ {w = w64} (sfits-of (c .before .bit-byte-arg .given))))) in
-    (search needs, rw e (left-step (l .inv .1) next (wrote-one (l .out) (a .at + l .k) (c .bit-byte .result))))
+    let rest = joined (λ z. bitText z ∷ []) (drop (l .k + 1) (take (a .count) (now (a .scratch)))) in
+    let bit = c .bit-byte .ensures ∙ ap bitText (toZ-ofZ {w = w64} (sfits-of (c .before .bit-byte-arg .given))) in
+    let next = taken-more (λ z. bitText z ∷ []) (now (a .scratch)) (a .count) (l .k) (s .pre .0) (at-test .loop-test .taken) in
+    let step = left-step (l .inv .1) (next ∙ ap (λ (b : ℕ). (b ∷ []) ++ rest) (sym bit)) (wrote-one (l .out) (a .at + l .k) (c .bit-byte .result)) in
+    (search needs, rw e step)
 
 add-result : tie.Need-add-result Inv-loop μ-loop
-add-result c = let a = c .before .before .before .args in omega (arith, c .before .before .before .pre .1, bits-long (now (a .scratch)) (a .count) (c .before .before .before .pre .0), c .before .loop .inv .0)
+add-result c =
+    let s = c .before .before .before in let a = s .args in
+    omega (arith, s .pre .1, bits-long (now (a .scratch)) (a .count) (s .pre .0), c .before .loop .inv .0)
 
 same-length : tie.Need-same-length Inv-loop μ-loop
 same-length c = c .before .loop .inv .1 .same-long
 
 returns : tie.Need-returns Inv-loop μ-loop
-returns c = left-none (c .before .loop .inv .1) (taken-end _ (now (c .before .before .before .args .scratch)) (c .before .before .before .args .count) (c .before .loop .k) (c .before .before .before .pre .0) (c .loop-test .left))
+returns c =
+    let s = c .before .before .before in let a = s .args in let l = c .before .loop in
+    left-none (l .inv .1) (taken-end _ (now (a .scratch)) (a .count) (l .k) (s .pre .0) (c .loop-test .left))
 
 pub put-bits-spec : {M : Type 1} → statement M
 put-bits-spec =
@@ -74,13 +68,13 @@ put-bits-spec =
     Inv-loop
     μ-loop
     loop-holds
-    mul-bit-byte
-    shared-slice-copy-out-bit-byte
-    bit-byte-requires
+    (λ c. search needs)
+    (λ c. search needs)
+    (λ c κs. search needs)
     add-out
     slice-write-out
-    add-k
-    loop-less
+    (λ c. search needs)
+    (λ c. search needs)
     loop-again
     add-result
     same-length

@@ -8,12 +8,10 @@ use lib.ListN.{length}
 use borrow.Author.Needs.{needs}
 use borrow.Author.Tests.{not-false}
 use denote.Ref.{now}
-use Rattle.tabledata_writing.proofs.Writing.{char-plain, charForm, wrote-as, wrote-long, wrote-one}
+use Rattle.table.proofs.Wrote.{wrote-as, wrote-long, wrote-one}
+use Rattle.tabledata_writing.proofs.Writing.{char-plain, charForm}
 use Rattle.tabledata_writing.proofs.put_char.Statement.{statement}
 use Rattle.tabledata_writing.proofs.put_char.Tie as tie
-
-is-plain-requires : tie.Need-is-plain-requires
-is-plain-requires c κs = search needs
 
 put-escaped-requires : tie.Need-put-escaped-requires
 put-escaped-requires c κs = c .before .before .before .before .pre
@@ -42,12 +40,6 @@ cast-out c = omega (arith, itself c .1)
 slice-write-out : tie.Need-slice-write-out
 slice-write-out c = omega (arith, c .before .before .before .before .pre, ap length (itself c .0))
 
-add-result : tie.Need-add-result
-add-result c = search needs
-
-same-length-3 : tie.Need-same-length-3
-same-length-3 c = search needs
-
 returns-3 : tie.Need-returns-3
 returns-3 c =
     let a = c .before .before .before .before .args in
@@ -57,7 +49,7 @@ pub put-char-spec : {M : Type 1} → statement M
 put-char-spec =
     tie.close
     (tie.spec
-    is-plain-requires
+    (λ c κs. search needs)
     put-escaped-requires
     same-length
     returns
@@ -66,6 +58,6 @@ put-char-spec =
     returns-2
     cast-out
     slice-write-out
-    add-result
-    same-length-3
+    (λ c. search needs)
+    (λ c. search needs)
     returns-3)

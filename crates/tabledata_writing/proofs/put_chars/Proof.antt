@@ -9,7 +9,8 @@ use denote.Ref.{now}
 use mir.Facts.{toZ-ofZ}
 use mir.Syntax.{w64}
 use Rattle.table.specs.Shape.{Text}
-use Rattle.tabledata_writing.proofs.Writing.{Left, char-code, charForm, left-all, left-none, left-room, left-step, taken-end, taken-more}
+use Rattle.table.proofs.Wrote.{Left, left-all, left-none, left-room, left-step}
+use Rattle.tabledata_writing.proofs.Writing.{char-code, charForm, taken-end, taken-more}
 use Rattle.tabledata.specs.TableData.{elementBytes, joined}
 use Rattle.tabledata_writing.proofs.put_chars.Statement.{statement}
 use Rattle.tabledata_writing.proofs.put_chars.Tie as tie
@@ -24,31 +25,17 @@ loop-holds : tie.Need-loop-holds Inv-loop μ-loop
 unfolding elementBytes
 loop-holds c = left-all (now (c .before .args .out)) (c .before .args .at) _
 
-mul-code-of : tie.Need-mul-code-of Inv-loop μ-loop
-mul-code-of c = search needs
-
-shared-slice-copy-out-code-of : tie.Need-shared-slice-copy-out-code-of Inv-loop μ-loop
-shared-slice-copy-out-code-of c = search needs
-
-code-of-requires : tie.Need-code-of-requires Inv-loop μ-loop
-code-of-requires c κs = search needs
-
 -- the next character, by its code
 more : (c : tie.After-code-of Inv-loop μ-loop) → let a = c .before .before .before .before .before .before .args in let k = c .before .before .before .before .loop .k in
     joined charForm (drop k (take (a .count) (now (a .scratch)))) ≡ charForm (pos (c .code-of .result)) ++ joined charForm (drop (k + 1) (take (a .count) (now (a .scratch))))
 more c =
-    let a = c .before .before .before .before .before .before .args in let k = c .before .before .before .before .loop .k in
-    taken-more charForm (now (a .scratch)) (a .count) k (c .before .before .before .before .before .before .pre .0) (c .before .before .before .loop-test .taken)
-    ∙ ap (λ (b : List ℕ). b ++ joined charForm (drop (k + 1) (take (a .count) (now (a .scratch))))) (char-code _ _ (c .code-of .result) (toZ-ofZ {w = w64} (sfits-of (c .before .code-of-arg .given))) (c .code-of .ensures .0))
+    let at-test = c .before .before .before in let k = at-test .before .loop .k in let s = at-test .before .before .before in let a = s .args in
+    let code = char-code _ _ (c .code-of .result) (toZ-ofZ {w = w64} (sfits-of (c .before .code-of-arg .given))) (c .code-of .ensures .0) in
+    taken-more charForm (now (a .scratch)) (a .count) k (s .pre .0) (at-test .loop-test .taken)
+    ∙ ap (λ (b : List ℕ). b ++ joined charForm (drop (k + 1) (take (a .count) (now (a .scratch))))) code
 
 put-char-requires : tie.Need-put-char-requires Inv-loop μ-loop
 put-char-requires c κs = left-room (c .before .before .before .before .loop .inv) (charForm (pos (c .code-of .result))) _ (more c) (c .before .before .before .before .before .before .pre .1)
-
-add-k : tie.Need-add-k Inv-loop μ-loop
-add-k c = search needs
-
-loop-less : tie.Need-loop-less Inv-loop μ-loop
-loop-less c = search needs
 
 loop-again : tie.Need-loop-again Inv-loop μ-loop
 loop-again c = left-step (c .before .before .before .before .before .before .before .loop .inv) (more (c .before .before .before)) (c .before .before .put-char .ensures)
@@ -57,7 +44,9 @@ same-length : tie.Need-same-length Inv-loop μ-loop
 same-length c = c .before .loop .inv .same-long
 
 returns : tie.Need-returns Inv-loop μ-loop
-returns c = left-none (c .before .loop .inv) (taken-end charForm (now (c .before .before .before .args .scratch)) (c .before .before .before .args .count) (c .before .loop .k) (c .before .before .before .pre .0) (c .loop-test .left))
+returns c =
+    let s = c .before .before .before in let a = s .args in let l = c .before .loop in
+    left-none (l .inv) (taken-end charForm (now (a .scratch)) (a .count) (l .k) (s .pre .0) (c .loop-test .left))
 
 pub put-chars-spec : {M : Type 1} → statement M
 put-chars-spec =
@@ -66,12 +55,12 @@ put-chars-spec =
     Inv-loop
     μ-loop
     loop-holds
-    mul-code-of
-    shared-slice-copy-out-code-of
-    code-of-requires
+    (λ c. search needs)
+    (λ c. search needs)
+    (λ c κs. search needs)
     put-char-requires
-    add-k
-    loop-less
+    (λ c. search needs)
+    (λ c. search needs)
     loop-again
     same-length
     returns)

@@ -1,78 +1,50 @@
 -- `tabledata_writing::put_elements` meets its contract, kind by kind.
 use Prim.Native.Nat.{_+_, _≤_}
-use mathlib.Core.Path.{subst}
+use mathlib.Core.Path.{_≡_, subst}
 use lib.ListN.{length, take}
 use borrow.Author.Needs.{needs}
 use denote.Ref.{now}
 use Rattle.table.specs.Shape.{shape}
 use Rattle.table.specs.declared.Kind.{Kind}
-use Rattle.tabledata_writing.proofs.Writing.{wrote-long}
+use Rattle.table.proofs.Wrote.{wrote-long}
 use Rattle.tabledata.specs.TableData.{elementBytes}
 use Rattle.tabledata_writing.proofs.put_elements.Statement.{statement}
 use Rattle.tabledata_writing.proofs.put_elements.Tie as tie
 
-enum-told : tie.Need-enum-told
-enum-told c = search needs
+-- the room, where the kind is known
+room : (c : tie.Start) (kind : Kind) → c .args .kind ≡ kind → let a = c .args in
+    (a .count ≤ length (now (a .scratch))) × (a .at + length (elementBytes (shape kind) (take (a .count) (now (a .scratch)))) ≤ length (now (a .out)))
+room c kind e =
+    let a = c .args in
+    (c .pre .0, subst (λ (k : Kind). a .at + length (elementBytes (shape k) (take (a .count) (now (a .scratch)))) ≤ length (now (a .out))) e (c .pre .1))
 
 put-truths-requires : tie.Need-put-truths-requires
 unfolding elementBytes shape
-put-truths-requires c κs =
-    let a = c .before .before .before .before .args in
-    (c .before .before .before .before .pre .0, subst (λ (k : Kind). a .at + length (elementBytes (shape k) (take (a .count) (now (a .scratch)))) ≤ length (now (a .out))) (c .before .enum-told .given .1) (c .before .before .before .before .pre .1))
-
-enum-told-2 : tie.Need-enum-told-2
-enum-told-2 c = search needs
+put-truths-requires c κs = room (c .before .before .before .before) _ (c .before .enum-told .given .1)
 
 put-bits-requires : tie.Need-put-bits-requires
 unfolding shape
-put-bits-requires c κs =
-    let a = c .before .before .before .before .args in
-    (c .before .before .before .before .pre .0, subst (λ (k : Kind). a .at + length (elementBytes (shape k) (take (a .count) (now (a .scratch)))) ≤ length (now (a .out))) (c .before .enum-told2 .given .1) (c .before .before .before .before .pre .1))
-
-enum-told-3 : tie.Need-enum-told-3
-enum-told-3 c = search needs
+put-bits-requires c κs = room (c .before .before .before .before) _ (c .before .enum-told2 .given .1)
 
 put-integers-requires : tie.Need-put-integers-requires
 unfolding elementBytes shape
-put-integers-requires c κs =
-    let a = c .before .before .before .before .args in
-    (c .before .before .before .before .pre .0, subst (λ (k : Kind). a .at + length (elementBytes (shape k) (take (a .count) (now (a .scratch)))) ≤ length (now (a .out))) (c .before .enum-told3 .given .1) (c .before .before .before .before .pre .1))
-
-enum-told-4 : tie.Need-enum-told-4
-enum-told-4 c = search needs
+put-integers-requires c κs = room (c .before .before .before .before) _ (c .before .enum-told3 .given .1)
 
 put-integers-requires-2 : tie.Need-put-integers-requires-2
 unfolding elementBytes shape
-put-integers-requires-2 c κs =
-    let a = c .before .before .before .before .args in
-    (c .before .before .before .before .pre .0, subst (λ (k : Kind). a .at + length (elementBytes (shape k) (take (a .count) (now (a .scratch)))) ≤ length (now (a .out))) (c .before .enum-told4 .given .1) (c .before .before .before .before .pre .1))
-
-enum-told-5 : tie.Need-enum-told-5
-enum-told-5 c = search needs
+put-integers-requires-2 c κs = room (c .before .before .before .before) _ (c .before .enum-told4 .given .1)
 
 put-integers-requires-3 : tie.Need-put-integers-requires-3
 unfolding elementBytes shape
-put-integers-requires-3 c κs =
-    let a = c .before .before .before .before .args in
-    (c .before .before .before .before .pre .0, subst (λ (k : Kind). a .at + length (elementBytes (shape k) (take (a .count) (now (a .scratch)))) ≤ length (now (a .out))) (c .before .enum-told5 .given .1) (c .before .before .before .before .pre .1))
-
-enum-told-6 : tie.Need-enum-told-6
-enum-told-6 c = search needs
+put-integers-requires-3 c κs = room (c .before .before .before .before) _ (c .before .enum-told5 .given .1)
 
 put-integers-requires-4 : tie.Need-put-integers-requires-4
 unfolding elementBytes shape
-put-integers-requires-4 c κs =
-    let a = c .before .before .before .before .args in
-    (c .before .before .before .before .pre .0, subst (λ (k : Kind). a .at + length (elementBytes (shape k) (take (a .count) (now (a .scratch)))) ≤ length (now (a .out))) (c .before .enum-told6 .given .1) (c .before .before .before .before .pre .1))
-
-enum-told-7 : tie.Need-enum-told-7
-enum-told-7 c = search needs
+put-integers-requires-4 c κs = room (c .before .before .before .before) _ (c .before .enum-told6 .given .1)
 
 put-chars-requires : tie.Need-put-chars-requires
 unfolding shape
-put-chars-requires c κs =
-    let a = c .before .before .before .before .args in
-    (c .before .before .before .before .pre .0, subst (λ (k : Kind). a .at + length (elementBytes (shape k) (take (a .count) (now (a .scratch)))) ≤ length (now (a .out))) (c .before .enum-told7 .given .1) (c .before .before .before .before .pre .1))
+put-chars-requires c κs = room (c .before .before .before .before) _ (c .before .enum-told7 .given .1)
 
 same-length : tie.Need-same-length
 same-length c = wrote-long (c .before .before .put-truths .ensures)
@@ -127,19 +99,19 @@ pub put-elements-spec : {M : Type 1} → statement M
 put-elements-spec =
     tie.close
     (tie.spec
-    enum-told
+    (λ c. search needs)
     put-truths-requires
-    enum-told-2
+    (λ c. search needs)
     put-bits-requires
-    enum-told-3
+    (λ c. search needs)
     put-integers-requires
-    enum-told-4
+    (λ c. search needs)
     put-integers-requires-2
-    enum-told-5
+    (λ c. search needs)
     put-integers-requires-3
-    enum-told-6
+    (λ c. search needs)
     put-integers-requires-4
-    enum-told-7
+    (λ c. search needs)
     put-chars-requires
     same-length
     returns

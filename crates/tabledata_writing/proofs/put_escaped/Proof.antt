@@ -11,41 +11,27 @@ use borrow.Author.Tests.{not-false, not-true}
 use denote.Ref.{now}
 use Rattle.table.specs.Bytes.{between}
 use Rattle.tabledata.proofs.Laws.{text-lt}
-use Rattle.tabledata_writing.proofs.Writing.{char-itself, char-none, charForm, wrote-as, wrote-long, wrote-none, wrote-one}
+use Rattle.table.proofs.Wrote.{wrote-as, wrote-long, wrote-none, wrote-one}
+use Rattle.tabledata_writing.proofs.Writing.{char-itself, char-none, charForm}
 use Rattle.tabledata.specs.TableData.{escaped, formOf, isText}
 use Rattle.tabledata_writing.proofs.put_escaped.Statement.{statement}
 use Rattle.tabledata_writing.proofs.put_escaped.Tie as tie
-
-slice-aggregate-put-bytes : tie.Need-slice-aggregate-put-bytes
-slice-aggregate-put-bytes c = search needs
 
 put-bytes-requires : tie.Need-put-bytes-requires
 unfolding formOf isText between escaped
 put-bytes-requires c κs = omega (arith, c .before .before .before .before .pre, ap (λ (n : ℕ). length (charForm (pos n))) (c .before .before .match .keys1))
 
-slice-aggregate-put-bytes-2 : tie.Need-slice-aggregate-put-bytes-2
-slice-aggregate-put-bytes-2 c = search needs
-
 put-bytes-requires-2 : tie.Need-put-bytes-requires-2
 unfolding formOf isText between escaped
 put-bytes-requires-2 c κs = omega (arith, c .before .before .before .before .pre, ap (λ (n : ℕ). length (charForm (pos n))) (c .before .before .match .keys2))
-
-slice-aggregate-put-bytes-3 : tie.Need-slice-aggregate-put-bytes-3
-slice-aggregate-put-bytes-3 c = search needs
 
 put-bytes-requires-3 : tie.Need-put-bytes-requires-3
 unfolding formOf isText between escaped
 put-bytes-requires-3 c κs = omega (arith, c .before .before .before .before .pre, ap (λ (n : ℕ). length (charForm (pos n))) (c .before .before .match .keys3))
 
-slice-aggregate-put-bytes-4 : tie.Need-slice-aggregate-put-bytes-4
-slice-aggregate-put-bytes-4 c = search needs
-
 put-bytes-requires-4 : tie.Need-put-bytes-requires-4
 unfolding formOf isText between escaped
 put-bytes-requires-4 c κs = omega (arith, c .before .before .before .before .pre, ap (λ (n : ℕ). length (charForm (pos n))) (c .before .before .match .keys4))
-
-is-text-requires : tie.Need-is-text-requires
-is-text-requires c κs = search needs
 
 returns : tie.Need-returns
 returns c =
@@ -65,9 +51,6 @@ cast-out c = omega (arith, text-lt (c .before .before .before .before .args .c) 
 
 slice-write-out : tie.Need-slice-write-out
 slice-write-out c = omega (arith, c .before .before .before .before .pre, ap length (itself c))
-
-add-result : tie.Need-add-result
-add-result c = search needs
 
 same-length : tie.Need-same-length
 same-length c = wrote-long (c .before .before .put-bytes .ensures)
@@ -97,9 +80,6 @@ returns-5 : tie.Need-returns-5
 unfolding formOf isText between escaped
 returns-5 c = wrote-as (sym (ap (λ (n : ℕ). charForm (pos n)) (c .before .before .before .before .before .match .keys4))) (c .before .before .put-bytes4 .ensures)
 
-same-length-5 : tie.Need-same-length-5
-same-length-5 c = search needs
-
 returns-6 : tie.Need-returns-6
 returns-6 c =
     let a = c .before .before .before .before .args in
@@ -109,19 +89,19 @@ pub put-escaped-spec : {M : Type 1} → statement M
 put-escaped-spec =
     tie.close
     (tie.spec
-    slice-aggregate-put-bytes
+    (λ c. search needs)
     put-bytes-requires
-    slice-aggregate-put-bytes-2
+    (λ c. search needs)
     put-bytes-requires-2
-    slice-aggregate-put-bytes-3
+    (λ c. search needs)
     put-bytes-requires-3
-    slice-aggregate-put-bytes-4
+    (λ c. search needs)
     put-bytes-requires-4
-    is-text-requires
+    (λ c κs. search needs)
     returns
     cast-out
     slice-write-out
-    add-result
+    (λ c. search needs)
     same-length
     returns-2
     same-length-2
@@ -130,5 +110,5 @@ put-escaped-spec =
     returns-4
     same-length-4
     returns-5
-    same-length-5
+    (λ c. search needs)
     returns-6)

@@ -1,9 +1,9 @@
 -- `tabledata_writing::size_text` meets its contract: null, nothing, or elements by their kind.
-use Prim.Native.Nat.{_*_, _+_, ℕ}
+use Prim.Native.Nat.{_*_, _+_, _≤_, ℕ}
 use native.Mathlib.Omega.{arith}
 use mathlib.Core.Bool.{false, true}
-use mathlib.Core.Path.{_∙_, ap, sym}
-use lib.ListN.{take}
+use mathlib.Core.Path.{_∙_, _≡_, ap, sym}
+use lib.ListN.{length, take}
 use borrow.Author.Needs.{needs}
 use denote.Ref.{now}
 use Rattle.table.specs.Result.{good}
@@ -12,84 +12,69 @@ use Rattle.tabledata_writing.proofs.Writing.{size-none, size-null, size
 use Rattle.tabledata_writing.proofs.size_text.Statement.{statement}
 use Rattle.tabledata_writing.proofs.size_text.Tie as tie
 
+-- the elements, as many as the count says
+taken : (c : tie.Start) → length (take (c .args .count) (now (c .args .scratch))) ≡ c .args .count
+taken c = taken-long (now (c .args .scratch)) (c .args .count) (c .pre .0)
+
+some : (c : tie.Else2) → let a = c .before .before .args in 1 ≤ length (take (a .count) (now (a .scratch)))
+some c = omega (arith, taken (c .before .before))
+
 returns : tie.Need-returns
-returns c = rw ((c .if1) .taken) (sym (size-null ((c .before) .args .column)))
+returns c = rw (c .if1 .taken) (sym (size-null (c .before .args .column)))
 
 returns-2 : tie.Need-returns-2
-returns-2 c = rw ((c .before .if1) .left) (sym (size-none ((c .before .before) .args .column) (take ((c .before .before) .args .count) (now ((c .before .before) .args .scratch))) (omega (arith, (taken-long (now ((c .before .before) .args .scratch)) ((c .before .before) .args .count) ((c .before .before) .pre .0))))))
-
-enum-told : tie.Need-enum-told
-enum-told c = search needs
-
-mul-t8 : tie.Need-mul-t8
-mul-t8 c = search needs
-
-add-t9 : tie.Need-add-t9
-add-t9 c = search needs
-
-enum-told-2 : tie.Need-enum-told-2
-enum-told-2 c = search needs
-
-add-t10 : tie.Need-add-t10
-add-t10 c = search needs
-
-enum-told-3 : tie.Need-enum-told-3
-enum-told-3 c = search needs
-
-integers-size-requires : tie.Need-integers-size-requires
-integers-size-requires c κs = search needs
-
-enum-told-4 : tie.Need-enum-told-4
-enum-told-4 c = search needs
-
-integers-size-requires-2 : tie.Need-integers-size-requires-2
-integers-size-requires-2 c κs = search needs
-
-enum-told-5 : tie.Need-enum-told-5
-enum-told-5 c = search needs
-
-integers-size-requires-3 : tie.Need-integers-size-requires-3
-integers-size-requires-3 c κs = search needs
-
-enum-told-6 : tie.Need-enum-told-6
-enum-told-6 c = search needs
-
-integers-size-requires-4 : tie.Need-integers-size-requires-4
-integers-size-requires-4 c κs = search needs
-
-enum-told-7 : tie.Need-enum-told-7
-enum-told-7 c = search needs
-
-chars-size-requires : tie.Need-chars-size-requires
-chars-size-requires c κs = search needs
+returns-2 c =
+    let s = c .before .before in
+    rw (c .before .if1 .left) (sym (size-none (s .args .column) _ (omega (arith, taken s))))
 
 returns-3 : tie.Need-returns-3
 unfolding shape
-returns-3 c = rw ((c .before .before .before .if1) .left) (sym (size-of-truths ((c .before .before .before .before) .args .column) (take ((c .before .before .before .before) .args .count) (now ((c .before .before .before .before) .args .scratch))) (omega (arith, (taken-long (now ((c .before .before .before .before) .args .scratch)) ((c .before .before .before .before) .args .count) ((c .before .before .before .before) .pre .0)))) (ap shape ((c .enum-told) .given .1)) ∙ ap (λ (n : ℕ). good (2 * n + 8)) (taken-long (now ((c .before .before .before .before) .args .scratch)) ((c .before .before .before .before) .args .count) ((c .before .before .before .before) .pre .0))))
+returns-3 c =
+    let at-if = c .before .before in let s = at-if .before .before in
+    rw (at-if .before .if1 .left)
+    (sym (size-of-truths (s .args .column) _ (some at-if) (ap shape (c .enum-told .given .1)) ∙ ap (λ (n : ℕ). good (2 * n + 8)) (taken s)))
 
 returns-4 : tie.Need-returns-4
 unfolding shape
-returns-4 c = rw ((c .before .before .before .if1) .left) (sym (size-of-bits ((c .before .before .before .before) .args .column) (take ((c .before .before .before .before) .args .count) (now ((c .before .before .before .before) .args .scratch))) (omega (arith, (taken-long (now ((c .before .before .before .before) .args .scratch)) ((c .before .before .before .before) .args .count) ((c .before .before .before .before) .pre .0)))) (ap shape ((c .enum-told2) .given .1)) ∙ ap (λ (n : ℕ). good (n + 9)) (taken-long (now ((c .before .before .before .before) .args .scratch)) ((c .before .before .before .before) .args .count) ((c .before .before .before .before) .pre .0))))
+returns-4 c =
+    let at-if = c .before .before in let s = at-if .before .before in
+    rw (at-if .before .if1 .left)
+    (sym (size-of-bits (s .args .column) _ (some at-if) (ap shape (c .enum-told2 .given .1)) ∙ ap (λ (n : ℕ). good (n + 9)) (taken s)))
 
 returns-5 : tie.Need-returns-5
 unfolding shape
-returns-5 c = rw ((c .before .before .before .before .if1) .left) (ap good ((c .integers-size) .ensures) ∙ sym (size-of-whole ((c .before .before .before .before .before) .args .column) (take ((c .before .before .before .before .before) .args .count) (now ((c .before .before .before .before .before) .args .scratch))) (omega (arith, (taken-long (now ((c .before .before .before .before .before) .args .scratch)) ((c .before .before .before .before .before) .args .count) ((c .before .before .before .before .before) .pre .0)))) false W1 (ap shape ((c .before .enum-told3) .given .1))))
+returns-5 c =
+    let at-if = c .before .before .before in
+    rw (at-if .before .if1 .left)
+    (ap good (c .integers-size .ensures) ∙ sym (size-of-whole (at-if .before .before .args .column) _ (some at-if) false W1 (ap shape (c .before .enum-told3 .given .1))))
 
 returns-6 : tie.Need-returns-6
 unfolding shape
-returns-6 c = rw ((c .before .before .before .before .if1) .left) (ap good ((c .integers-size2) .ensures) ∙ sym (size-of-whole ((c .before .before .before .before .before) .args .column) (take ((c .before .before .before .before .before) .args .count) (now ((c .before .before .before .before .before) .args .scratch))) (omega (arith, (taken-long (now ((c .before .before .before .before .before) .args .scratch)) ((c .before .before .before .before .before) .args .count) ((c .before .before .before .before .before) .pre .0)))) true W2 (ap shape ((c .before .enum-told4) .given .1))))
+returns-6 c =
+    let at-if = c .before .before .before in
+    rw (at-if .before .if1 .left)
+    (ap good (c .integers-size2 .ensures) ∙ sym (size-of-whole (at-if .before .before .args .column) _ (some at-if) true W2 (ap shape (c .before .enum-told4 .given .1))))
 
 returns-7 : tie.Need-returns-7
 unfolding shape
-returns-7 c = rw ((c .before .before .before .before .if1) .left) (ap good ((c .integers-size3) .ensures) ∙ sym (size-of-whole ((c .before .before .before .before .before) .args .column) (take ((c .before .before .before .before .before) .args .count) (now ((c .before .before .before .before .before) .args .scratch))) (omega (arith, (taken-long (now ((c .before .before .before .before .before) .args .scratch)) ((c .before .before .before .before .before) .args .count) ((c .before .before .before .before .before) .pre .0)))) true W4 (ap shape ((c .before .enum-told5) .given .1))))
+returns-7 c =
+    let at-if = c .before .before .before in
+    rw (at-if .before .if1 .left)
+    (ap good (c .integers-size3 .ensures) ∙ sym (size-of-whole (at-if .before .before .args .column) _ (some at-if) true W4 (ap shape (c .before .enum-told5 .given .1))))
 
 returns-8 : tie.Need-returns-8
 unfolding shape
-returns-8 c = rw ((c .before .before .before .before .if1) .left) (ap good ((c .integers-size4) .ensures) ∙ sym (size-of-whole ((c .before .before .before .before .before) .args .column) (take ((c .before .before .before .before .before) .args .count) (now ((c .before .before .before .before .before) .args .scratch))) (omega (arith, (taken-long (now ((c .before .before .before .before .before) .args .scratch)) ((c .before .before .before .before .before) .args .count) ((c .before .before .before .before .before) .pre .0)))) true W8 (ap shape ((c .before .enum-told6) .given .1))))
+returns-8 c =
+    let at-if = c .before .before .before in
+    rw (at-if .before .if1 .left)
+    (ap good (c .integers-size4 .ensures) ∙ sym (size-of-whole (at-if .before .before .args .column) _ (some at-if) true W8 (ap shape (c .before .enum-told6 .given .1))))
 
 returns-9 : tie.Need-returns-9
 unfolding shape
-returns-9 c = rw ((c .before .before .before .before .if1) .left) ((c .chars-size) .ensures ∙ sym (size-of-chars ((c .before .before .before .before .before) .args .column) (take ((c .before .before .before .before .before) .args .count) (now ((c .before .before .before .before .before) .args .scratch))) (omega (arith, (taken-long (now ((c .before .before .before .before .before) .args .scratch)) ((c .before .before .before .before .before) .args .count) ((c .before .before .before .before .before) .pre .0)))) (ap shape ((c .before .enum-told7) .given .1))))
+returns-9 c =
+    let at-if = c .before .before .before in
+    rw (at-if .before .if1 .left)
+    (c .chars-size .ensures ∙ sym (size-of-chars (at-if .before .before .args .column) _ (some at-if) (ap shape (c .before .enum-told7 .given .1))))
 
 pub size-text-spec : {M : Type 1} → statement M
 size-text-spec =
@@ -97,21 +82,21 @@ size-text-spec =
     (tie.spec
     returns
     returns-2
-    enum-told
-    mul-t8
-    add-t9
-    enum-told-2
-    add-t10
-    enum-told-3
-    integers-size-requires
-    enum-told-4
-    integers-size-requires-2
-    enum-told-5
-    integers-size-requires-3
-    enum-told-6
-    integers-size-requires-4
-    enum-told-7
-    chars-size-requires
+    (λ c. search needs)
+    (λ c. search needs)
+    (λ c. search needs)
+    (λ c. search needs)
+    (λ c. search needs)
+    (λ c. search needs)
+    (λ c κs. search needs)
+    (λ c. search needs)
+    (λ c κs. search needs)
+    (λ c. search needs)
+    (λ c κs. search needs)
+    (λ c. search needs)
+    (λ c κs. search needs)
+    (λ c. search needs)
+    (λ c κs. search needs)
     returns-3
     returns-4
     returns-5

@@ -6,9 +6,6 @@ use Rattle.tabledata_writing.proofs.Writing.{form-high}
 use Rattle.tabledata_writing.proofs.small_code.Statement.{statement}
 use Rattle.tabledata_writing.proofs.small_code.Tie as tie
 
-cast-result : tie.Need-cast-result
-cast-result c = search needs
-
 returns : tie.Need-returns
 returns c = (refl, omega arith)
 
@@ -16,4 +13,4 @@ returns-2 : tie.Need-returns-2
 returns-2 c = (form-high ((c .before) .args .x) ((c .if1) .left), omega arith)
 
 pub small-code-spec : {M : Type 1} → statement M
-small-code-spec = tie.close (tie.spec cast-result returns returns-2)
+small-code-spec = tie.close (tie.spec (λ c. search needs) returns returns-2)

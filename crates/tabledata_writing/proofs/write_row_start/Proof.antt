@@ -1,15 +1,9 @@
 -- `tabledata_writing::write_row_start` meets its contract.
 use borrow.Author.Needs.{needs}
-use Rattle.tabledata_writing.proofs.Writing.{wrote-long}
+use Rattle.table.proofs.Wrote.{wrote-long}
 use Rattle.tabledata.specs.TableData.{open-TR}
 use Rattle.tabledata_writing.proofs.write_row_start.Statement.{statement}
 use Rattle.tabledata_writing.proofs.write_row_start.Tie as tie
-
-slice-aggregate-put-bytes : tie.Need-slice-aggregate-put-bytes
-slice-aggregate-put-bytes c = search needs
-
-put-bytes-requires : tie.Need-put-bytes-requires
-put-bytes-requires c κs = search needs
 
 same-length : tie.Need-same-length
 same-length c = wrote-long ((c .before .before .put-bytes) .ensures)
@@ -20,4 +14,4 @@ returns c = (c .before .before .put-bytes) .ensures
 
 pub write-row-start-spec : {M : Type 1} → statement M
 write-row-start-spec =
-    tie.close (tie.spec slice-aggregate-put-bytes put-bytes-requires same-length returns)
+    tie.close (tie.spec (λ c. search needs) (λ c κs. search needs) same-length returns)

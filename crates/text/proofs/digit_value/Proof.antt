@@ -5,12 +5,6 @@ use Rattle.text.proofs.Digits.{digit-low, digit-lower, digit-none, digi
 use Rattle.text.proofs.digit_value.Statement.{statement}
 use Rattle.text.proofs.digit_value.Tie as tie
 
-sub-result : tie.Need-sub-result
-sub-result c = search needs
-
-sub-result-2 : tie.Need-sub-result-2
-sub-result-2 c = search needs
-
 returns : tie.Need-returns
 returns c = digit-low _ (omega arith) (omega arith)
 
@@ -35,4 +29,4 @@ returns-7 c = digit-none _ (omega arith) (omega arith) (omega arith)
 pub digit-value-spec : {M : Type 1} → statement M
 digit-value-spec =
     tie.close
-    (tie.spec sub-result sub-result-2 returns returns-2 returns-3 returns-4 returns-5 returns-6 returns-7)
+    (tie.spec (λ c. search needs) (λ c. search needs) returns returns-2 returns-3 returns-4 returns-5 returns-6 returns-7)

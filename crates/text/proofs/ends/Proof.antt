@@ -4,14 +4,8 @@ use Rattle.text.proofs.Scan.{ends-from}
 use Rattle.text.proofs.ends.Statement.{statement}
 use Rattle.text.proofs.ends.Tie as tie
 
-skip-white-requires : tie.Need-skip-white-requires
-skip-white-requires c κs = search needs
-
-goes-on-requires : tie.Need-goes-on-requires
-goes-on-requires c κs = search needs
-
 returns : tie.Need-returns
 returns c = ends-from _ (c .before .skip-white .ensures) (c .goes-on .ensures)
 
 pub ends-spec : {M : Type 1} → statement M
-ends-spec = tie.close (tie.spec skip-white-requires goes-on-requires returns)
+ends-spec = tie.close (tie.spec (λ c κs. search needs) (λ c κs. search needs) returns)

@@ -20,22 +20,10 @@ abbrev μ-loop : tie.MeasureT-loop
 loop-holds : tie.Need-loop-holds Inv-loop μ-loop
 loop-holds c = (search needs, omega arith, λ n. rw add-zero)
 
-sub-if1 : tie.Need-sub-if1 Inv-loop μ-loop
-sub-if1 c = search needs
-
 returns : tie.Need-returns Inv-loop μ-loop
 returns c =
     let at-test = c .before in let at-loop = at-test .before in let a = at-loop .before .args in let k = at-loop .loop .k in
     record { found = λ n. at-loop .loop .inv .2 n ∙ after-end n (now (a .word)) (now (a .s)) k (a .at + k) (at-test .loop-test .taken) (omega arith); within = tt }
-
-shared-slice-read-if2 : tie.Need-shared-slice-read-if2 Inv-loop μ-loop
-shared-slice-read-if2 c = search needs
-
-add-if2 : tie.Need-add-if2 Inv-loop μ-loop
-add-if2 c = search needs
-
-shared-slice-read-if2-2 : tie.Need-shared-slice-read-if2-2 Inv-loop μ-loop
-shared-slice-read-if2-2 c = search needs
 
 returns-2 : tie.Need-returns-2 Inv-loop μ-loop
 returns-2 c =
@@ -46,12 +34,6 @@ returns-2 c =
       within = tt;
     }
 
-add-k : tie.Need-add-k Inv-loop μ-loop
-add-k c = search needs
-
-loop-less : tie.Need-loop-less Inv-loop μ-loop
-loop-less c = search needs
-
 loop-again : tie.Need-loop-again Inv-loop μ-loop
 loop-again c =
     let at-test = c .before .before .before .before in let at-loop = at-test .before in
@@ -61,9 +43,6 @@ loop-again c =
       omega arith,
       λ n. at-loop .loop .inv .2 n ∙ after-more n (now (a .word)) (now (a .s)) k (a .at + k) (at-test .loop-test .taken) (omega arith) (c .if2 .left) ∙ rw e,
     )
-
-add-t12 : tie.Need-add-t12 Inv-loop μ-loop
-add-t12 c = search needs
 
 returns-3 : tie.Need-returns-3 Inv-loop μ-loop
 returns-3 c =
@@ -80,14 +59,14 @@ goes-on-spec =
     Inv-loop
     μ-loop
     loop-holds
-    sub-if1
+    (λ c. search needs)
     returns
-    shared-slice-read-if2
-    add-if2
-    shared-slice-read-if2-2
+    (λ c. search needs)
+    (λ c. search needs)
+    (λ c. search needs)
     returns-2
-    add-k
-    loop-less
+    (λ c. search needs)
+    (λ c. search needs)
     loop-again
-    add-t12
+    (λ c. search needs)
     returns-3)

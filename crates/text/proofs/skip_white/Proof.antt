@@ -18,20 +18,8 @@ abbrev μ-loop : tie.MeasureT-loop
 loop-holds : tie.Need-loop-holds Inv-loop μ-loop
 loop-holds c = (search needs, search needs, refl)
 
-shared-slice-read-is-white : tie.Need-shared-slice-read-is-white Inv-loop μ-loop
-shared-slice-read-is-white c = search needs
-
 cast-is-white : tie.Need-cast-is-white Inv-loop μ-loop
 cast-is-white c = omega (arith, c .shared-slice-known2 .given (c .before .before .loop .i))
-
-is-white-requires : tie.Need-is-white-requires Inv-loop μ-loop
-is-white-requires c κs = search needs
-
-add-i : tie.Need-add-i Inv-loop μ-loop
-add-i c = search needs
-
-loop-less : tie.Need-loop-less Inv-loop μ-loop
-loop-less c = search needs
 
 loop-again : tie.Need-loop-again Inv-loop μ-loop
 loop-again c =
@@ -59,11 +47,11 @@ skip-white-spec =
     Inv-loop
     μ-loop
     loop-holds
-    shared-slice-read-is-white
+    (λ c. search needs)
     cast-is-white
-    is-white-requires
-    add-i
-    loop-less
+    (λ c κs. search needs)
+    (λ c. search needs)
+    (λ c. search needs)
     loop-again
     returns
     returns-2)

@@ -6,20 +6,8 @@ use Rattle.text.specs.Contracts.{TagIs}
 use Rattle.text.proofs.whole_tag.Statement.{statement}
 use Rattle.text.proofs.whole_tag.Tie as tie
 
-goes-on-requires : tie.Need-goes-on-requires
-goes-on-requires c κs = search needs
-
-enum-known-i : tie.Need-enum-known-i
-enum-known-i c = search needs
-
-enum-told : tie.Need-enum-told
-enum-told c = search needs
-
 returns : tie.Need-returns
 returns c = tag-not _ (subst (TagIs _ _ _) (c .enum-told .given .1) (c .before .before .goes-on .ensures))
-
-slice-aggregate-ends : tie.Need-slice-aggregate-ends
-slice-aggregate-ends c = search needs
 
 ends-requires : tie.Need-ends-requires
 ends-requires c κs =
@@ -32,4 +20,4 @@ returns-2 c =
     tag-there _ (subst (TagIs _ _ _) (at-word .i .given .1) (at-word .before .before .goes-on .ensures)) (c .ends .ensures)
 
 pub whole-tag-spec : {M : Type 1} → statement M
-whole-tag-spec = tie.close (tie.spec goes-on-requires enum-known-i enum-told returns slice-aggregate-ends ends-requires returns-2)
+whole-tag-spec = tie.close (tie.spec (λ c κs. search needs) (λ c. search needs) (λ c. search needs) returns (λ c. search needs) ends-requires returns-2)

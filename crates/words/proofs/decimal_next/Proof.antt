@@ -1,34 +1,20 @@
 -- `words::decimal_next` meets its contract: a digit, of which there may be 20, or no digit.
-use Prim.Native.Nat.{_+_, _-_, ℕ}
+use Prim.Native.Nat.{_+_, _-_}
 use mathlib.Core.Logic.{⊎-elim}
 use mathlib.Core.Path.{_∙_, ap, sym}
 use Rattle.words.specs.Words.{word}
-use Rattle.words.proofs.WordLaws.{decimal-bad, decimal-full, decimal-more, digit-over, digit-under, digit-yes}
+use Rattle.number.proofs.Laws.{digit-no, digit-yes}
+use Rattle.words.proofs.WordLaws.{decimal-bad, decimal-full, decimal-more}
 use native.Mathlib.Omega.{arith}
 use borrow.Author.Needs.{needs}
 use Rattle.words.proofs.decimal_next.Statement.{statement}
 use Rattle.words.proofs.decimal_next.Tie as tie
-
-broken-requires : tie.Need-broken-requires
-broken-requires c κs = search needs
 
 returns : tie.Need-returns
 returns c =
     let a = c .before .before .before .before .args in
     c .broken .ensures
     ∙ sym (decimal-full (a .form) (a .count) (a .value) (a .c) (a .c - 48) (digit-yes (a .c) (omega arith) (omega arith)) (omega arith))
-
-add-t8 : tie.Need-add-t8
-add-t8 c = search needs
-
-cast-with-digit : tie.Need-cast-with-digit
-cast-with-digit c = search needs
-
-with-digit-requires : tie.Need-with-digit-requires
-with-digit-requires c κs = search needs
-
-broken-requires-2 : tie.Need-broken-requires-2
-broken-requires-2 c κs = search needs
 
 returns-2 : tie.Need-returns-2
 returns-2 c =
@@ -40,17 +26,17 @@ returns-3 : tie.Need-returns-3
 returns-3 c =
     let a = c .before .before .args in
     c .broken2 .ensures
-    ∙ sym (decimal-bad (a .form) (a .count) (a .value) (a .c) (⊎-elim (λ w. digit-under (a .c) (omega arith)) (λ w. digit-over (a .c) (omega arith)) (c .before .if1 .came)))
+    ∙ sym (decimal-bad (a .form) (a .count) (a .value) (a .c) (digit-no (a .c) (λ h k. ⊎-elim (λ w. omega arith) (λ w. omega arith) (c .before .if1 .came))))
 
 pub decimal-next-spec : {M : Type 1} → statement M
 decimal-next-spec =
     tie.close
     (tie.spec
-    broken-requires
+    (λ c κs. search needs)
     returns
-    add-t8
-    cast-with-digit
-    with-digit-requires
-    broken-requires-2
+    (λ c. search needs)
+    (λ c. search needs)
+    (λ c κs. search needs)
+    (λ c κs. search needs)
     returns-2
     returns-3)

@@ -6,9 +6,6 @@ use borrow.Author.Needs.{needs}
 use Rattle.words.proofs.first_next.Statement.{statement}
 use Rattle.words.proofs.first_next.Tie as tie
 
-decimal-next-requires : tie.Need-decimal-next-requires
-decimal-next-requires c κs = search needs
-
 returns : tie.Need-returns
 unfolding firstNext
 returns c = sym (ap firstNext (c .match .keys1))
@@ -28,4 +25,4 @@ returns-4 c =
     c .decimal-next .ensures ∙ sym (rw (ne-eqb (a .c) 43 (c .before .match .rest .0 .0 .1), ne-eqb (a .c) 45 (c .before .match .rest .0 .1), ne-eqb (a .c) 48 (c .before .match .rest .1)))
 
 pub first-next-spec : {M : Type 1} → statement M
-first-next-spec = tie.close (tie.spec decimal-next-requires returns returns-2 returns-3 returns-4)
+first-next-spec = tie.close (tie.spec (λ c κs. search needs) returns returns-2 returns-3 returns-4)

@@ -16,16 +16,10 @@ returns c =
     let a = c .before .args in
     sym (hexadecimal-none (a .kind) (a .count) (a .value) (c .if1 .taken))
 
-most-hexadigits-requires : tie.Need-most-hexadigits-requires
-most-hexadigits-requires c κs = search needs
-
 returns-2 : tie.Need-returns-2
 returns-2 c =
     let a = c .before .before .before .args in
     sym (hexadecimal-many (a .kind) (a .count) (a .value) (c .before .before .if1 .left) (omega (arith, c .before .most-hexadigits .ensures)))
-
-of-low-bytes-requires : tie.Need-of-low-bytes-requires
-of-low-bytes-requires c κs = search needs
 
 returns-3 : tie.Need-returns-3
 returns-3 c =
@@ -35,4 +29,4 @@ returns-3 c =
 
 pub hexadecimal-reading-spec : {M : Type 1} → statement M
 hexadecimal-reading-spec =
-    tie.close (tie.spec returns most-hexadigits-requires returns-2 of-low-bytes-requires returns-3)
+    tie.close (tie.spec returns (λ c κs. search needs) returns-2 (λ c κs. search needs) returns-3)

@@ -17,9 +17,6 @@ use borrow.Author.Needs.{needs}
 use Rattle.words.proofs.negative.Statement.{statement}
 use Rattle.words.proofs.negative.Tie as tie
 
-is-signed-requires : tie.Need-is-signed-requires
-is-signed-requires c κs = search needs
-
 returns : tie.Need-returns
 returns c =
     let a = c .before .before .args in
@@ -37,21 +34,12 @@ returns-3 c =
     let g : isSigned (a .kind) ≡ true = sym (c .before .before .before .is-signed .ensures) ∙ not-false _ (c .before .before .if1 .left) in
     sym (signed-yes (a .kind) true (a .count) (a .value) g ∙ decimal-zero (a .kind) (a .count) (a .value) (c .before .if2 .left) (c .if3 .taken))
 
-top-of-requires : tie.Need-top-of-requires
-top-of-requires c κs = search needs
-
-sub-if4 : tie.Need-sub-if4
-sub-if4 c = search needs
-
 returns-4 : tie.Need-returns-4
 returns-4 c =
     let a = c .before .before .before .before .before .before .args in
     let g : isSigned (a .kind) ≡ true = sym (c .before .before .before .before .before .is-signed .ensures) ∙ not-false _ (c .before .before .before .before .if1 .left) in
     sym (signed-yes (a .kind) true (a .count) (a .value) g
     ∙ decimal-under (a .kind) (a .count) (a .value) (c .before .before .before .if2 .left) (c .before .before .if3 .left) (omega (arith, c .before .top-of .ensures)))
-
-sub-t6 : tie.Need-sub-t6
-sub-t6 c = search needs
 
 cast-t8 : tie.Need-cast-t8
 cast-t8 c = omega (arith, c .before .top-of .ensures, top-lt (c .before .before .before .before .before .before .args .kind))
@@ -74,14 +62,14 @@ pub negative-spec : {M : Type 1} → statement M
 negative-spec =
     tie.close
     (tie.spec
-    is-signed-requires
+    (λ c κs. search needs)
     returns
     returns-2
     returns-3
-    top-of-requires
-    sub-if4
+    (λ c κs. search needs)
+    (λ c. search needs)
     returns-4
-    sub-t6
+    (λ c. search needs)
     cast-t8
     sub-t9
     returns-5)

@@ -1,6 +1,6 @@
 -- `words::positive` meets its contract: no digit, over the kind's largest, or a value.
 use mathlib.Core.Bool.{false}
-use mathlib.Core.Path.{_∙_, _≡_, ap, sym}
+use mathlib.Core.Path.{_∙_, ap, sym}
 use Prim.Native.Nat.{_≤_}
 use lib.IntN.{ℤ}
 use mir.Facts.{toZ-pos}
@@ -19,9 +19,6 @@ returns c =
     let a = c .before .args in
     sym (decimal-none (a .kind) false (a .count) (a .value) (c .if1 .taken))
 
-top-of-requires : tie.Need-top-of-requires
-top-of-requires c κs = search needs
-
 returns-2 : tie.Need-returns-2
 returns-2 c =
     let a = c .before .before .before .args in
@@ -37,4 +34,4 @@ returns-3 c =
     ap {B = Result Fault ℤ} good (toZ-pos w64 (omega (arith, top-lt (a .kind)))) ∙ sym (decimal-up (a .kind) (a .count) (a .value) (c .before .before .if1 .left) h)
 
 pub positive-spec : {M : Type 1} → statement M
-positive-spec = tie.close (tie.spec returns top-of-requires returns-2 cast-t6 returns-3)
+positive-spec = tie.close (tie.spec returns (λ c κs. search needs) returns-2 cast-t6 returns-3)

@@ -1,18 +1,19 @@
 -- `words::quick_digits` meets its contract. The run behind and the run still to come are the whole run; the number is that of the digits behind.
-use Prim.Native.Nat.{_*_, _+_, _-_, _<_, _^_, _≤_, suc, ℕ}
-use mathlib.Core.Bool.{false, true}
+use Prim.Native.Nat.{_+_, _-_, _<_, _≤_, suc, ℕ}
+use mathlib.Core.Bool.{true}
 use mathlib.Core.Logic.{⊎-elim}
-use mathlib.Core.Path.{_∙_, _≡_, ap, refl, sym}
+use mathlib.Core.Path.{_∙_, _≡_, ap, refl}
 use native.Mathlib.Omega.{arith}
 use denote.Ref.{now}
 use lib.ListN.{drop, getD, length, take}
-use Rattle.words.specs.Contracts.{run}
+use Rattle.words.specs.Contracts.{leadingDigits}
 use Rattle.number.specs.Number.{digit, numeral}
 use Rattle.table.specs.Bytes.{between}
 use Rattle.table.specs.Result.{good}
 use Rattle.table.proofs.Laws.{between-yes}
-use Rattle.words.proofs.QuickLaws.{number-lt, number-more, run-end, run-go, run-out, run-stop, run-zero}
-use Rattle.words.proofs.WordLaws.{above, digit-yes, under}
+use Rattle.words.proofs.QuickLaws.{number-lt, number-more, leading-end, leading-go, leading-out, leading-stop, leading-zero}
+use Rattle.number.proofs.Laws.{digit-yes}
+use Rattle.table.proofs.Bytes.{between-no}
 use borrow.Author.Needs.{needs}
 use Rattle.words.proofs.quick_digits.Statement.{statement}
 use Rattle.words.proofs.quick_digits.Tie as tie
@@ -20,17 +21,11 @@ use Rattle.words.proofs.quick_digits.Tie as tie
 abbrev Inv-loop : tie.InvT-loop
 Inv-loop s at end number₀ i₀ number i =
     ((at ≤ i) × (i ≤ end))
-    × (i + run (at + 18 - i) (drop i s) ≡ at + run 18 (drop at s))
+    × (i + leadingDigits (at + 18 - i) (drop i s) ≡ at + leadingDigits 18 (drop at s))
     × (numeral digit 10 0 (take (i - at) (drop at s)) ≡ good number)
 
 abbrev μ-loop : tie.MeasureT-loop
 μ-loop s at end number₀ i₀ number i = end - i
-
-add-earlier : tie.Need-add-earlier Inv-loop μ-loop
-add-earlier c = search needs
-
-earlier-requires : tie.Need-earlier-requires Inv-loop μ-loop
-earlier-requires c κs = search needs
 
 loop-holds : tie.Need-loop-holds Inv-loop μ-loop
 unfolding numeral
@@ -49,14 +44,13 @@ mul-number c =
     let a = c .before .before .before .before .before .before .before .args in
     omega (arith, number-lt (now (a .s)) (a .at) (l .i) (l .number) (l .inv .0 .0) (l .inv .2) (omega (arith, c .before .before .before .before .before .earlier .ensures .by-second)))
 
-cast-number : tie.Need-cast-number Inv-loop μ-loop
-cast-number c = search needs
-
 add-number : tie.Need-add-number Inv-loop μ-loop
 add-number c =
     let l = c .before .before .before .before .loop in
     let a = c .before .before .before .before .before .before .before .args in
-    omega (arith, c .before .before .shared-slice-known2 .given (l .i), number-lt (now (a .s)) (a .at) (l .i) (l .number) (l .inv .0 .0) (l .inv .2) (omega (arith, c .before .before .before .before .before .earlier .ensures .by-second)))
+    let near = c .before .before .before .before .before .earlier .ensures .by-second in
+    let small = number-lt (now (a .s)) (a .at) (l .i) (l .number) (l .inv .0 .0) (l .inv .2) (omega (arith, near)) in
+    omega (arith, c .before .before .shared-slice-known2 .given (l .i), small)
 
 add-i : tie.Need-add-i Inv-loop μ-loop
 add-i c = omega (arith, c .before .before .before .before .before .earlier .ensures .by-first)
@@ -73,8 +67,8 @@ loop-again c =
     let inside : l .i < length (now (a .s)) = omega (arith, near .by-first) in
     let is : between 48 57 b ≡ true = between-yes 48 57 b (omega arith) (omega arith) in
     let first : a .at + 18 - l .i ≡ suc (a .at + 18 - (l .i + 1)) = omega (arith, near .by-second) in
-    let rest : run (a .at + 18 - l .i) (drop (l .i) (now (a .s))) ≡ suc (run (a .at + 18 - (l .i + 1)) (drop (l .i + 1) (now (a .s)))) =
-    ap (λ (n : ℕ). run n (drop (l .i) (now (a .s)))) first ∙ run-go (now (a .s)) (l .i) (a .at + 18 - (l .i + 1)) inside is in (
+    let rest : leadingDigits (a .at + 18 - l .i) (drop (l .i) (now (a .s))) ≡ suc (leadingDigits (a .at + 18 - (l .i + 1)) (drop (l .i + 1) (now (a .s)))) =
+    ap (λ (n : ℕ). leadingDigits n (drop (l .i) (now (a .s)))) first ∙ leading-go (now (a .s)) (l .i) (a .at + 18 - (l .i + 1)) inside is in (
       (omega arith, omega arith),
       omega (arith, l .inv .1),
       number-more (now (a .s)) (a .at) (l .i) (l .number) (l .inv .0 .0) (l .inv .2) inside (b - 48) (digit-yes b (omega arith) (omega arith)),
@@ -85,25 +79,25 @@ returns c =
     let l = c .before .loop in
     let a = c .before .before .before .before .args in
     let near = c .before .before .earlier .ensures in
-    let zero-left : (n : ℕ) → n ≡ 0 → run n (drop (l .i) (now (a .s))) ≡ 0 = λ n e. ap (λ (k : ℕ). run k (drop (l .i) (now (a .s)))) e ∙ run-zero (now (a .s)) (l .i) in
-    run-end (now (a .s)) (a .at) (l .i) (l .number) (l .inv .0 .0) (l .inv .2) (l .inv .1)
-    (⊎-elim (λ w. run-out (now (a .s)) (l .i) (a .at + 18 - l .i) (omega arith)) (λ w. zero-left (a .at + 18 - l .i) (omega arith)) (near .is-one))
+    let zero-left : (n : ℕ) → n ≡ 0 → leadingDigits n (drop (l .i) (now (a .s))) ≡ 0 = λ n e. ap (λ (k : ℕ). leadingDigits k (drop (l .i) (now (a .s)))) e ∙ leading-zero (now (a .s)) (l .i) in
+    leading-end (now (a .s)) (a .at) (l .i) (l .number) (l .inv .0 .0) (l .inv .2) (l .inv .1)
+    (⊎-elim (λ w. leading-out (now (a .s)) (l .i) (a .at + 18 - l .i) (omega arith)) (λ w. zero-left (a .at + 18 - l .i) (omega arith)) (near .is-one))
 
 returns-2 : tie.Need-returns-2 Inv-loop μ-loop
 returns-2 c =
     let l = c .before .before .before .loop in
     let a = c .before .before .before .before .before .before .args in
     let near = c .before .before .before .before .earlier .ensures in
-    run-end (now (a .s)) (a .at) (l .i) (l .number) (l .inv .0 .0) (l .inv .2) (l .inv .1)
-    (run-stop (now (a .s)) (l .i) (a .at + 18 - l .i) (omega (arith, near .by-first)) (under 48 57 (getD (now (a .s)) (l .i) 0) (omega arith)))
+    leading-end (now (a .s)) (a .at) (l .i) (l .number) (l .inv .0 .0) (l .inv .2) (l .inv .1)
+    (leading-stop (now (a .s)) (l .i) (a .at + 18 - l .i) (omega (arith, near .by-first)) (between-no 48 57 (getD (now (a .s)) (l .i) 0) (omega arith)))
 
 returns-3 : tie.Need-returns-3 Inv-loop μ-loop
 returns-3 c =
     let l = c .before .before .before .before .loop in
     let a = c .before .before .before .before .before .before .before .args in
     let near = c .before .before .before .before .before .earlier .ensures in
-    run-end (now (a .s)) (a .at) (l .i) (l .number) (l .inv .0 .0) (l .inv .2) (l .inv .1)
-    (run-stop (now (a .s)) (l .i) (a .at + 18 - l .i) (omega (arith, near .by-first)) (above 48 57 (getD (now (a .s)) (l .i) 0) (omega arith) (omega arith)))
+    leading-end (now (a .s)) (a .at) (l .i) (l .number) (l .inv .0 .0) (l .inv .2) (l .inv .1)
+    (leading-stop (now (a .s)) (l .i) (a .at + 18 - l .i) (omega (arith, near .by-first)) (between-no 48 57 (getD (now (a .s)) (l .i) 0) (omega arith)))
 
 pub quick-digits-spec : {M : Type 1} → statement M
 quick-digits-spec =
@@ -111,12 +105,12 @@ quick-digits-spec =
     (tie.spec
     Inv-loop
     μ-loop
-    add-earlier
-    earlier-requires
+    (λ c. search needs)
+    (λ c κs. search needs)
     loop-holds
     shared-slice-read-c
     mul-number
-    cast-number
+    (λ c. search needs)
     add-number
     add-i
     loop-less

@@ -1,7 +1,7 @@
 -- `words::quick_positive` meets its contract: a run that is not empty and whose number the kind has.
 use Prim.Native.Nat.{_≤_}
 use native.Mathlib.Omega.{arith}
-use mathlib.Core.Path.{_≡_, subst, sym}
+use mathlib.Core.Path.{subst, sym}
 use denote.Ref.{now}
 use lib.IntN.{ℤ}
 use mir.Facts.{toZ-pos}
@@ -12,18 +12,6 @@ use Rattle.words.proofs.WordLaws.{top-lt}
 use borrow.Author.Needs.{needs}
 use Rattle.words.proofs.quick_positive.Statement.{statement}
 use Rattle.words.proofs.quick_positive.Tie as tie
-
-quick-digits-requires : tie.Need-quick-digits-requires
-quick-digits-requires c κs = search needs
-
-returns : tie.Need-returns
-returns c = search needs
-
-top-of-requires : tie.Need-top-of-requires
-top-of-requires c κs = search needs
-
-returns-2 : tie.Need-returns-2
-returns-2 c = search needs
 
 cast-t9 : tie.Need-cast-t9
 cast-t9 c = omega (arith, c .before .top-of .ensures, top-lt (c .before .before .before .before .before .args .kind))
@@ -38,4 +26,4 @@ returns-3 c =
 
 pub quick-positive-spec : {M : Type 1} → statement M
 quick-positive-spec =
-    tie.close (tie.spec quick-digits-requires returns top-of-requires returns-2 cast-t9 returns-3)
+    tie.close (tie.spec (λ c κs. search needs) (λ c. search needs) (λ c κs. search needs) (λ c. search needs) cast-t9 returns-3)

@@ -1,8 +1,8 @@
 -- `words::read_word` meets its contract. The word so far, fed what is still to come, is the fresh word fed all.
-use Prim.Native.Nat.{_+_, _-_, _≤_, zero-le}
+use Prim.Native.Nat.{_+_, _-_, _≤_}
 use mathlib.Core.Path.{_∙_, _≡_, ap, sym}
 use denote.Ref.{now}
-use lib.ListN.{drop, getD, length}
+use lib.ListN.{drop, length}
 use Rattle.words.specs.Words.{feed, fresh, reading}
 use Rattle.words.specs.declared.Word.{Word}
 use Rattle.words.proofs.WordLaws.{fed-reads, feed-next, feed-none}
@@ -17,23 +17,8 @@ Inv-loop s kind word₀ i₀ word i = (i ≤ length s) × (feed word (drop i s) 
 abbrev μ-loop : tie.MeasureT-loop
 μ-loop s kind word₀ i₀ word i = length s - i
 
-new-requires : tie.Need-new-requires Inv-loop μ-loop
-new-requires c κs = search needs
-
 loop-holds : tie.Need-loop-holds Inv-loop μ-loop
 loop-holds c = (omega arith, ap (λ (w : Word). feed w (now (c .before .before .args .s))) (c .new .ensures))
-
-shared-slice-read-next : tie.Need-shared-slice-read-next Inv-loop μ-loop
-shared-slice-read-next c = search needs
-
-next-requires : tie.Need-next-requires Inv-loop μ-loop
-next-requires c κs = search needs
-
-add-i : tie.Need-add-i Inv-loop μ-loop
-add-i c = search needs
-
-loop-less : tie.Need-loop-less Inv-loop μ-loop
-loop-less c = search needs
 
 loop-again : tie.Need-loop-again Inv-loop μ-loop
 loop-again c =
@@ -42,9 +27,6 @@ loop-again c =
       omega arith,
       ap (λ (w : Word). feed w (drop (l .i + 1) s)) (c .next .ensures) ∙ sym (feed-next (l .word) s (l .i) (c .before .before .loop-test .taken)) ∙ l .inv .1,
     )
-
-read-requires : tie.Need-read-requires Inv-loop μ-loop
-read-requires c κs = search needs
 
 returns : tie.Need-returns Inv-loop μ-loop
 returns c =
@@ -60,12 +42,12 @@ read-word-spec =
     (tie.spec
     Inv-loop
     μ-loop
-    new-requires
+    (λ c κs. search needs)
     loop-holds
-    shared-slice-read-next
-    next-requires
-    add-i
-    loop-less
+    (λ c. search needs)
+    (λ c κs. search needs)
+    (λ c. search needs)
+    (λ c. search needs)
     loop-again
-    read-requires
+    (λ c κs. search needs)
     returns)

@@ -5,12 +5,6 @@ use borrow.Author.Needs.{needs}
 use Rattle.words.proofs.with_digit.Statement.{statement}
 use Rattle.words.proofs.with_digit.Tie as tie
 
-mul-result : tie.Need-mul-result
-mul-result c = search needs
-
-add-result : tie.Need-add-result
-add-result c = search needs
-
 returns : tie.Need-returns
 unfolding capped
 returns c = rw (lt-ltb _ _ (c .if1 .taken))
@@ -20,4 +14,4 @@ unfolding capped
 returns-2 c = rw (le-ltb _ _ (c .if1 .left))
 
 pub with-digit-spec : {M : Type 1} → statement M
-with-digit-spec = tie.close (tie.spec mul-result add-result returns returns-2)
+with-digit-spec = tie.close (tie.spec (λ c. search needs) (λ c. search needs) returns returns-2)

@@ -10,12 +10,9 @@ returns : tie.Need-returns
 unfolding zeroNext
 returns c = sym (ap zeroNext (c .if1 .taken))
 
-decimal-next-requires : tie.Need-decimal-next-requires
-decimal-next-requires c κs = search needs
-
 returns-2 : tie.Need-returns-2
 unfolding zeroNext
 returns-2 c = c .decimal-next .ensures ∙ sym (rw (ne-eqb (c .before .before .args .c) 120 (c .before .if1 .left)))
 
 pub zero-next-spec : {M : Type 1} → statement M
-zero-next-spec = tie.close (tie.spec returns decimal-next-requires returns-2)
+zero-next-spec = tie.close (tie.spec returns (λ c κs. search needs) returns-2)

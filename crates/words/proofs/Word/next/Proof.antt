@@ -1,110 +1,71 @@
 -- `words::Word::next` meets its contract: in each arm the form is known.
 use mathlib.Core.Path.{_∙_, ap, sym}
-use Rattle.words.specs.Words.{step, stepFrom, word}
+use Rattle.words.specs.Words.{nextWord, nextFrom, word}
 use Rattle.words.specs.declared.Form.{Form}
 use borrow.Author.Needs.{needs}
 use Rattle.words.proofs.Word.next.Statement.{statement}
 use Rattle.words.proofs.Word.next.Tie as tie
 
-enum-told : tie.Need-enum-told
-enum-told c = search needs
-
-first-next-requires : tie.Need-first-next-requires
-first-next-requires c κs = search needs
-
-enum-told-2 : tie.Need-enum-told-2
-enum-told-2 c = search needs
-
-zero-next-requires : tie.Need-zero-next-requires
-zero-next-requires c κs = search needs
-
-enum-told-3 : tie.Need-enum-told-3
-enum-told-3 c = search needs
-
-decimal-next-requires : tie.Need-decimal-next-requires
-decimal-next-requires c κs = search needs
-
-enum-told-4 : tie.Need-enum-told-4
-enum-told-4 c = search needs
-
-decimal-next-requires-2 : tie.Need-decimal-next-requires-2
-decimal-next-requires-2 c κs = search needs
-
-enum-told-5 : tie.Need-enum-told-5
-enum-told-5 c = search needs
-
-decimal-next-requires-3 : tie.Need-decimal-next-requires-3
-decimal-next-requires-3 c κs = search needs
-
-enum-told-6 : tie.Need-enum-told-6
-enum-told-6 c = search needs
-
-hexadecimal-next-requires : tie.Need-hexadecimal-next-requires
-hexadecimal-next-requires c κs = search needs
-
-enum-told-7 : tie.Need-enum-told-7
-enum-told-7 c = search needs
-
 returns : tie.Need-returns
-unfolding step
+unfolding nextWord
 returns c =
     let a = c .before .before .before .args in
-    c .first-next .ensures ∙ sym (ap (λ (f : Form). stepFrom f (a .self .count) (a .self .value) (a .c)) (c .before .enum-told .given .1))
+    c .first-next .ensures ∙ sym (ap (λ (f : Form). nextFrom f (a .self .count) (a .self .value) (a .c)) (c .before .enum-told .given .1))
 
 returns-2 : tie.Need-returns-2
-unfolding step
+unfolding nextWord
 returns-2 c =
     let a = c .before .before .before .args in
-    c .zero-next .ensures ∙ sym (ap (λ (f : Form). stepFrom f (a .self .count) (a .self .value) (a .c)) (c .before .enum-told2 .given .1))
+    c .zero-next .ensures ∙ sym (ap (λ (f : Form). nextFrom f (a .self .count) (a .self .value) (a .c)) (c .before .enum-told2 .given .1))
 
 returns-3 : tie.Need-returns-3
-unfolding step
+unfolding nextWord
 returns-3 c =
     let a = c .before .before .before .args in
-    c .decimal-next .ensures ∙ sym (ap (λ (f : Form). stepFrom f (a .self .count) (a .self .value) (a .c)) (c .before .enum-told3 .given .1))
+    c .decimal-next .ensures ∙ sym (ap (λ (f : Form). nextFrom f (a .self .count) (a .self .value) (a .c)) (c .before .enum-told3 .given .1))
 
 returns-4 : tie.Need-returns-4
-unfolding step
+unfolding nextWord
 returns-4 c =
     let a = c .before .before .before .args in
-    c .decimal-next2 .ensures ∙ sym (ap (λ (f : Form). stepFrom f (a .self .count) (a .self .value) (a .c)) (c .before .enum-told4 .given .1))
+    c .decimal-next2 .ensures ∙ sym (ap (λ (f : Form). nextFrom f (a .self .count) (a .self .value) (a .c)) (c .before .enum-told4 .given .1))
 
 returns-5 : tie.Need-returns-5
-unfolding step
+unfolding nextWord
 returns-5 c =
     let a = c .before .before .before .args in
-    c .decimal-next3 .ensures ∙ sym (ap (λ (f : Form). stepFrom f (a .self .count) (a .self .value) (a .c)) (c .before .enum-told5 .given .1))
+    c .decimal-next3 .ensures ∙ sym (ap (λ (f : Form). nextFrom f (a .self .count) (a .self .value) (a .c)) (c .before .enum-told5 .given .1))
 
 returns-6 : tie.Need-returns-6
-unfolding step
+unfolding nextWord
 returns-6 c =
     let a = c .before .before .before .args in
-    c .hexadecimal-next .ensures ∙ sym (ap (λ (f : Form). stepFrom f (a .self .count) (a .self .value) (a .c)) (c .before .enum-told6 .given .1))
+    c .hexadecimal-next .ensures ∙ sym (ap (λ (f : Form). nextFrom f (a .self .count) (a .self .value) (a .c)) (c .before .enum-told6 .given .1))
 
 returns-7 : tie.Need-returns-7
-unfolding step
+unfolding nextWord
 returns-7 c =
     let a = c .before .before .args in
     ap (λ (f : Form). word f (a .self .count) (a .self .value)) (c .enum-told7 .given .1)
-    ∙ sym (ap (λ (f : Form). stepFrom f (a .self .count) (a .self .value) (a .c)) (c .enum-told7 .given .1))
+    ∙ sym (ap (λ (f : Form). nextFrom f (a .self .count) (a .self .value) (a .c)) (c .enum-told7 .given .1))
 
 pub next-spec : {M : Type 1} → statement M
 next-spec =
     tie.close
     (tie.spec
-    enum-told
-    first-next-requires
-    enum-told-2
-    zero-next-requires
-    enum-told-3
-    decimal-next-requires
-    enum-told-4
-    decimal-next-requires-2
-    enum-told-5
-    decimal-next-requires-3
-    enum-told-6
-    hexadecimal-next-requires
-    enum-told-7
+    (λ c. search needs)
+    (λ c κs. search needs)
+    (λ c. search needs)
+    (λ c κs. search needs)
+    (λ c. search needs)
+    (λ c κs. search needs)
+    (λ c. search needs)
+    (λ c κs. search needs)
+    (λ c. search needs)
+    (λ c κs. search needs)
+    (λ c. search needs)
+    (λ c κs. search needs)
+    (λ c. search needs)
     returns
     returns-2
     returns-3

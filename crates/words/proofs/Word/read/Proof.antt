@@ -1,49 +1,10 @@
 -- `words::Word::read` meets its contract: in each arm the form is known.
-use mathlib.Core.Bool.{Bool, cond, true, false}
-use mathlib.Core.Path.{_∙_, _≡_, ap, sym}
-use Rattle.words.specs.Words.{decimalReading, reading, readingFrom}
-use Rattle.number.specs.Number.{Unwritten}
-use Rattle.table.specs.Result.{bad}
+use mathlib.Core.Path.{_∙_, ap, sym}
+use Rattle.words.specs.Words.{reading, readingFrom}
 use Rattle.words.specs.declared.Form.{Form}
 use borrow.Author.Needs.{needs}
 use Rattle.words.proofs.Word.read.Statement.{statement}
 use Rattle.words.proofs.Word.read.Tie as tie
-
-enum-told : tie.Need-enum-told
-enum-told c = search needs
-
-enum-told-2 : tie.Need-enum-told-2
-enum-told-2 c = search needs
-
-enum-told-3 : tie.Need-enum-told-3
-enum-told-3 c = search needs
-
-positive-requires : tie.Need-positive-requires
-positive-requires c κs = search needs
-
-enum-told-4 : tie.Need-enum-told-4
-enum-told-4 c = search needs
-
-is-signed-requires : tie.Need-is-signed-requires
-is-signed-requires c κs = search needs
-
-positive-requires-2 : tie.Need-positive-requires-2
-positive-requires-2 c κs = search needs
-
-enum-told-5 : tie.Need-enum-told-5
-enum-told-5 c = search needs
-
-negative-requires : tie.Need-negative-requires
-negative-requires c κs = search needs
-
-enum-told-6 : tie.Need-enum-told-6
-enum-told-6 c = search needs
-
-hexadecimal-reading-requires : tie.Need-hexadecimal-reading-requires
-hexadecimal-reading-requires c κs = search needs
-
-enum-told-7 : tie.Need-enum-told-7
-enum-told-7 c = search needs
 
 returns : tie.Need-returns
 unfolding reading
@@ -100,18 +61,18 @@ pub read-spec : {M : Type 1} → statement M
 read-spec =
     tie.close
     (tie.spec
-    enum-told
-    enum-told-2
-    enum-told-3
-    positive-requires
-    enum-told-4
-    is-signed-requires
-    positive-requires-2
-    enum-told-5
-    negative-requires
-    enum-told-6
-    hexadecimal-reading-requires
-    enum-told-7
+    (λ c. search needs)
+    (λ c. search needs)
+    (λ c. search needs)
+    (λ c κs. search needs)
+    (λ c. search needs)
+    (λ c κs. search needs)
+    (λ c κs. search needs)
+    (λ c. search needs)
+    (λ c κs. search needs)
+    (λ c. search needs)
+    (λ c κs. search needs)
+    (λ c. search needs)
     returns
     returns-2
     returns-3
