@@ -9,7 +9,8 @@ use lib.ListN.{drop, getD, length, take}
 use Rattle.demands.specs.Places.{showsAt}
 use Rattle.demands.specs.Tables.{Ends, count, lines, rowAt, upTo}
 use Rattle.fields.specs.Fields.{declare}
-use Rattle.rows.specs.Stream.{finished, read, row}
+use Rattle.rows.specs.Sequence.{finished, row}
+use Rattle.rows.specs.Stream.{read}
 use Rattle.table.specs.All.{AreBytes}
 use Rattle.table.specs.Cell.{Cell}
 use Rattle.table.specs.Outcome.{Call, Refusal, accepted, ending, mostInput}
