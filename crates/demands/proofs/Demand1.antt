@@ -19,7 +19,7 @@ use Rattle.rows.proofs.Laws.{read-stops}
 use Rattle.rows.specs.Convert.{convert, converting, underColumns}
 use Rattle.rows.specs.Stream.{Table, read, run}
 use Rattle.table.proofs.Laws.{cond-cases}
-use Rattle.table.specs.Outcome.{Outcome, Refusal, accepted, answerOf, at, bufferOf, ending, mostInput, refused, rowsDone, written}
+use Rattle.table.specs.Outcome.{Outcome, Refusal, accepted, answerOf, at, bufferOf, ending, mostInput, mostNumber, refused, rowsDone, written}
 use Rattle.table.specs.Result.{Fails, Result, _>>=_, bad, fails, good}
 use Rattle.table.specs.declared.Column.{Column}
 use Rattle.table.specs.declared.Rows.{Rows}
@@ -63,7 +63,7 @@ unfolding ending answerOf
 column-of cs t done (accepted r w) out e = zero-le
 column-of cs t done (refused x r w) out e = e .1
 
-number-of : (cs : List Column) (t : Table) (done : ℕ) (o : Outcome) (out : List ℕ) → EndsAt cs t done o → ending o out .answer .number ≤ 17
+number-of : (cs : List Column) (t : Table) (done : ℕ) (o : Outcome) (out : List ℕ) → EndsAt cs t done o → ending o out .answer .number ≤ mostNumber
 unfolding ending answerOf
 number-of cs t done (accepted r w) out e = zero-le
 number-of cs t done (refused x r w) out e = e .0 .1
@@ -111,7 +111,7 @@ ended-at (good cs) from to input out =
 ended-at (bad e) from to input out = record { refused-declarations = unfold ending answerOf in refl; untouched = unfold ending bufferOf written in refl }
 
 numbered-at : (r : Result Refusal (List Column)) (from to : Rows) (input out : List ℕ) → Fails AtPlace r
-    → ending (underColumns r (λ cs. run from to cs (length out) input)) out .answer .number ≤ 17
+    → ending (underColumns r (λ cs. run from to cs (length out) input)) out .answer .number ≤ mostNumber
 unfolding underColumns
 numbered-at (good cs) from to input out f =
     let d = run-done from to cs (length out) input in number-of cs (read from cs input) (d .done) (run from to cs (length out) input) out (d .ended)

@@ -15,7 +15,7 @@ use Rattle.rows.specs.Stream.{Table, fitted, read, write, writeCell, writeCells
 use Rattle.rows.specs.Sequence.{finished, row, stopped}
 use Rattle.table.proofs.Laws.{bind-good, cond-cases, fails-at, good-as, good-bind, holds-at}
 use Rattle.table.specs.Cell.{AreColumns, Cell, Each}
-use Rattle.table.specs.Outcome.{Outcome, Refusal, accepted, at, refused, rowsDone, written}
+use Rattle.table.specs.Outcome.{Outcome, Refusal, accepted, at, mostNumber, refused, rowsDone, written}
 use Rattle.table.specs.Result.{IsGood, Result, _>>=_, bad, good, refusedAs}
 use Rattle.table.specs.declared.Column.{Column}
 use Rattle.table.specs.declared.Rows.{Rows}
@@ -48,7 +48,7 @@ writes to cs room r out (row xs t) = go (writeRow to cs xs) refl (λ b. writes t
 -- how it ends: at the table's end, or with a refusal of reading or of writing
 abbrev pub EndsAt : List Column → Table → ℕ → Outcome → Type 0
 EndsAt cs t done (accepted r out) = Ends t × (done ≡ count t)
-EndsAt cs t done (refused e r out) = Placed 8 17 (length cs) e
+EndsAt cs t done (refused e r out) = Placed 8 mostNumber (length cs) e
 
 pub record Done (to : Rows) (cs : List Column) (room r : ℕ) (out : List ℕ) (t : Table) (o : Outcome) : Type 0 where
   pub done : ℕ
