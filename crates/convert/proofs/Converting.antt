@@ -82,7 +82,8 @@ module _ (from to : Rows) (cols : List Column) (are : Within cols) (s out₀ out
     read-refusal e q = refusal e (turned ∙ rw q)
 
     module _ (xs : List Cell) (rest : List ℕ) (e : readRow from cols (drop (cursor .at) s) ≡ good (xs, rest)) where
-      wrote : run from to cols (length out₀) s ≡ wroteThen (p .rows) (take (p .bytes) out) (fitted (length out₀) (take (p .bytes) out) (writeRow to cols xs)) (λ b. write to cols (length out₀) (p .rows + 1) b (read from cols rest))
+      wrote : run from to cols (length out₀) s ≡ wroteThen (p .rows) (take (p .bytes) out) (fitted (length out₀) (take (p .bytes) out) (writeRow to cols xs))
+          (λ b. write to cols (length out₀) (p .rows + 1) b (read from cols rest))
       unfolding rowThen write
       wrote = turned ∙ rw e
 

@@ -212,4 +212,5 @@ module _ (from to : Rows) (cols : Columns) (flags : ℕ) (s : List ℕ) (body pl
     row-length =
         length-append (startBytes to (cols .count) (m .nulls)) _
         ∙ ap (λ (k : ℕ). length (startBytes to (cols .count) (m .nulls)) + k)
-        (length-append (putForm from to cols flags (drop body s) scratch (m .holding)) (writeEnd to) ∙ ap (λ (k : ℕ). k + length (writeEnd to)) (ap length cells-put ∙ sym (said-wrote (inv .w) n (sym (ap formAs f) ∙ inv .says) .2)))
+        (length-append (putForm from to cols flags (drop body s) scratch (m .holding)) (writeEnd to)
+        ∙ ap (λ (k : ℕ). k + length (writeEnd to)) (ap length cells-put ∙ sym (said-wrote (inv .w) n (sym (ap formAs f) ∙ inv .says) .2)))

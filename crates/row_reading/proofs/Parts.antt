@@ -108,7 +108,8 @@ module _ (from : Rows) (cols : List Column) (fs : List Bool) (s : List ℕ) (bod
     pub read-stop : (n : ℕ) → readCell from c f (drop place s) ≡ bad n → readCells from cols fs 0 (drop body s) ≡ bad (at i n)
     read-stop n h = turned ∙ rw h
 
-    unfoldable pub read-more : (x : Cell) (next : ℕ) → i < length cols → readCell from c f (drop place s) ≡ good (x, drop next s) → place ≤ next → next ≤ length s → RowRead from cols fs s body next (i + 1)
+    unfoldable pub read-more : (x : Cell) (next : ℕ) → i < length cols → readCell from c f (drop place s) ≡ good (x, drop next s) → place ≤ next → next ≤ length s
+        → RowRead from cols fs s body next (i + 1)
     read-more x next more h lo hi =
         let dc : drop (i + 1) cols ≡ drop (suc i) cols = rw add-one in
         let df : drop (i + 1) fs ≡ drop (suc i) fs = rw add-one in
@@ -147,7 +148,8 @@ pub closed-within : (from : Rows) (s : List ℕ) (last : ℕ) (z : Close) → Cl
 closed-within from s last z h next k = subst (CloseWithin s last) k (h .within)
 
 -- a row moves on
-pub row-onward : (from : Rows) (cols : List Column) (s : List ℕ) (place next : ℕ) (xs : List Cell) → Within cols → readRow from cols (drop place s) ≡ good (xs, drop next s) → next ≤ length s → place < next
+pub row-onward : (from : Rows) (cols : List Column) (s : List ℕ) (place next : ℕ) (xs : List Cell) → Within cols → readRow from cols (drop place s) ≡ good (xs, drop next s)
+    → next ≤ length s → place < next
 row-onward from cols s place next xs a e h =
     let k : length (drop next s) < length (drop place s) = holds-at (within-less from cols (drop place s) a) e in
     omega (arith, length-drop next s, length-drop place s)

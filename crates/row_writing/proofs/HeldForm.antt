@@ -42,7 +42,8 @@ held-next c f (shown es) l = rw (take-append-seam es l, drop-append-seam es l)
 front : (x : Cell) (xs : List Cell) (rest : List ℤ) → heldRow (x ∷ xs) ++ rest ≡ heldCell x ++ (heldRow xs ++ rest)
 front x xs rest = append-assoc (heldCell x) (heldRow xs) rest
 
-pub held-form : (to : Rows) (cs : List Column) (xs : List Cell) (rest : List ℤ) (j : ℕ) (b : List ℕ) → length xs ≡ length cs → writeCells to cs xs j ≡ good b → rowForm heldNext to cs [] (heldRow xs ++ rest) ≡ b
+pub held-form : (to : Rows) (cs : List Column) (xs : List Cell) (rest : List ℤ) (j : ℕ) (b : List ℕ) → length xs ≡ length cs → writeCells to cs xs j ≡ good b
+    → rowForm heldNext to cs [] (heldRow xs ++ rest) ≡ b
 unfolding writeCells rowForm flagsLeft cellForm restOf
 held-form to [] xs rest j b n w = cc
 held-form to (c ∷ cs) [] rest j b n w = absurd (omega arith)

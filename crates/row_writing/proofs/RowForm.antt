@@ -35,7 +35,8 @@ join a b = a >>= λ x. b >>= λ y. good (x ++ y)
 
 pushed : (y : Cell) (r : Result Refusal (List Cell × List ℕ)) (xs : List Cell) (rest : List ℕ) → push y r ≡ good (xs, rest)
     → (ys : List Cell) × (r ≡ good (ys, rest)) × (xs ≡ y ∷ ys)
-pushed y (good q) xs rest e = let p : _≡_ {A = List Cell × List ℕ} (y ∷ q .0, q .1) (xs, rest) = cc in (q .0, ap (λ (t : List ℕ). good (q .0, t)) (ap (λ (z : List Cell × List ℕ). z .1) p), sym (ap (λ (z : List Cell × List ℕ). z .0) p))
+pushed y (good q) xs rest e = let p : _≡_ {A = List Cell × List ℕ} (y ∷ q .0, q .1) (xs, rest) = cc in
+    (q .0, ap (λ (t : List ℕ). good (q .0, t)) (ap (λ (z : List Cell × List ℕ). z .1) p), sym (ap (λ (z : List Cell × List ℕ). z .0) p))
 pushed y (bad e) xs rest q = absurd (bad-good q)
 
 pub joined : (a b : Result Refusal (List ℕ)) (c : List ℕ) → join a b ≡ good c → (x : List ℕ) × (y : List ℕ) × (a ≡ good x) × (b ≡ good y) × (x ++ y ≡ c)
@@ -55,7 +56,8 @@ form-bytes Binary c x b e = ap formBytes e
 form-bytes Binary2 c x b e = cc
 
 form-step : (from to : Rows) (c : Column) (cs : List Column) (fs : List Bool) (j : ℕ)
-    → ((s : List ℕ) (xs : List Cell) (rest b : List ℕ) → readCells from cs (flagsLeft fs) (j + 1) s ≡ good (xs, rest) → writeCells to cs xs (j + 1) ≡ good b → rowForm (readCell from) to cs (flagsLeft fs) s ≡ b)
+    → ((s : List ℕ) (xs : List Cell) (rest b : List ℕ) → readCells from cs (flagsLeft fs) (j + 1) s ≡ good (xs, rest) → writeCells to cs xs (j + 1) ≡ good b
+    → rowForm (readCell from) to cs (flagsLeft fs) s ≡ b)
     → (x : Result ℕ (Cell × List ℕ)) (xs : List Cell) (rest b : List ℕ)
     → cellThen j x (λ t. readCells from cs (flagsLeft fs) (j + 1) t) ≡ good (xs, rest) → writeCells to (c ∷ cs) xs j ≡ good b
     → cellForm to c x ++ rowForm (readCell from) to cs (flagsLeft fs) (restOf x) ≡ b
@@ -76,7 +78,8 @@ row-form from to [] fs j s xs rest b e w = cc
 row-form from to (c ∷ cs) fs j s xs rest b e w = form-step from to c cs fs j (row-form from to cs (flagsLeft fs) (j + 1)) (readCell from c (flag fs) s) xs rest b e w
 
 -- the columns before j are written
-pub record WriteInv {A : Type 0} (next : Column → Bool → List A → Result ℕ (Cell × List A)) (to : Rows) (cols : List Column) (fs : List Bool) (s : List A) (out₀ : List ℕ) (w₀ : Writing) (out : List ℕ) (w : Writing) (j : ℕ) : Type 0 where
+pub record WriteInv {A : Type 0} (next : Column → Bool → List A → Result ℕ (Cell × List A)) (to : Rows) (cols : List Column) (fs : List Bool) (s : List A) (out₀ : List ℕ)
+    (w₀ : Writing) (out : List ℕ) (w : Writing) (j : ℕ) : Type 0 where
   pub upto : j ≤ length cols
   pub inside : w .at ≤ length s
   pub long : length out ≡ length out₀

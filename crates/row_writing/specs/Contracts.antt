@@ -82,7 +82,8 @@ unfoldable pub rowBytes : Rows → ℕ → ℕ → List ℕ → List ℕ
 rowBytes to count nulls cells = startBytes to count nulls ++ (cells ++ writeEnd to)
 
 -- a cell was taken by `next` at a place of s and written
-pub record Rewritten {A : Type 0} (next : Column → Bool → List A → Result ℕ (Cell × List A)) (to : Rows) (c : Column) (flagged : Bool) (s : List A) (w : Writing) (old new : List ℕ) (r : Writing) : Type 0 where
+pub record Rewritten {A : Type 0} (next : Column → Bool → List A → Result ℕ (Cell × List A)) (to : Rows) (c : Column) (flagged : Bool) (s : List A) (w : Writing) (old new : List ℕ)
+    (r : Writing) : Type 0 where
   pub inside : r .at ≤ length s
   pub rest : restOf (next c flagged (drop (w .at) s)) ≡ drop (r .at) s
   pub place : r .to ≡ w .to + length (cellForm to c (next c flagged (drop (w .at) s)))

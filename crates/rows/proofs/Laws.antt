@@ -85,7 +85,8 @@ ends-alike c flagged s = counted (countIn (c .len) s)
     shown-alike t (good es) = refl
     shown-alike t (bad n) = refl
 
-    filled : (n : ℕ) (f : Bool) (r : Result ℕ (List ℕ × List ℕ)) → following (r >>= λ p. shows c f n (p .0) >>= λ x. good (x, p .1)) ≡ following (r >>= λ p. shows (bare c) f n (p .0) >>= λ x. good (x, p .1))
+    filled : (n : ℕ) (f : Bool) (r : Result ℕ (List ℕ × List ℕ)) → following (r >>= λ p. shows c f n (p .0) >>= λ x. good (x, p .1))
+        ≡ following (r >>= λ p. shows (bare c) f n (p .0) >>= λ x. good (x, p .1))
     filled n f (bad k) = refl
     filled n true (good p) = unfold shows in refl
     filled n false (good p) = unfold shows in shown-alike (p .1) (content (shape (c .kind)) n (p .0))

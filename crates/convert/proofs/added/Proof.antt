@@ -7,23 +7,11 @@ use borrow.Author.Needs.{needs}
 use Rattle.convert.proofs.added.Statement.{statement}
 use Rattle.convert.proofs.added.Tie as tie
 
-enum-known-form : tie.Need-enum-known-form
-enum-known-form c = search needs
-
-enum-known-size : tie.Need-enum-known-size
-enum-known-size c = search needs
-
 add-t11 : tie.Need-add-t11
 add-t11 c =
     let a = c .before .before .before .before .before .before in
     let f = subst (FormWithin (a .args .i)) (c .before .before .before .before .form .given .1) (a .pre .0) in
     omega (arith, f, subst SizeWithin (c .before .size .given .1) (a .pre .2), a .pre .1)
-
-enum-known-size-2 : tie.Need-enum-known-size-2
-enum-known-size-2 c = search needs
-
-enum-known-form-2 : tie.Need-enum-known-form-2
-enum-known-form-2 c = search needs
 
 returns : tie.Need-returns
 returns c =
@@ -42,11 +30,11 @@ pub added-spec : {M : Type 1} → statement M
 added-spec =
     tie.close
     (tie.spec
-    enum-known-form
-    enum-known-size
+    (λ c. search needs)
+    (λ c. search needs)
     add-t11
-    enum-known-size-2
-    enum-known-form-2
+    (λ c. search needs)
+    (λ c. search needs)
     returns
     returns-2
     returns-3)

@@ -120,13 +120,15 @@ begun : (b : Begun) → readRow (from-at (rows-of b)) (listed (cols-at (rows-of 
 begun b =
     let r = rows-of b in
     let g = b .before .before .before .before .begin-row in
-    row-begun (from-at r) (listed (cols-at r)) (cols-at r .count) (listed-length (cols-at r)) (s-at r) (r .rows .cursor .at) (g .result) (g .ensures) (flags-at b) (body-at b) (b .before .before .b2 .given .1)
+    row-begun (from-at r) (listed (cols-at r)) (cols-at r .count) (listed-length (cols-at r)) (s-at r) (r .rows .cursor .at) (g .result) (g .ensures) (flags-at b) (body-at b)
+    (b .before .before .b2 .given .1)
 
 within : (b : Begun) → (rows-of b .rows .cursor .at ≤ body-at b) × (body-at b ≤ length (s-at (rows-of b)))
 within b =
     let r = rows-of b in
     let g = b .before .before .before .before .begin-row in
-    begun-within (from-at r) (listed (cols-at r)) (cols-at r .count) (listed-length (cols-at r)) (s-at r) (r .rows .cursor .at) (g .result) (g .ensures) (flags-at b) (body-at b) (b .before .before .b2 .given .1)
+    begun-within (from-at r) (listed (cols-at r)) (cols-at r .count) (listed-length (cols-at r)) (s-at r) (r .rows .cursor .at) (g .result) (g .ensures) (flags-at b) (body-at b)
+    (b .before .before .b2 .given .1)
 
 -- the scratch is as long as at entry
 scratch-long : (b : Begun) (n : ℕ) → n ≡ length (rows-of b .rows .scratch) → 8192 ≤ n
@@ -136,7 +138,8 @@ scratch-long b n e = omega (arith, e, rows-of b .rows .inv .2, begin (rows-of b)
 abbrev column-at : Turning → Column
 column-at t = getD (cols-at (rows-of (t .before .before)) .list) (t .before .loop .i) noColumn
 
-next-column : (t : Turning) → drop (t .before .loop .i) (listed (cols-at (rows-of (t .before .before)))) ≡ column-at t ∷ drop (suc (t .before .loop .i)) (listed (cols-at (rows-of (t .before .before))))
+next-column : (t : Turning) → drop (t .before .loop .i) (listed (cols-at (rows-of (t .before .before))))
+    ≡ column-at t ∷ drop (suc (t .before .loop .i)) (listed (cols-at (rows-of (t .before .before))))
 next-column t = listed-next (cols-at (rows-of (t .before .before))) (t .before .loop .i) (t .loop-test .taken)
 
 -- ---- what the ways out share
@@ -154,7 +157,8 @@ past : (a : ReadAll) → length (listed (cols-at (rows-of (a .before .before))))
 past a = omega (arith, listed-length (cols-at (rows-of (a .before .before))), a .loop-test .left)
 
 all-read : (a : ReadAll)
-    → readCells (from-at (rows-of (a .before .before))) (listed (cols-at (rows-of (a .before .before)))) (flagsIn (from-at (rows-of (a .before .before))) (cols-at (rows-of (a .before .before)) .count) (flags-at (a .before .before))) 0
+    → readCells (from-at (rows-of (a .before .before))) (listed (cols-at (rows-of (a .before .before))))
+    (flagsIn (from-at (rows-of (a .before .before))) (cols-at (rows-of (a .before .before)) .count) (flags-at (a .before .before))) 0
     (drop (body-at (a .before .before)) (s-at (rows-of (a .before .before)))) ≡ good (a .before .loop .inv .0 .acc, drop (a .before .loop .at) (s-at (rows-of (a .before .before))))
 all-read a =
     let b = a .before .before in
@@ -208,7 +212,8 @@ written-at f =
     let r = rows-of b in
     let a = all-of (ended-of f) in
     let l = a .before .loop in
-    row-wrote (from-at r) (to-at r) (cols-at r) (flags-at b) (s-at r) (body-at b) (l .at) (l .i) (l .inv .0) (l .scratch) (l .m) (l .inv .1) (listed-length (cols-at r)) (a .loop-test .left) (cells-at f) (f .before .form2 .given .1)
+    row-wrote (from-at r) (to-at r) (cols-at r) (flags-at b) (s-at r) (body-at b) (l .at) (l .i) (l .inv .0) (l .scratch) (l .m) (l .inv .1) (listed-length (cols-at r))
+    (a .loop-test .left) (cells-at f) (f .before .form2 .given .1)
 
 size-at : (f : Formed) → length (row-at f) ≡ rows-of (begun-of (ended-of f)) .before .before .before .frame-size .result + cells-at f
 size-at f =
@@ -218,7 +223,8 @@ size-at f =
     let l = a .before .loop in
     omega (
       arith,
-      row-length (from-at r) (to-at r) (cols-at r) (flags-at b) (s-at r) (body-at b) (l .at) (l .i) (l .inv .0) (l .scratch) (l .m) (l .inv .1) (listed-length (cols-at r)) (a .loop-test .left) (cells-at f) (f .before .form2 .given .1),
+      row-length (from-at r) (to-at r) (cols-at r) (flags-at b) (s-at r) (body-at b) (l .at) (l .i) (l .inv .0) (l .scratch) (l .m) (l .inv .1) (listed-length (cols-at r))
+          (a .loop-test .left) (cells-at f) (f .before .form2 .given .1),
       r .before .before .before .frame-size .ensures .1 (l .m .nulls),
     )
 
@@ -227,16 +233,14 @@ size-at f =
 frame-size-requires : tie.Need-frame-size-requires Inv-loop μ-loop Inv-rows μ-rows
 frame-size-requires c κs = omega (arith, c .before .before .pre .0 .few, listed-length (c .before .before .args .t1))
 
-start-requires : tie.Need-start-requires Inv-loop μ-loop Inv-rows μ-rows
-start-requires c κs = search needs
-
-start-requires-2 : tie.Need-start-requires-2 Inv-loop μ-loop Inv-rows μ-rows
-start-requires-2 c κs = search needs
-
 rows-holds : tie.Need-rows-holds Inv-loop μ-loop Inv-rows μ-rows
 rows-holds c =
-    let a = c .before .before .before .before .before in
-    (rows-start (a .args .from) (a .args .to) (listed (a .args .t1)) (now (a .args .s)) (now (a .args .out)) (c .before .start .result) (c .start2 .result) (c .before .start .ensures) (c .start2 .ensures), refl, refl)
+    let a = c .before .before .before .before .before in (
+      rows-start (a .args .from) (a .args .to) (listed (a .args .t1)) (now (a .args .s)) (now (a .args .out)) (c .before .start .result) (c .start2 .result) (c .before .start .ensures)
+          (c .start2 .ensures),
+      refl,
+      refl,
+    )
 
 at-end-requires : tie.Need-at-end-requires Inv-loop μ-loop Inv-rows μ-rows
 at-end-requires c κs = c .rows .inv .0 .inside
@@ -246,22 +250,18 @@ begin-row-requires c κs =
     let r = rows-at c in
     (r .rows .inv .0 .inside, omega (arith, are r .some, listed-length (cols-at r)), few r)
 
-enum-known-b : tie.Need-enum-known-b Inv-loop μ-loop Inv-rows μ-rows
-enum-known-b c = search needs
-
-enum-known-b-2 : tie.Need-enum-known-b-2 Inv-loop μ-loop Inv-rows μ-rows
-enum-known-b-2 c = search needs
-
-start-requires-3 : tie.Need-start-requires-3 Inv-loop μ-loop Inv-rows μ-rows
-start-requires-3 c κs = search needs
-
 -- ---- the loop over columns
 
 loop-holds : tie.Need-loop-holds Inv-loop μ-loop Inv-rows μ-rows
 unfolding read-start
 loop-holds c =
-    let r = rows-of c in
-    (read-start (from-at r) (listed (cols-at r)) _ (s-at r) (body-at c) (within c .1), measured-start (to-at r) (listed (cols-at r)) (r .rows .scratch) (c .start3 .result) (c .start3 .ensures), refl, refl)
+    let r = rows-of c in (
+      read-start (from-at r) (listed (cols-at r)) _ (s-at r) (body-at c) (within c .1),
+      measured-start (to-at r) (listed (cols-at r)) (r .rows .scratch) (c .start3 .result)
+          (c .start3 .ensures),
+      refl,
+      refl,
+    )
 
 mul-c : tie.Need-mul-c Inv-loop μ-loop Inv-rows μ-rows
 mul-c c = omega (arith, few (rows-of (c .before .before)), c .loop-test .taken)
@@ -278,12 +278,6 @@ measure-requires c κs =
     let l = t .before .loop in
     let r = rows-of (t .before .before) in
     (l .inv .0 .inside, omega (arith, few r, t .loop-test .taken), l .inv .1 .short, listed-bound (cols-at r) (l .i) (are r) (t .loop-test .taken), scratch-long (t .before .before) _ (l .inv .3))
-
-enum-known-t : tie.Need-enum-known-t Inv-loop μ-loop Inv-rows μ-rows
-enum-known-t c = search needs
-
-enum-known-t-2 : tie.Need-enum-known-t-2 Inv-loop μ-loop Inv-rows μ-rows
-enum-known-t-2 c = search needs
 
 add-i : tie.Need-add-i Inv-loop μ-loop Inv-rows μ-rows
 add-i c =
@@ -303,7 +297,8 @@ loop-again c =
     let f = c .before .before .before .before .before .before .flag-of in
     let m = c .before .before .before .before .measure in
     let x = subst (MeasuredBy _ _ _ _ _ _ _ _ _) (c .before .t2 .given .1) (m .ensures .0) in (
-      read-more (from-at r) (listed (cols-at r)) _ (s-at r) (body-at b) (l .at) (l .i) (l .inv .0) (column-at t) (next-column t) (f .result) (f .ensures) (x .0) _ (omega (arith, listed-length (cols-at r), t .loop-test .taken)) (x .1) (x .2) (x .3),
+      read-more (from-at r) (listed (cols-at r)) _ (s-at r) (body-at b) (l .at) (l .i) (l .inv .0) (column-at t) (next-column t) (f .result) (f .ensures) (x .0) _
+          (omega (arith, listed-length (cols-at r), t .loop-test .taken)) (x .1) (x .2) (x .3),
       measured-more (to-at r) (listed (cols-at r)) (l .inv .0 .acc) _ _ (l .m) _ (l .i) (l .inv .1) (column-at t) (next-column t) (x .0) (x .4),
       l .inv .2,
       m .ensures .1 ∙ l .inv .3,
@@ -311,18 +306,6 @@ loop-again c =
 
 end-row-requires : tie.Need-end-row-requires Inv-loop μ-loop Inv-rows μ-rows
 end-row-requires c κs = c .before .loop .inv .0 .inside
-
-enum-known-e : tie.Need-enum-known-e Inv-loop μ-loop Inv-rows μ-rows
-enum-known-e c = search needs
-
-enum-known-e-2 : tie.Need-enum-known-e-2 Inv-loop μ-loop Inv-rows μ-rows
-enum-known-e-2 c = search needs
-
-enum-known-form : tie.Need-enum-known-form Inv-loop μ-loop Inv-rows μ-rows
-enum-known-form c = search needs
-
-enum-known-form-2 : tie.Need-enum-known-form-2 Inv-loop μ-loop Inv-rows μ-rows
-enum-known-form-2 c = search needs
 
 -- ---- a row more
 
@@ -352,15 +335,15 @@ put-row-requires c κs =
       omega (arith, size-at f, c .before .before .if2 .left, r .rows .inv .0 .room),
     )
 
-after-requires : tie.Need-after-requires Inv-loop μ-loop Inv-rows μ-rows
-after-requires c κs = search needs
-
 after-requires-2 : tie.Need-after-requires-2 Inv-loop μ-loop Inv-rows μ-rows
 after-requires-2 c κs =
     let f = c .before .before .before .before .before .before .before .before .before in
     let r = rows-of (begun-of (ended-of f)) in
-    let o = onward (ended-of f) in
-    (omega (arith, c .before .before .before .before .before .before .before .if2 .left, r .rows .inv .0 .room, r .rows .inv .0 .long, begin r .good), omega (arith, r .rows .inv .0 .fewer, o .0, o .1, begin r .good))
+    let o = onward (ended-of f) in (
+      omega (arith, c .before .before .before .before .before .before .before .if2 .left, r .rows .inv .0 .room, r .rows .inv .0 .long, begin r .good),
+      omega
+          (arith, r .rows .inv .0 .fewer, o .0, o .1, begin r .good),
+    )
 
 rows-less : tie.Need-rows-less Inv-loop μ-loop Inv-rows μ-rows
 rows-less c =
@@ -375,8 +358,10 @@ rows-again c =
     let l = all-of e .before .loop in
     let o = onward e in
     let w = c .before .before .before .before .before .put-row .ensures in (
-      row-done (from-at r) (to-at r) (listed (cols-at r)) (are r) (s-at r) (out-at r) (r .rows .out) (r .rows .cursor) (r .rows .p) (r .rows .inv .0) (left (left-of (begun-of e))) (l .inv .0 .acc) _ (whole e) (row-at f) (written-at f)
-          (omega (arith, size-at f, c .before .before .before .before .before .before .before .before .if2 .left)) _ refl (o .0) (o .1) _ (w .0 .now-is) (c .before .after .result) (c .after2 .result) (c .before .after .ensures) (c .after2 .ensures .0)
+      row-done (from-at r) (to-at r) (listed (cols-at r)) (are r) (s-at r) (out-at r) (r .rows .out) (r .rows .cursor) (r .rows .p) (r .rows .inv .0) (left (left-of (begun-of e)))
+          (l .inv .0 .acc) _ (whole e) (row-at f) (written-at f)
+          (omega (arith, size-at f, c .before .before .before .before .before .before .before .before .if2 .left)) _ refl (o .0) (o .1) _ (w .0 .now-is) (c .before .after .result)
+          (c .after2 .result) (c .before .after .ensures) (c .after2 .ensures .0)
           (c .after2 .ensures .1 ∙ ap (λ (n : ℕ). r .rows .p .bytes + n) (sym (size-at f))),
       l .inv .2 ∙ r .rows .inv .1,
       w .1 ∙ l .inv .3 ∙ r .rows .inv .2,
@@ -393,7 +378,8 @@ same-length-2 c = c .before .before .rows .inv .2
 returns : tie.Need-returns Inv-loop μ-loop Inv-rows μ-rows
 returns c =
     let r = c .before .before in
-    let d = acceptance (from-at r) (to-at r) (listed (cols-at r)) (are r) (s-at r) (out-at r) (r .rows .out) (r .rows .cursor) (r .rows .p) (r .rows .inv .0) (sym (c .before .at-end .ensures) ∙ not-false _ (c .if1 .left)) in
+    let d = acceptance (from-at r) (to-at r) (listed (cols-at r)) (are r) (s-at r) (out-at r) (r .rows .out) (r .rows .cursor) (r .rows .p) (r .rows .inv .0)
+    (sym (c .before .at-end .ensures) ∙ not-false _ (c .if1 .left)) in
     (rw (r .rows .inv .1) (d .answers), d .leaves)
 
 same-length-3 : tie.Need-same-length-3 Inv-loop μ-loop Inv-rows μ-rows
@@ -407,7 +393,8 @@ returns-2 c =
     let t = c .before .before .before .before in
     let r = rows-at t in
     let g = c .before .before .before .begin-row in
-    let d = stopped t _ 0 (row-unbegun (from-at r) (listed (cols-at r)) (cols-at r .count) (listed-length (cols-at r)) (s-at r) (r .rows .cursor .at) (g .result) (g .ensures) (c .before .b .given .0 .0) (c .before .b .given .1)) in
+    let d = stopped t _ 0 (row-unbegun (from-at r) (listed (cols-at r)) (cols-at r .count) (listed-length (cols-at r)) (s-at r) (r .rows .cursor .at) (g .result) (g .ensures)
+    (c .before .b .given .0 .0) (c .before .b .given .1)) in
     (d .answers, d .leaves)
 
 same-length-5 : tie.Need-same-length-5 Inv-loop μ-loop Inv-rows μ-rows
@@ -465,8 +452,10 @@ returns-5 c =
     let a = all-of e in
     let l = a .before .loop in
     let n = c .before .form .given in
-    let q = row-cannot (from-at r) (to-at r) (cols-at r) (flags-at b) (s-at r) (body-at b) (l .at) (l .i) (l .inv .0) (l .scratch) (l .m) (l .inv .1) (listed-length (cols-at r)) (a .loop-test .left) (n .0 .0) (n .0 .1 .0) (n .1) in
-    let d = write-refusal (from-at r) (to-at r) (listed (cols-at r)) (are r) (s-at r) (out-at r) (r .rows .out) (r .rows .cursor) (r .rows .p) (r .rows .inv .0) (left (left-of b)) (l .inv .0 .acc) _ (whole e) _ q in
+    let q = row-cannot (from-at r) (to-at r) (cols-at r) (flags-at b) (s-at r) (body-at b) (l .at) (l .i) (l .inv .0) (l .scratch) (l .m) (l .inv .1) (listed-length (cols-at r))
+    (a .loop-test .left) (n .0 .0) (n .0 .1 .0) (n .1) in
+    let d = write-refusal (from-at r) (to-at r) (listed (cols-at r)) (are r) (s-at r) (out-at r) (r .rows .out) (r .rows .cursor) (r .rows .p) (r .rows .inv .0) (left (left-of b))
+    (l .inv .0 .acc) _ (whole e) _ q in
     (d .answers, d .leaves)
 
 same-length-11 : tie.Need-same-length-11 Inv-loop μ-loop Inv-rows μ-rows
@@ -483,7 +472,8 @@ returns-6 c =
     let e = ended-of f in
     let b = begun-of e in
     let r = rows-of b in
-    let d = room-refusal (from-at r) (to-at r) (listed (cols-at r)) (are r) (s-at r) (out-at r) (r .rows .out) (r .rows .cursor) (r .rows .p) (r .rows .inv .0) (left (left-of b)) (all-of e .before .loop .inv .0 .acc) _ (whole e) (row-at f) (written-at f)
+    let d = room-refusal (from-at r) (to-at r) (listed (cols-at r)) (are r) (s-at r) (out-at r) (r .rows .out) (r .rows .cursor) (r .rows .p) (r .rows .inv .0) (left (left-of b))
+    (all-of e .before .loop .inv .0 .acc) _ (whole e) (row-at f) (written-at f)
     (omega (arith, size-at f, c .if2 .taken)) in
     (d .answers, d .leaves)
 
@@ -496,33 +486,33 @@ convert-rows-spec =
     Inv-rows
     μ-rows
     frame-size-requires
-    start-requires
-    start-requires-2
+    (λ c κs. search needs)
+    (λ c κs. search needs)
     rows-holds
     at-end-requires
     begin-row-requires
-    enum-known-b
-    enum-known-b-2
-    start-requires-3
+    (λ c. search needs)
+    (λ c. search needs)
+    (λ c κs. search needs)
     loop-holds
     mul-c
     element-copy-out-c
     flag-of-requires
     measure-requires
-    enum-known-t
-    enum-known-t-2
+    (λ c. search needs)
+    (λ c. search needs)
     add-i
     loop-less
     loop-again
     end-row-requires
-    enum-known-e
-    enum-known-e-2
-    enum-known-form
-    enum-known-form-2
+    (λ c. search needs)
+    (λ c. search needs)
+    (λ c. search needs)
+    (λ c. search needs)
     add-size
     sub-room
     put-row-requires
-    after-requires
+    (λ c κs. search needs)
     after-requires-2
     rows-less
     rows-again

@@ -25,48 +25,6 @@ use borrow.Author.Needs.{needs, sfits-of}
 use Rattle.convert.proofs.measure.Statement.{statement}
 use Rattle.convert.proofs.measure.Tie as tie
 
-place-for-requires : tie.Need-place-for-requires
-place-for-requires c κs = search needs
-
-add-first : tie.Need-add-first
-add-first c = search needs
-
-mul-read-cell : tie.Need-mul-read-cell
-mul-read-cell c = search needs
-
-sub-read-cell : tie.Need-sub-read-cell
-sub-read-cell c = search needs
-
-part-read-cell-start : tie.Need-part-read-cell-start
-part-read-cell-start c = search needs
-
-part-read-cell-end : tie.Need-part-read-cell-end
-part-read-cell-end c = search needs
-
-read-cell-requires : tie.Need-read-cell-requires
-read-cell-requires c κs = search needs
-
-enum-known-found : tie.Need-enum-known-found
-enum-known-found c = search needs
-
-enum-known-found-2 : tie.Need-enum-known-found-2
-enum-known-found-2 c = search needs
-
-mul-scratch : tie.Need-mul-scratch
-mul-scratch c = search needs
-
-slice-set-of-scratch : tie.Need-slice-set-of-scratch
-slice-set-of-scratch c = search needs
-
-size-cell-requires : tie.Need-size-cell-requires
-size-cell-requires c κs = search needs
-
-after-requires : tie.Need-after-requires
-after-requires c κs = search needs
-
-enum-known-found-3 : tie.Need-enum-known-found-3
-enum-known-found-3 c = search needs
-
 -- ---- a cell that shows elements: what the scratch held, where the count goes, what was read, and how much
 
 abbrev Told : Type 0
@@ -123,23 +81,11 @@ part c = back-part (place c) (old c) (read c) (fits c) (same c) (toZ w64 (count 
 cast-scratch : tie.Need-cast-scratch
 cast-scratch c = sfits-of (omega (arith, few c))
 
-mul-t32 : tie.Need-mul-t32
-mul-t32 c = search needs
-
-slice-set-from-scratch : tie.Need-slice-set-from-scratch
-slice-set-from-scratch c = search needs
-
-mul-size-cell : tie.Need-mul-size-cell
-mul-size-cell c = search needs
-
 sub-size-cell : tie.Need-sub-size-cell
 sub-size-cell c = subst (λ (n : ℕ). place c + 1 ≤ n) (sym (long c)) (omega (arith, fits c))
 
 part-size-cell-start : tie.Need-part-size-cell-start
 part-size-cell-start c = sub-size-cell (c .before)
-
-part-size-cell-end : tie.Need-part-size-cell-end
-part-size-cell-end c = search needs
 
 size-cell-requires-2 : tie.Need-size-cell-requires-2
 size-cell-requires-2 c κs =
@@ -158,9 +104,6 @@ counted c = ap (λ (z : ℤ). z ∷ take (count c) (read c)) (toZ-pos w64 (omega
 
 -- ---- the ways out
 
-same-length : tie.Need-same-length
-same-length c = search needs
-
 returns : tie.Need-returns
 returns c =
     let a = c .before .before .before .before .before .before .before .before in
@@ -168,9 +111,6 @@ returns c =
     let f = c .before .before .before .before .read-cell in
     let l = now (a .args .scratch) in
     (f .ensures .found ∙ ap (foundAs (now (a .args .s)) _) (c .before .found .given .1), same-len-mid (p + 1) (length l - (p + 1)) l (f .last .1 .1 .1 .1 .1 .0) (f .ensures .long))
-
-same-length-2 : tie.Need-same-length-2
-same-length-2 c = search needs
 
 returns-2 : tie.Need-returns-2
 unfolding isNull heldCell
@@ -189,14 +129,12 @@ returns-2 c =
         f .ensures .found ∙ ap (foundAs (now (a .args .s)) _) e,
         w .0,
         w .1,
-        grown-of (a .args .to) (a .args .column) (a .args .i) (a .args .m) null l _ (c .after .result) true 0 (c .before .size-cell .result) (c .after .ensures) (c .before .size-cell .ensures .0) refl tt
+        grown-of (a .args .to) (a .args .column) (a .args .i) (a .args .m) null l _ (c .after .result) true 0 (c .before .size-cell .result) (c .after .ensures)
+            (c .before .size-cell .ensures .0) refl tt
             (keep (p .result) l r h (f .ensures .long) _ 0 null refl (a .args .m .holding) (p .ensures .0)),
       ),
       back-long (p .result) l r h (f .ensures .long) _,
     )
-
-same-length-3 : tie.Need-same-length-3
-same-length-3 c = search needs
 
 returns-3 : tie.Need-returns-3
 unfolding isNull heldCell
@@ -212,8 +150,10 @@ returns-3 c =
         within k .0,
         within k .1,
         grown-of (a .args .to) (a .args .column) (a .args .i) (a .args .m) x (old k) (now-held k) (c .after2 .result) false (count k) (c .before .size-cell2 .result) (c .after2 .ensures)
-            (subst (λ (m : List ℤ). sizeAs (c .before .size-cell2 .result) ≡ sizeOf (writeCell (a .args .to) (a .args .column) (shown (take (count k) m)))) (part k) (c .before .size-cell2 .ensures .0)) refl (omega (arith, t, most k))
-            (keep (place k) (old k) (read k) (fits k) (same k) (toZ w64 (count k)) (count k) x (counted k) (a .args .m .holding) (k .before .before .before .before .before .before .place-for .ensures .0)),
+            (subst (λ (m : List ℤ). sizeAs (c .before .size-cell2 .result) ≡ sizeOf (writeCell (a .args .to) (a .args .column) (shown (take (count k) m)))) (part k)
+            (c .before .size-cell2 .ensures .0)) refl (omega (arith, t, most k))
+            (keep (place k) (old k) (read k) (fits k) (same k) (toZ w64 (count k)) (count k) x (counted k) (a .args .m .holding)
+            (k .before .before .before .before .before .before .place-for .ensures .0)),
       ),
       long k,
     )
@@ -222,32 +162,32 @@ pub measure-spec : {M : Type 1} → statement M
 measure-spec =
     tie.close
     (tie.spec
-    place-for-requires
-    add-first
-    mul-read-cell
-    sub-read-cell
-    part-read-cell-start
-    part-read-cell-end
-    read-cell-requires
-    enum-known-found
-    enum-known-found-2
-    mul-scratch
-    slice-set-of-scratch
-    size-cell-requires
-    after-requires
-    enum-known-found-3
+    (λ c κs. search needs)
+    (λ c. search needs)
+    (λ c. search needs)
+    (λ c. search needs)
+    (λ c. search needs)
+    (λ c. search needs)
+    (λ c κs. search needs)
+    (λ c. search needs)
+    (λ c. search needs)
+    (λ c. search needs)
+    (λ c. search needs)
+    (λ c κs. search needs)
+    (λ c κs. search needs)
+    (λ c. search needs)
     cast-scratch
-    mul-t32
-    slice-set-from-scratch
-    mul-size-cell
+    (λ c. search needs)
+    (λ c. search needs)
+    (λ c. search needs)
     sub-size-cell
     part-size-cell-start
-    part-size-cell-end
+    (λ c. search needs)
     size-cell-requires-2
     after-requires-2
-    same-length
+    (λ c. search needs)
     returns
-    same-length-2
+    (λ c. search needs)
     returns-2
-    same-length-3
+    (λ c. search needs)
     returns-3)

@@ -5,27 +5,18 @@ use borrow.Author.Tests.{le-ltb, lt-ltb}
 use Rattle.convert.proofs.place_for.Statement.{statement}
 use Rattle.convert.proofs.place_for.Tie as tie
 
-enum-known-holding : tie.Need-enum-known-holding
-enum-known-holding c = search needs
-
-enum-told : tie.Need-enum-told
-enum-told c = search needs
-
 returns : tie.Need-returns
 returns c = (rw (c .before .before .holding .given .1, lt-ltb _ 4096 (c .if1 .taken)), c .if1 .taken)
 
 returns-2 : tie.Need-returns-2
 returns-2 c = (rw (c .before .before .holding .given .1, le-ltb _ 4096 (c .if1 .left)), omega arith)
 
-returns-3 : tie.Need-returns-3
-returns-3 c = search needs
-
 pub place-for-spec : {M : Type 1} → statement M
 place-for-spec =
     tie.close
     (tie.spec
-    enum-known-holding
-    enum-told
+    (λ c. search needs)
+    (λ c. search needs)
     returns
     returns-2
-    returns-3)
+    (λ c. search needs))

@@ -1,4 +1,4 @@
--- The end of the input, by the kind of rows: a place at the end leaves nothing.
+-- row_reading::at_end: the end of the input, by the kind of rows: a place at the end leaves nothing.
 use mathlib.Core.Path.{sym, ap, _∙_}
 use lib.ListN.{drop}
 use denote.Ref.{now}
@@ -9,24 +9,13 @@ use borrow.Author.Needs.{needs}
 use Rattle.row_reading.proofs.at_end.Statement.{statement}
 use Rattle.row_reading.proofs.at_end.Tie as tie
 
-enum-told : tie.Need-enum-told
-enum-told c = search needs
-
-skip-white-requires : tie.Need-skip-white-requires
-skip-white-requires c κs = search needs
-
-enum-told-2 : tie.Need-enum-told-2
-enum-told-2 c = search needs
-
-enum-told-3 : tie.Need-enum-told-3
-enum-told-3 c = search needs
-
 returns : tie.Need-returns
 unfolding atEnd
 returns c =
     let a = c .before .before .before .before in
     let k = c .skip-white in
-    empty-drop (now (a .args .s)) (k .result) (k .ensures .high) ∙ ap isEmpty (sym (k .ensures .rest)) ∙ ap (λ (f : Rows). atEnd f (drop (a .args .at) (now (a .args .s)))) (sym (c .before .enum-told .given .1))
+    empty-drop (now (a .args .s)) (k .result) (k .ensures .high) ∙ ap isEmpty (sym (k .ensures .rest))
+    ∙ ap (λ (f : Rows). atEnd f (drop (a .args .at) (now (a .args .s)))) (sym (c .before .enum-told .given .1))
 
 returns-2 : tie.Need-returns-2
 unfolding atEnd
@@ -43,4 +32,4 @@ returns-3 c =
 pub at-end-spec : {M : Type 1} → statement M
 at-end-spec =
     tie.close
-    (tie.spec enum-told skip-white-requires enum-told-2 enum-told-3 returns returns-2 returns-3)
+    (tie.spec (λ c. search needs) (λ c κs. search needs) (λ c. search needs) (λ c. search needs) returns returns-2 returns-3)

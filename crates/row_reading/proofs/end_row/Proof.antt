@@ -1,4 +1,4 @@
--- The end of a row, by the kind of rows: one law of Ways each.
+-- row_reading::end_row: by the kind of rows, one law of Ways each.
 use mathlib.Core.Path.{refl}
 use denote.Ref.{now}
 use Rattle.rows.specs.Stream.{readEnd}
@@ -7,29 +7,11 @@ use borrow.Author.Needs.{needs}
 use Rattle.row_reading.proofs.end_row.Statement.{statement}
 use Rattle.row_reading.proofs.end_row.Tie as tie
 
-enum-told : tie.Need-enum-told
-enum-told c = search needs
-
-row-ends-requires : tie.Need-row-ends-requires
-row-ends-requires c κs = search needs
-
-enum-known-next : tie.Need-enum-known-next
-enum-known-next c = search needs
-
-enum-told-2 : tie.Need-enum-told-2
-enum-told-2 c = search needs
-
 returns : tie.Need-returns
 returns c =
     let a = c .before .before .before .before .before .before in
     let r = c .before .before .row-ends in
     rw (c .before .before .before .enum-told .given .1) (open-text (now (a .args .s)) (a .args .at) (r .result) (r .ensures) (c .enum-told2 .given .1))
-
-enum-told-3 : tie.Need-enum-told-3
-enum-told-3 c = search needs
-
-enum-told-4 : tie.Need-enum-told-4
-enum-told-4 c = search needs
 
 returns-2 : tie.Need-returns-2
 returns-2 c =
@@ -53,13 +35,13 @@ pub end-row-spec : {M : Type 1} → statement M
 end-row-spec =
     tie.close
     (tie.spec
-    enum-told
-    row-ends-requires
-    enum-known-next
-    enum-told-2
+    (λ c. search needs)
+    (λ c κs. search needs)
+    (λ c. search needs)
+    (λ c. search needs)
     returns
-    enum-told-3
-    enum-told-4
+    (λ c. search needs)
+    (λ c. search needs)
     returns-2
     returns-3
     returns-4)

@@ -1,22 +1,10 @@
--- The flag of a column, by the kind of rows: only BINARY2 has any.
+-- row_reading::flag_of: by the kind of rows: only BINARY2 has any.
 use mathlib.Core.Path.{_∙_}
 use Rattle.row_reading.specs.Contracts.{flagsIn}
 use Rattle.row_reading.proofs.Ways.{flag-binary2, no-flag}
 use borrow.Author.Needs.{needs}
 use Rattle.row_reading.proofs.flag_of.Statement.{statement}
 use Rattle.row_reading.proofs.flag_of.Tie as tie
-
-enum-told : tie.Need-enum-told
-enum-told c = search needs
-
-enum-told-2 : tie.Need-enum-told-2
-enum-told-2 c = search needs
-
-enum-told-3 : tie.Need-enum-told-3
-enum-told-3 c = search needs
-
-is-flagged-requires : tie.Need-is-flagged-requires
-is-flagged-requires c κs = search needs
 
 returns : tie.Need-returns
 unfolding flagsIn
@@ -34,4 +22,4 @@ returns-3 c =
 pub flag-of-spec : {M : Type 1} → statement M
 flag-of-spec =
     tie.close
-    (tie.spec enum-told enum-told-2 enum-told-3 is-flagged-requires returns returns-2 returns-3)
+    (tie.spec (λ c. search needs) (λ c. search needs) (λ c. search needs) (λ c κs. search needs) returns returns-2 returns-3)

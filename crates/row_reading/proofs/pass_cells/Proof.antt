@@ -56,9 +56,6 @@ pass-cell-requires c κs =
     let a = l .before .before in
     (l .loop .inv .0 .inside, listed-bound (a .args .t1) (l .loop .i) (a .pre .0) (c .before .before .before .loop-test .taken), omega (arith, l .loop .inv .1, a .pre .2))
 
-enum-known-n : tie.Need-enum-known-n Inv-loop μ-loop
-enum-known-n c = search needs
-
 same-length : tie.Need-same-length Inv-loop μ-loop
 same-length c = c .before .before .before .before .pass-cell .ensures .1 ∙ c .before .before .before .before .before .before .before .before .before .loop .inv .1
 
@@ -78,9 +75,6 @@ returns c =
       p .ensures .1 ∙ l .loop .inv .1,
     )
 
-enum-known-n-2 : tie.Need-enum-known-n-2 Inv-loop μ-loop
-enum-known-n-2 c = search needs
-
 add-i : tie.Need-add-i Inv-loop μ-loop
 add-i c =
     omega (arith, few (c .before .before .before .before .before .before .before .before .before .before .before), c .before .before .before .before .before .before .before .before .loop-test .taken)
@@ -97,7 +91,8 @@ loop-again c =
     let p = c .before .before .before .before .pass-cell in
     let t = c .before .before .before .before .before .before .before .before .loop-test .taken in
     let x = subst (PassesCell _ _ _) (c .before .n2 .given .1) (p .ensures .0) in (
-      read-more (a .args .from) (listed cols) (flags-of a) (now (a .args .s)) (a .args .body) (l .loop .at) (l .loop .i) (l .loop .inv .0) (getD (cols .list) (l .loop .i) noColumn) (listed-next cols (l .loop .i) t) (f .result) (f .ensures)
+      read-more (a .args .from) (listed cols) (flags-of a) (now (a .args .s)) (a .args .body) (l .loop .at) (l .loop .i) (l .loop .inv .0) (getD (cols .list) (l .loop .i) noColumn)
+          (listed-next cols (l .loop .i) t) (f .result) (f .ensures)
           (x .0) _ (omega (arith, listed-length cols, t)) (x .1) (x .2) (x .3),
       p .ensures .1 ∙ l .loop .inv .1,
     )
@@ -105,20 +100,16 @@ loop-again c =
 end-row-requires : tie.Need-end-row-requires Inv-loop μ-loop
 end-row-requires c κs = c .before .loop .inv .0 .inside
 
-enum-known-e : tie.Need-enum-known-e Inv-loop μ-loop
-enum-known-e c = search needs
-
-enum-known-e-2 : tie.Need-enum-known-e-2 Inv-loop μ-loop
-enum-known-e-2 c = search needs
-
 -- all columns are read
 all-read : (c : tie.After-loop Inv-loop μ-loop)
-    → readCells (c .before .before .before .args .from) (listed (c .before .before .before .args .t1)) (flags-of (c .before .before .before)) 0 (drop (c .before .before .before .args .body) (now (c .before .before .before .args .s)))
+    → readCells (c .before .before .before .args .from) (listed (c .before .before .before .args .t1)) (flags-of (c .before .before .before)) 0
+    (drop (c .before .before .before .args .body) (now (c .before .before .before .args .s)))
     ≡ good (c .before .loop .inv .0 .acc, drop (c .before .loop .at) (now (c .before .before .before .args .s)))
 all-read c =
     let l = c .before in
     let a = l .before .before in
-    read-end (a .args .from) (listed (a .args .t1)) (flags-of a) (now (a .args .s)) (a .args .body) (l .loop .at) (l .loop .i) (l .loop .inv .0) (omega (arith, listed-length (a .args .t1), c .loop-test .left))
+    read-end (a .args .from) (listed (a .args .t1)) (flags-of a) (now (a .args .s)) (a .args .body) (l .loop .at) (l .loop .i) (l .loop .inv .0)
+    (omega (arith, listed-length (a .args .t1), c .loop-test .left))
 
 same-length-2 : tie.Need-same-length-2 Inv-loop μ-loop
 same-length-2 c = c .before .before .before .before .before .loop .inv .1
@@ -128,7 +119,8 @@ returns-2 c =
     let l = c .before .before .before .before .before in
     let a = l .before .before in
     let e = c .before .before .before .end-row in (
-      cells-open (a .args .from) (listed (a .args .t1)) (flags-of a) (now (a .args .s)) (a .args .body) _ _ (all-read (c .before .before .before .before)) (e .result) (e .ensures) _ (c .before .e .given .1)
+      cells-open (a .args .from) (listed (a .args .t1)) (flags-of a) (now (a .args .s)) (a .args .body) _ _ (all-read (c .before .before .before .before)) (e .result) (e .ensures) _
+          (c .before .e .given .1)
           ∙ ap (λ (k : ℕ). bad (at k (c .before .e .given .0 .0))) (listed-length (a .args .t1)),
       l .loop .inv .1,
     )
@@ -163,16 +155,16 @@ pass-cells-spec =
     element-copy-out-c
     flag-of-requires
     pass-cell-requires
-    enum-known-n
+    (λ c. search needs)
     same-length
     returns
-    enum-known-n-2
+    (λ c. search needs)
     add-i
     loop-less
     loop-again
     end-row-requires
-    enum-known-e
-    enum-known-e-2
+    (λ c. search needs)
+    (λ c. search needs)
     same-length-2
     returns-2
     same-length-3

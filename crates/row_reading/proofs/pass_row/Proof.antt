@@ -15,34 +15,30 @@ begin-row-requires c κs =
     let a = c .before in
     (a .pre .1, omega (arith, a .pre .0 .some, listed-length (a .args .cols)), omega (arith, a .pre .0 .few, listed-length (a .args .cols)))
 
-enum-known-b : tie.Need-enum-known-b
-enum-known-b c = search needs
-
-enum-known-b-2 : tie.Need-enum-known-b-2
-enum-known-b-2 c = search needs
-
 pass-cells-requires : tie.Need-pass-cells-requires
 pass-cells-requires c κs =
     let a = c .before .before .before .before .before .before in
     let g = c .before .before .before .before .begin-row in
-    let w = begun-within (a .args .from) (listed (a .args .cols)) (a .args .cols .count) (listed-length (a .args .cols)) (now (a .args .s)) (a .args .at) (g .result) (g .ensures) _ _ (c .before .before .b2 .given .1) in
+    let w = begun-within (a .args .from) (listed (a .args .cols)) (a .args .cols .count) (listed-length (a .args .cols)) (now (a .args .s)) (a .args .at) (g .result) (g .ensures) _ _
+    (c .before .before .b2 .given .1) in
     (a .pre .0, w .1, a .pre .2)
 
 returns : tie.Need-returns
 returns c =
     let a = c .before .before .before .before .before in
-    let g = c .before .before .before .begin-row in
-    (row-unbegun (a .args .from) (listed (a .args .cols)) (a .args .cols .count) (listed-length (a .args .cols)) (now (a .args .s)) (a .args .at) (g .result) (g .ensures) _ (c .before .b .given .1), refl)
-
-same-length : tie.Need-same-length
-same-length c = search needs
+    let g = c .before .before .before .begin-row in (
+      row-unbegun (a .args .from) (listed (a .args .cols)) (a .args .cols .count) (listed-length (a .args .cols)) (now (a .args .s)) (a .args .at) (g .result) (g .ensures) _
+          (c .before .b .given .1),
+      refl,
+    )
 
 returns-2 : tie.Need-returns-2
 returns-2 c =
     let a = c .before .before .before .before .before .before .before .before in
     let g = c .before .before .before .before .before .before .begin-row in
     let p = c .before .pass-cells in (
-      row-passed (a .args .from) (listed (a .args .cols)) (a .args .cols .count) (listed-length (a .args .cols)) (now (a .args .s)) (a .args .at) (g .result) (g .ensures) _ _ (c .before .before .before .before .b2 .given .1)
+      row-passed (a .args .from) (listed (a .args .cols)) (a .args .cols .count) (listed-length (a .args .cols)) (now (a .args .s)) (a .args .at) (g .result) (g .ensures) _ _
+          (c .before .before .before .before .b2 .given .1)
           (a .pre .0) (p .result) (p .ensures .0),
       p .ensures .1,
     )
@@ -52,9 +48,9 @@ pass-row-spec =
     tie.close
     (tie.spec
     begin-row-requires
-    enum-known-b
-    enum-known-b-2
+    (λ c. search needs)
+    (λ c. search needs)
     pass-cells-requires
     returns
-    same-length
+    (λ c. search needs)
     returns-2)

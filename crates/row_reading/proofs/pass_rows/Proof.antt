@@ -35,9 +35,6 @@ pass-row-requires c κs =
     let a = l .before .before in
     (a .pre .0, l .loop .inv .0 .inside, omega (arith, l .loop .inv .1, a .pre .1))
 
-enum-known-p : tie.Need-enum-known-p Inv-loop μ-loop
-enum-known-p c = search needs
-
 same-length : tie.Need-same-length Inv-loop μ-loop
 same-length c = c .before .before .before .before .pass-row .ensures .1 ∙ c .before .before .before .before .before .before .before .before .loop .inv .1
 
@@ -51,9 +48,6 @@ returns c =
     let a = l .before .before in
     let h = subst (PassesRow _ _ _) (c .before .p .given .1) (c .before .before .before .before .pass-row .ensures .0) in
     pass-stop (a .args .from) (listed (a .args .cols)) (now (a .args .s)) (a .pre .0) (l .loop .at) (l .loop .rows) (l .loop .inv .0) (left (c .before .before .before .before .before .before)) _ _ h
-
-enum-known-p-2 : tie.Need-enum-known-p-2 Inv-loop μ-loop
-enum-known-p-2 c = search needs
 
 add-rows : tie.Need-add-rows Inv-loop μ-loop
 add-rows c =
@@ -72,7 +66,8 @@ loop-again c =
     let a = l .before .before in
     let p = c .before .before .before .before .pass-row in
     let h = subst (PassesRow _ _ _) (c .before .p2 .given .1) (p .ensures .0) in (
-      pass-more (a .args .from) (listed (a .args .cols)) (now (a .args .s)) (a .pre .0) (l .loop .at) (l .loop .rows) (l .loop .inv .0) (left (c .before .before .before .before .before .before)) (h .0) _ (h .1) (h .2) (h .3),
+      pass-more (a .args .from) (listed (a .args .cols)) (now (a .args .s)) (a .pre .0) (l .loop .at) (l .loop .rows) (l .loop .inv .0)
+          (left (c .before .before .before .before .before .before)) (h .0) _ (h .1) (h .2) (h .3),
       p .ensures .1 ∙ l .loop .inv .1,
     )
 
@@ -94,10 +89,10 @@ pass-rows-spec =
     loop-holds
     at-end-requires
     pass-row-requires
-    enum-known-p
+    (λ c. search needs)
     same-length
     returns
-    enum-known-p-2
+    (λ c. search needs)
     add-rows
     loop-less
     loop-again

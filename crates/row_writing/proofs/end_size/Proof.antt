@@ -1,4 +1,4 @@
--- How long what ends a row is, by the kind of rows.
+-- row_writing::end_size: how long what ends a row is, by the kind of rows.
 use Prim.Native.Nat.{_≤_}
 use lib.Dec.{lit≤}
 use mathlib.Core.Path.{refl}
@@ -7,15 +7,6 @@ use Rattle.tabledata.specs.TableData.{close-TR}
 use borrow.Author.Needs.{needs}
 use Rattle.row_writing.proofs.end_size.Statement.{statement}
 use Rattle.row_writing.proofs.end_size.Tie as tie
-
-enum-told : tie.Need-enum-told
-enum-told c = search needs
-
-enum-told-2 : tie.Need-enum-told-2
-enum-told-2 c = search needs
-
-enum-told-3 : tie.Need-enum-told-3
-enum-told-3 c = search needs
 
 returns : tie.Need-returns
 unfolding writeEnd close-TR
@@ -30,4 +21,4 @@ unfolding writeEnd
 returns-3 c = rw (c .enum-told3 .given .1) (lit≤ tt, refl)
 
 pub end-size-spec : {M : Type 1} → statement M
-end-size-spec = tie.close (tie.spec enum-told enum-told-2 enum-told-3 returns returns-2 returns-3)
+end-size-spec = tie.close (tie.spec (λ c. search needs) (λ c. search needs) (λ c. search needs) returns returns-2 returns-3)

@@ -4,17 +4,8 @@ use borrow.Author.Needs.{needs}
 use Rattle.row_writing.proofs.frame_size.Statement.{statement}
 use Rattle.row_writing.proofs.frame_size.Tie as tie
 
-start-size-requires : tie.Need-start-size-requires
-start-size-requires c κs = search needs
-
-end-size-requires : tie.Need-end-size-requires
-end-size-requires c κs = search needs
-
-add-result : tie.Need-add-result
-add-result c = search needs
-
 returns : tie.Need-returns
 returns c = (omega (arith, c .before .start-size .ensures .0, c .end-size .ensures .0), λ nulls. omega (arith, c .before .start-size .ensures .1 nulls, c .end-size .ensures .1))
 
 pub frame-size-spec : {M : Type 1} → statement M
-frame-size-spec = tie.close (tie.spec start-size-requires end-size-requires add-result returns)
+frame-size-spec = tie.close (tie.spec (λ c κs. search needs) (λ c κs. search needs) (λ c. search needs) returns)

@@ -1,4 +1,4 @@
--- By the test, what stands at the place is a count, or below zero.
+-- row_writing::held_at: by the test, what stands at the place is a count, or below zero.
 use Prim.Native.Nat.{_+_, suc, ℕ}
 use mathlib.Core.List.{List, _∷_}
 use mathlib.Core.Path.{_∙_, _≡_, ap, ap₂, sym}
@@ -14,12 +14,6 @@ use Rattle.number.proofs.Signed.{down, up, up-cast, up-held}
 use borrow.Author.Needs.{needs, sfits-of}
 use Rattle.row_writing.proofs.held_at.Statement.{statement}
 use Rattle.row_writing.proofs.held_at.Tie as tie
-
-mul-n : tie.Need-mul-n
-mul-n c = search needs
-
-shared-slice-copy-out-n : tie.Need-shared-slice-copy-out-n
-shared-slice-copy-out-n c = search needs
 
 cast-t8 : tie.Need-cast-t8
 cast-t8 c = up-cast w64 (getD (now (c .before .before .args .scratch)) (c .before .before .args .at) (pos 0)) (sfits-of (c .before .n .given)) (c .if1 .taken)
@@ -44,4 +38,4 @@ returns-2 c =
 
 pub held-at-spec : {M : Type 1} → statement M
 held-at-spec =
-    tie.close (tie.spec mul-n shared-slice-copy-out-n cast-t8 returns returns-2)
+    tie.close (tie.spec (λ c. search needs) (λ c. search needs) cast-t8 returns returns-2)

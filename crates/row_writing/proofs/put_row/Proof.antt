@@ -18,9 +18,6 @@ form a h =
     rowBytes (a .args .to) (a .args .cols .count) (a .args .nulls)
     (putForm (a .args .from) (a .args .to) (a .args .cols) (a .args .flags) (drop (a .args .body) (now (a .args .s))) (now (a .args .scratch)) h)
 
-enum-known-holding : tie.Need-enum-known-holding
-enum-known-holding c = search needs
-
 write-held-row-requires : tie.Need-write-held-row-requires
 write-held-row-requires c κs =
     let a = c .before .before .before .before .before .before .before in
@@ -29,32 +26,17 @@ write-held-row-requires c κs =
       subst (λ (h : Holding). a .args .at + length (form a h) ≤ length (now (a .args .out))) e (a .pre .1),
     )
 
-enum-told : tie.Need-enum-told
-enum-told c = search needs
-
 write-row-requires : tie.Need-write-row-requires
 write-row-requires c κs =
     let a = c .before .before .before .before .before .before in
     let e = c .before .before .enum-told .given .1 in
     ((a .pre .0 .0, a .pre .0 .1, a .pre .0 .2), subst (λ (h : Holding). a .args .at + length (form a h) ≤ length (now (a .args .out))) e (a .pre .1))
 
-same-length : tie.Need-same-length
-same-length c = search needs
-
-same-length-2 : tie.Need-same-length-2
-same-length-2 c = search needs
-
 returns : tie.Need-returns
 returns c =
     let a = c .before .before .before .before .before .before .before .before .before .before in
     let e = c .before .before .before .before .before .before .holding .given .1 in
     (wrote-as (ap (form a) (sym e)) (c .before .before .write-held-row .ensures), refl)
-
-same-length-3 : tie.Need-same-length-3
-same-length-3 c = search needs
-
-same-length-4 : tie.Need-same-length-4
-same-length-4 c = search needs
 
 returns-2 : tie.Need-returns-2
 returns-2 c =
@@ -66,13 +48,13 @@ pub put-row-spec : {M : Type 1} → statement M
 put-row-spec =
     tie.close
     (tie.spec
-    enum-known-holding
+    (λ c. search needs)
     write-held-row-requires
-    enum-told
+    (λ c. search needs)
     write-row-requires
-    same-length
-    same-length-2
+    (λ c. search needs)
+    (λ c. search needs)
     returns
-    same-length-3
-    same-length-4
+    (λ c. search needs)
+    (λ c. search needs)
     returns-2)

@@ -1,4 +1,4 @@
--- A cell is read once more and written: by what was found, each way is one law of Grown.
+-- row_writing::rewrite: a cell is read once more and written: by what was found, each way is one law of RowForm.
 use mathlib.Core.Path.{ap, _∙_, subst}
 use lib.ListN.{take}
 use denote.Ref.{now}
@@ -13,24 +13,12 @@ use borrow.Author.Needs.{needs}
 use Rattle.row_writing.proofs.rewrite.Statement.{statement}
 use Rattle.row_writing.proofs.rewrite.Tie as tie
 
-read-cell-requires : tie.Need-read-cell-requires
-read-cell-requires c κs = search needs
-
-enum-known-found : tie.Need-enum-known-found
-enum-known-found c = search needs
-
-enum-known-found-2 : tie.Need-enum-known-found-2
-enum-known-found-2 c = search needs
-
 write-cell-requires : tie.Need-write-cell-requires
 write-cell-requires c κs =
     let a = c .before .before .before .before .before .before .before .before .before .before in
     let s = now (a .args .s) in
     let e = c .before .before .before .before .before .before .read-cell .ensures .found ∙ ap (foundAs s _) (c .before .before .before .found2 .given .1) in
     ((a .pre .0 .1, omega arith, omega arith), rw (← form-found (a .args .to) (a .args .column) _ null _ e) (a .pre .1))
-
-enum-known-found-3 : tie.Need-enum-known-found-3
-enum-known-found-3 c = search needs
 
 write-cell-requires-2 : tie.Need-write-cell-requires-2
 write-cell-requires-2 c κs =
@@ -46,20 +34,14 @@ write-cell-requires-2 c κs =
       rw (← form-found (a .args .to) (a .args .column) _ x _ e) (a .pre .1),
     )
 
-same-length : tie.Need-same-length
-same-length c = search needs
-
 returns : tie.Need-returns
 returns c =
     let a = c .before .before .before .before .before .before .before .before in
-    let f = c .before .before .before .before .read-cell .ensures in
-    (unwritten (readCell (a .args .from)) (a .args .to) (a .args .column) (a .args .flagged) (now (a .args .s)) (a .args .w) _ _ (f .found ∙ ap (foundAs (now (a .args .s)) _) (c .before .found .given .1)), f .long)
-
-same-length-2 : tie.Need-same-length-2
-same-length-2 c = search needs
-
-same-length-3 : tie.Need-same-length-3
-same-length-3 c = search needs
+    let f = c .before .before .before .before .read-cell .ensures in (
+      unwritten (readCell (a .args .from)) (a .args .to) (a .args .column) (a .args .flagged) (now (a .args .s)) (a .args .w) _ _
+          (f .found ∙ ap (foundAs (now (a .args .s)) _) (c .before .found .given .1)),
+      f .long,
+    )
 
 returns-2 : tie.Need-returns-2
 returns-2 c =
@@ -67,14 +49,11 @@ returns-2 c =
     let s = now (a .args .s) in
     let f = c .before .before .before .before .before .before .before .before .before .read-cell .ensures in
     let q = c .before .before .before .before .before .before .found2 .given .1 in
-    let w = subst (FoundWithin s (a .args .w .at) _) q (f .within) in
-    (rewritten (readCell (a .args .from)) (a .args .to) (a .args .column) (a .args .flagged) s (a .args .w) _ _ _ _ null (f .found ∙ ap (foundAs s _) q) (w .1) (c .before .before .write-cell .ensures), f .long)
-
-same-length-4 : tie.Need-same-length-4
-same-length-4 c = search needs
-
-same-length-5 : tie.Need-same-length-5
-same-length-5 c = search needs
+    let w = subst (FoundWithin s (a .args .w .at) _) q (f .within) in (
+      rewritten (readCell (a .args .from)) (a .args .to) (a .args .column) (a .args .flagged) s (a .args .w) _ _ _ _ null (f .found ∙ ap (foundAs s _) q) (w .1)
+          (c .before .before .write-cell .ensures),
+      f .long,
+    )
 
 returns-3 : tie.Need-returns-3
 returns-3 c =
@@ -82,24 +61,27 @@ returns-3 c =
     let s = now (a .args .s) in
     let f = c .before .before .before .before .before .before .before .before .before .read-cell .ensures in
     let q = c .before .before .before .before .before .before .found3 .given .1 in
-    let w = subst (FoundWithin s (a .args .w .at) _) q (f .within) in
-    (rewritten (readCell (a .args .from)) (a .args .to) (a .args .column) (a .args .flagged) s (a .args .w) _ _ _ _ (shown _) (f .found ∙ ap (foundAs s _) q) (w .1) (c .before .before .write-cell2 .ensures), f .long)
+    let w = subst (FoundWithin s (a .args .w .at) _) q (f .within) in (
+      rewritten (readCell (a .args .from)) (a .args .to) (a .args .column) (a .args .flagged) s (a .args .w) _ _ _ _ (shown _) (f .found ∙ ap (foundAs s _) q) (w .1)
+          (c .before .before .write-cell2 .ensures),
+      f .long,
+    )
 
 pub rewrite-spec : {M : Type 1} → statement M
 rewrite-spec =
     tie.close
     (tie.spec
-    read-cell-requires
-    enum-known-found
-    enum-known-found-2
+    (λ c κs. search needs)
+    (λ c. search needs)
+    (λ c. search needs)
     write-cell-requires
-    enum-known-found-3
+    (λ c. search needs)
     write-cell-requires-2
-    same-length
+    (λ c. search needs)
     returns
-    same-length-2
-    same-length-3
+    (λ c. search needs)
+    (λ c. search needs)
     returns-2
-    same-length-4
-    same-length-5
+    (λ c. search needs)
+    (λ c. search needs)
     returns-3)

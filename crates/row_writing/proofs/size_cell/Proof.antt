@@ -1,4 +1,4 @@
--- A cell is measured by its target's kind of rows: the size is its own function's, and one law bounds it.
+-- row_writing::size_cell: a cell is measured by its target's kind of rows: the size is its own function's, and one law bounds it.
 use denote.Ref.{now}
 use mathlib.Core.Path.{_≡_, ap}
 use Rattle.table.specs.declared.Rows.{Rows}
@@ -17,22 +17,13 @@ use borrow.Author.Needs.{needs}
 use Rattle.row_writing.proofs.size_cell.Statement.{statement}
 use Rattle.row_writing.proofs.size_cell.Tie as tie
 
-enum-told : tie.Need-enum-told
-enum-told c = search needs
-
 size-text-requires : tie.Need-size-text-requires
 size-text-requires c κs =
     let a = c .before .before in
     (a .pre .2, omega (arith, a .pre .0, a .pre .1))
 
-enum-told-2 : tie.Need-enum-told-2
-enum-told-2 c = search needs
-
 size-binary-requires : tie.Need-size-binary-requires
 size-binary-requires c κs = c .before .before .pre
-
-enum-told-3 : tie.Need-enum-told-3
-enum-told-3 c = search needs
 
 size-binary2-requires : tie.Need-size-binary2-requires
 size-binary2-requires c κs = c .before .before .pre
@@ -63,11 +54,11 @@ pub size-cell-spec : {M : Type 1} → statement M
 size-cell-spec =
     tie.close
     (tie.spec
-    enum-told
+    (λ c. search needs)
     size-text-requires
-    enum-told-2
+    (λ c. search needs)
     size-binary-requires
-    enum-told-3
+    (λ c. search needs)
     size-binary2-requires
     returns
     returns-2

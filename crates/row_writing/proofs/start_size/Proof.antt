@@ -1,4 +1,4 @@
--- How long what begins a row is, by the kind of rows.
+-- row_writing::start_size: how long what begins a row is, by the kind of rows.
 use Prim.Native.Nat.{_≤_}
 use mathlib.Core.Path.{refl}
 use lib.Dec.{lit≤}
@@ -9,18 +9,6 @@ use native.Mathlib.Omega.{arith}
 use borrow.Author.Needs.{needs}
 use Rattle.row_writing.proofs.start_size.Statement.{statement}
 use Rattle.row_writing.proofs.start_size.Tie as tie
-
-enum-told : tie.Need-enum-told
-enum-told c = search needs
-
-enum-told-2 : tie.Need-enum-told-2
-enum-told-2 c = search needs
-
-enum-told-3 : tie.Need-enum-told-3
-enum-told-3 c = search needs
-
-add-result : tie.Need-add-result
-add-result c = search needs
 
 returns : tie.Need-returns
 unfolding startBytes open-TR
@@ -35,4 +23,4 @@ returns-3 c = rw (c .enum-told3 .given .1) (omega (arith, c .before .before .pre
 
 pub start-size-spec : {M : Type 1} → statement M
 start-size-spec =
-    tie.close (tie.spec enum-told enum-told-2 enum-told-3 add-result returns returns-2 returns-3)
+    tie.close (tie.spec (λ c. search needs) (λ c. search needs) (λ c. search needs) (λ c. search needs) returns returns-2 returns-3)

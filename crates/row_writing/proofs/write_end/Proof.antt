@@ -1,4 +1,4 @@
--- The end of a row that is written, by the kind of rows: as its own writer leaves it, or nothing.
+-- row_writing::write_end: the end of a row that is written, by the kind of rows: as its own writer leaves it, or nothing.
 use mathlib.Core.Path.{ap}
 use lib.ListN.{length}
 use Rattle.table.specs.declared.Rows.{Rows}
@@ -10,23 +10,11 @@ use borrow.Author.Needs.{needs}
 use Rattle.row_writing.proofs.write_end.Statement.{statement}
 use Rattle.row_writing.proofs.write_end.Tie as tie
 
-enum-told : tie.Need-enum-told
-enum-told c = search needs
-
 write-row-end-requires : tie.Need-write-row-end-requires
 unfolding writeEnd close-TR
 write-row-end-requires c κs =
     let a = c .before .before .before .before in
     omega (arith, a .pre, ap (λ (r : Rows). length (writeEnd r)) (c .before .enum-told .given .1))
-
-enum-told-2 : tie.Need-enum-told-2
-enum-told-2 c = search needs
-
-enum-told-3 : tie.Need-enum-told-3
-enum-told-3 c = search needs
-
-same-length : tie.Need-same-length
-same-length c = search needs
 
 returns : tie.Need-returns
 unfolding writeEnd
@@ -45,11 +33,11 @@ pub write-end-spec : {M : Type 1} → statement M
 write-end-spec =
     tie.close
     (tie.spec
-    enum-told
+    (λ c. search needs)
     write-row-end-requires
-    enum-told-2
-    enum-told-3
-    same-length
+    (λ c. search needs)
+    (λ c. search needs)
+    (λ c. search needs)
     returns
     returns-2
     returns-3)

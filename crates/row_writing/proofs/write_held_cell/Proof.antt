@@ -1,4 +1,4 @@
--- A cell that is held is written: by what stands at its place, each way is one law of HeldForm.
+-- row_writing::write_held_cell: a cell that is held is written: by what stands at its place, each way is one law of HeldForm.
 use Prim.Native.Nat.{_+_, _-_, _<_, _≤_, ℕ}
 use mathlib.Core.Bool.{false}
 use mathlib.Core.List.{List, _∷_}
@@ -26,9 +26,6 @@ held-at-requires c κs = inside (c .before)
 add-first : tie.Need-add-first
 add-first c = omega (arith, inside (c .before .before), c .before .before .good)
 
-enum-told : tie.Need-enum-told
-enum-told c = search needs
-
 write-cell-requires : tie.Need-write-cell-requires
 write-cell-requires c κs =
     let a = c .before .before .before .before .before in
@@ -36,9 +33,6 @@ write-cell-requires c κs =
     let h = subst (HeldIs l (a .args .w .at)) (c .before .enum-told .given .1) (c .before .before .before .held-at .ensures) in
     let e = next-null (a .args .column) l (a .args .w .at) (h .0) (h .1) in
     ((a .pre .0 .0, omega arith, omega arith), rw (← form-found (a .args .to) (a .args .column) _ null _ e) (a .pre .1))
-
-enum-known-held : tie.Need-enum-known-held
-enum-known-held c = search needs
 
 -- what stands at the place: a count
 abbrev count : tie.After-known-told → ℕ
@@ -68,9 +62,6 @@ sub-write-cell c = omega (arith, inside (c .before .before .before .before .befo
 part-write-cell-start : tie.Need-part-write-cell-start
 part-write-cell-start c = omega (arith, inside (c .before .before .before .before .before))
 
-part-write-cell-end : tie.Need-part-write-cell-end
-part-write-cell-end c = search needs
-
 write-cell-requires-2 : tie.Need-write-cell-requires-2
 write-cell-requires-2 c κs =
     let k = c .before .before in
@@ -85,18 +76,13 @@ write-cell-requires-2 c κs =
 add-t16 : tie.Need-add-t16
 add-t16 c = omega (arith, behind (c .before .before .before .before .before), c .before .before .before .before .before .before .before .before .before .before .good)
 
-same-length : tie.Need-same-length
-same-length c = search needs
-
 returns : tie.Need-returns
 returns c =
     let a = c .before .before .before .before .before .before .before .before in
     let l = now (a .args .scratch) in
     let h = subst (HeldIs l (a .args .w .at)) (c .before .before .before .before .enum-told .given .1) (c .before .before .before .before .before .before .held-at .ensures) in
-    rewritten heldNext (a .args .to) (a .args .column) false l (a .args .w) _ _ _ _ null (next-null (a .args .column) l (a .args .w .at) (h .0) (h .1)) (omega (arith, inside a)) (c .before .before .write-cell .ensures)
-
-same-length-2 : tie.Need-same-length-2
-same-length-2 c = search needs
+    rewritten heldNext (a .args .to) (a .args .column) false l (a .args .w) _ _ _ _ null (next-null (a .args .column) l (a .args .w .at) (h .0) (h .1)) (omega (arith, inside a))
+    (c .before .before .write-cell .ensures)
 
 returns-2 : tie.Need-returns-2
 returns-2 c =
@@ -104,7 +90,8 @@ returns-2 c =
     let a = k .before .before .before .before .before in
     rewritten heldNext (a .args .to) (a .args .column) false (scratch k) (a .args .w) _ _ _ _ (shown (take (count k) (drop (place k + 1) (scratch k))))
     (next-shown (a .args .column) (scratch k) (place k) (count k) (counted k)) (behind k)
-    (subst (λ (m : List ℤ). Wrote (now (a .args .out)) (a .args .w .to) (cellBytes (a .args .to) (a .args .column) (shown (take (count k) m))) (c .before .before .write-cell2 .last .1 .1 .1 .1 .1 .0) (c .before .before .write-cell2 .result))
+    (subst (λ (m : List ℤ). Wrote (now (a .args .out)) (a .args .w .to) (cellBytes (a .args .to) (a .args .column) (shown (take (count k) m)))
+    (c .before .before .write-cell2 .last .1 .1 .1 .1 .1 .0) (c .before .before .write-cell2 .result))
     (part-all (place k + 1) (scratch k)) (c .before .before .write-cell2 .ensures))
 
 pub write-held-cell-spec : {M : Type 1} → statement M
@@ -113,16 +100,16 @@ write-held-cell-spec =
     (tie.spec
     held-at-requires
     add-first
-    enum-told
+    (λ c. search needs)
     write-cell-requires
-    enum-known-held
+    (λ c. search needs)
     mul-write-cell
     sub-write-cell
     part-write-cell-start
-    part-write-cell-end
+    (λ c. search needs)
     write-cell-requires-2
     add-t16
-    same-length
+    (λ c. search needs)
     returns
-    same-length-2
+    (λ c. search needs)
     returns-2)

@@ -1,4 +1,4 @@
--- A row that is held is written: what begins it, then its cells one behind the other (WriteInv: what is left to write gives the whole), then
+-- row_writing::write_held_row: a row that is held is written: what begins it, then its cells one behind the other (WriteInv: what is left to write gives the whole), then
 -- what ends it.
 use Prim.Native.Nat.{_+_, _-_, _<_, _≤_, suc, ℕ}
 use mathlib.Core.Bool.{Bool, false}
@@ -63,7 +63,8 @@ abbrev cells : tie.After-slice-known2 Inv-loop μ-loop → List ℕ
 cells c = heldForm (begin c .args .to) (begin c .args .t1) (now (begin c .args .scratch))
 
 same-room : (c : tie.After-slice-known2 Inv-loop μ-loop) → length (headed c) ≡ length (now (begin c .args .out))
-same-room c = ap length (c .before .before .write-start .ensures .now-is) ∙ length-sets (now (begin c .args .out)) (begin c .args .at) (startBytes (begin c .args .to) (begin c .args .t1 .count) (begin c .args .nulls))
+same-room c = ap length (c .before .before .write-start .ensures .now-is) ∙ length-sets (now (begin c .args .out)) (begin c .args .at)
+    (startBytes (begin c .args .to) (begin c .args .t1 .count) (begin c .args .nulls))
 
 room-left : (c : tie.After-slice-known2 Inv-loop μ-loop) → first c + (length (cells c) + length (writeEnd (begin c .args .to))) ≤ length (headed c)
 room-left c =
@@ -72,7 +73,8 @@ room-left c =
 
 -- the next cell is within its bounds, and so are those behind it
 bounds : (l : tie.At-loop Inv-loop μ-loop) → l .loop .j < begin (l .before) .args .t1 .count
-    → HeldWithin (getD (begin (l .before) .args .t1 .list) (l .loop .j) noColumn ∷ drop (suc (l .loop .j)) (listed (begin (l .before) .args .t1))) (drop (l .loop .w .at) (now (begin (l .before) .args .scratch)))
+    → HeldWithin (getD (begin (l .before) .args .t1 .list) (l .loop .j) noColumn ∷ drop (suc (l .loop .j)) (listed (begin (l .before) .args .t1)))
+    (drop (l .loop .w .at) (now (begin (l .before) .args .scratch)))
 bounds l t = subst (λ (cs : List Column). HeldWithin cs (drop (l .loop .w .at) (now (begin (l .before) .args .scratch)))) (listed-next (begin (l .before) .args .t1) (l .loop .j) t) (l .loop .inv .1)
 
 write-held-cell-requires : tie.Need-write-held-cell-requires Inv-loop μ-loop
@@ -83,7 +85,8 @@ write-held-cell-requires c κs =
     let t = c .before .before .loop-test .taken in
     let more : l .loop .j < length (listed cols) = omega (arith, listed-length cols, t) in (
       (listed-bound cols (l .loop .j) (a .pre .0 .0) t, bounds l t .0),
-      write-fits heldNext (a .args .to) (listed cols) [] (now (a .args .scratch)) (headed (l .before)) _ (l .loop .out) (l .loop .w) (l .loop .j) (l .loop .inv .0) (getD (cols .list) (l .loop .j) noColumn) more (listed-next cols (l .loop .j) t) false (no-flag (l .loop .j)) (omega (arith, room-left (l .before))),
+      write-fits heldNext (a .args .to) (listed cols) [] (now (a .args .scratch)) (headed (l .before)) _ (l .loop .out) (l .loop .w) (l .loop .j) (l .loop .inv .0)
+          (getD (cols .list) (l .loop .j) noColumn) more (listed-next cols (l .loop .j) t) false (no-flag (l .loop .j)) (omega (arith, room-left (l .before))),
     )
 
 add-j : tie.Need-add-j Inv-loop μ-loop
@@ -109,7 +112,8 @@ loop-again c =
     )
 
 -- the loop's end: every cell is written
-all-written : (c : tie.After-loop Inv-loop μ-loop) → (c .before .loop .out ≡ sets (headed (c .before .before)) (first (c .before .before)) (cells (c .before .before))) × (c .before .loop .w .to ≡ first (c .before .before) + length (cells (c .before .before)))
+all-written : (c : tie.After-loop Inv-loop μ-loop) → (c .before .loop .out ≡ sets (headed (c .before .before)) (first (c .before .before)) (cells (c .before .before))) ×
+    (c .before .loop .w .to ≡ first (c .before .before) + length (cells (c .before .before)))
 all-written c =
     let l = c .before in
     let a = begin (l .before) in

@@ -1,4 +1,4 @@
--- A row is written: what begins it, then its cells one behind the other (WriteInv: what is left to write gives the whole), then what ends it.
+-- row_writing::write_row: a row is written: what begins it, then its cells one behind the other (WriteInv: what is left to write gives the whole), then what ends it.
 use Prim.Native.Nat.{ℕ, _+_, _-_, _≤_, _<_}
 use mathlib.Core.List.{List}
 use mathlib.Core.Path.{_≡_, refl, ap, _∙_}
@@ -35,8 +35,15 @@ few a = omega (arith, a .pre .0 .0 .few, listed-length (a .args .t1))
 
 write-start-requires : tie.Need-write-start-requires Inv-loop μ-loop
 write-start-requires c κs =
-    let a = c .before .before .before in
-    (omega (arith, a .pre .1, row-bytes-length (a .args .to) (a .args .t1 .count) (a .args .nulls) (readForm (a .args .from) (a .args .to) (a .args .t1) (a .args .flags) (drop (a .args .body) (now (a .args .s))))), few a)
+    let a = c .before .before .before in (
+      omega (
+        arith,
+        a .pre .1,
+        row-bytes-length (a .args .to) (a .args .t1 .count) (a .args .nulls)
+            (readForm (a .args .from) (a .args .to) (a .args .t1) (a .args .flags) (drop (a .args .body) (now (a .args .s)))),
+      ),
+      few a,
+    )
 
 loop-holds : tie.Need-loop-holds Inv-loop μ-loop
 loop-holds c =
@@ -63,12 +70,20 @@ abbrev cells : tie.After-slice-known2 Inv-loop μ-loop → List ℕ
 cells c = readForm (begin c .args .from) (begin c .args .to) (begin c .args .t1) (begin c .args .flags) (drop (begin c .args .body) (now (begin c .args .s)))
 
 same-room : (c : tie.After-slice-known2 Inv-loop μ-loop) → length (headed c) ≡ length (now (begin c .args .out))
-same-room c = ap length (c .before .before .write-start .ensures .now-is) ∙ length-sets (now (begin c .args .out)) (begin c .args .at) (startBytes (begin c .args .to) (begin c .args .t1 .count) (begin c .args .nulls))
+same-room c = ap length (c .before .before .write-start .ensures .now-is) ∙ length-sets (now (begin c .args .out)) (begin c .args .at)
+    (startBytes (begin c .args .to) (begin c .args .t1 .count) (begin c .args .nulls))
 
 room-left : (c : tie.After-slice-known2 Inv-loop μ-loop) → first c + (length (cells c) + length (writeEnd (begin c .args .to))) ≤ length (headed c)
 room-left c =
     let a = begin c in
-    omega (arith, same-room c, a .pre .1, c .before .before .write-start .ensures .next-is, row-bytes-length (a .args .to) (a .args .t1 .count) (a .args .nulls) (readForm (a .args .from) (a .args .to) (a .args .t1) (a .args .flags) (drop (a .args .body) (now (a .args .s)))))
+    omega (
+      arith,
+      same-room c,
+      a .pre .1,
+      c .before .before .write-start .ensures .next-is,
+      row-bytes-length (a .args .to) (a .args .t1 .count) (a .args .nulls)
+          (readForm (a .args .from) (a .args .to) (a .args .t1) (a .args .flags) (drop (a .args .body) (now (a .args .s)))),
+    )
 
 rewrite-requires : tie.Need-rewrite-requires Inv-loop μ-loop
 rewrite-requires c κs =
@@ -80,7 +95,8 @@ rewrite-requires c κs =
     let f = c .before .before .flag-of in
     let more : l .loop .j < length (listed cols) = omega (arith, listed-length cols, t) in (
       (l .loop .inv .0 .inside, listed-bound cols (l .loop .j) (a .pre .0 .0) t, omega (arith, l .loop .inv .1, a .pre .0 .2)),
-      write-fits (readCell (a .args .from)) (a .args .to) (listed cols) fs (now (a .args .s)) (headed (l .before)) _ (l .loop .out) (l .loop .w) (l .loop .j) (l .loop .inv .0) (getD (cols .list) (l .loop .j) noColumn) more (listed-next cols (l .loop .j) t) (f .result) (f .ensures) (omega (arith, room-left (l .before))),
+      write-fits (readCell (a .args .from)) (a .args .to) (listed cols) fs (now (a .args .s)) (headed (l .before)) _ (l .loop .out) (l .loop .w) (l .loop .j) (l .loop .inv .0)
+          (getD (cols .list) (l .loop .j) noColumn) more (listed-next cols (l .loop .j) t) (f .result) (f .ensures) (omega (arith, room-left (l .before))),
     )
 
 add-j : tie.Need-add-j Inv-loop μ-loop
@@ -99,13 +115,15 @@ loop-again c =
     let t = c .before .before .before .before .before .before .before .before .loop-test .taken in
     let f = c .before .before .before .before .before .before .flag-of in
     let g = c .before .before .before .rewrite in (
-      write-more (readCell (a .args .from)) (a .args .to) (listed cols) (flagsIn (a .args .from) (cols .count) (a .args .flags)) (now (a .args .s)) (headed (l .before)) _ (l .loop .out) (l .loop .w) (l .loop .j) (l .loop .inv .0)
+      write-more (readCell (a .args .from)) (a .args .to) (listed cols) (flagsIn (a .args .from) (cols .count) (a .args .flags)) (now (a .args .s)) (headed (l .before)) _
+          (l .loop .out) (l .loop .w) (l .loop .j) (l .loop .inv .0)
           (getD (cols .list) (l .loop .j) noColumn) (omega (arith, listed-length cols, t)) (listed-next cols (l .loop .j) t) (f .result) (f .ensures) _ _ (g .ensures .0),
       g .ensures .1 ∙ l .loop .inv .1,
     )
 
 -- the loop's end: every cell is written
-all-written : (c : tie.After-loop Inv-loop μ-loop) → (c .before .loop .out ≡ sets (headed (c .before .before)) (first (c .before .before)) (cells (c .before .before))) × (c .before .loop .w .to ≡ first (c .before .before) + length (cells (c .before .before)))
+all-written : (c : tie.After-loop Inv-loop μ-loop) → (c .before .loop .out ≡ sets (headed (c .before .before)) (first (c .before .before)) (cells (c .before .before))) ×
+    (c .before .loop .w .to ≡ first (c .before .before) + length (cells (c .before .before)))
 all-written c =
     let l = c .before in
     let a = begin (l .before) in

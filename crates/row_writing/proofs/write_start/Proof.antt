@@ -1,4 +1,4 @@
--- The start of a row that is written, by the kind of rows: as its own writer leaves it, or nothing.
+-- row_writing::write_start: the start of a row that is written, by the kind of rows: as its own writer leaves it, or nothing.
 use mathlib.Core.Path.{ap}
 use lib.ListN.{length}
 use Rattle.table.specs.declared.Rows.{Rows}
@@ -12,29 +12,25 @@ use borrow.Author.Needs.{needs}
 use Rattle.row_writing.proofs.write_start.Statement.{statement}
 use Rattle.row_writing.proofs.write_start.Tie as tie
 
-enum-told : tie.Need-enum-told
-enum-told c = search needs
-
 write-row-start-requires : tie.Need-write-row-start-requires
 unfolding startBytes open-TR
 write-row-start-requires c κs =
     let a = c .before .before .before .before in
     omega (arith, a .pre .0, ap (λ (r : Rows). length (startBytes r (a .args .count) (a .args .nulls))) (c .before .enum-told .given .1))
 
-enum-told-2 : tie.Need-enum-told-2
-enum-told-2 c = search needs
-
-enum-told-3 : tie.Need-enum-told-3
-enum-told-3 c = search needs
-
 write-flags-requires : tie.Need-write-flags-requires
 unfolding bitBytes
 write-flags-requires c κs =
-    let a = c .before .before .before .before in
-    (a .pre .1, omega (arith, a .pre .0, ap (λ (r : Rows). length (startBytes r (a .args .count) (a .args .nulls))) (c .before .enum-told3 .given .1), start-length-binary2 (a .args .count) (a .args .nulls)))
-
-same-length : tie.Need-same-length
-same-length c = search needs
+    let a = c .before .before .before .before in (
+      a .pre .1,
+      omega (
+        arith,
+        a .pre .0,
+        ap (λ (r : Rows). length (startBytes r (a .args .count) (a .args .nulls))) (c .before .enum-told3 .given .1),
+        start-length-binary2
+            (a .args .count) (a .args .nulls),
+      ),
+    )
 
 returns : tie.Need-returns
 unfolding startBytes
@@ -45,9 +41,6 @@ returns-2 : tie.Need-returns-2
 unfolding startBytes
 returns-2 c = rw (c .enum-told2 .given .1) (wrote-none _ _)
 
-same-length-2 : tie.Need-same-length-2
-same-length-2 c = search needs
-
 returns-3 : tie.Need-returns-3
 unfolding startBytes
 returns-3 c =
@@ -57,13 +50,13 @@ pub write-start-spec : {M : Type 1} → statement M
 write-start-spec =
     tie.close
     (tie.spec
-    enum-told
+    (λ c. search needs)
     write-row-start-requires
-    enum-told-2
-    enum-told-3
+    (λ c. search needs)
+    (λ c. search needs)
     write-flags-requires
-    same-length
+    (λ c. search needs)
     returns
     returns-2
-    same-length-2
+    (λ c. search needs)
     returns-3)
