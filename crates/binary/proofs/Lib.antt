@@ -1,3 +1,4 @@
 pub mod Laws
 pub mod Loops
 pub mod Digits
+pub mod RowFlags

@@ -127,6 +127,16 @@ countIn (Fixed n) s = good (n, s)
 countIn (Bounded n) s = counted n s
 countIn Free s = counted 4096 s
 
+-- "A BINARY2 row begins with (columns+7)/8 bytes, rounded down, of flags: first column in the highest bit, .. spare bits 0": a bit for each
+-- column, and what follows
+unfoldable pub readFlags : ℕ → List ℕ → Result ℕ (List ℕ × List ℕ)
+readFlags n s = front (bitBytes n) s >>= λ p. unpack n (p .0) >>= λ bits. good (bits, p .1)
+
+-- "1 for null"
+abbrev pub flagBit : Bool → ℕ
+flagBit true = 1
+flagBit false = 0
+
 -- "The flagged cell is still there. Its count is read and checked; its content is skipped unread."
 unfoldable pub shows : Column → Bool → ℕ → List ℕ → Result ℕ Cell
 shows c true n p = good null

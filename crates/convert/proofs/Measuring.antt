@@ -4,7 +4,7 @@
 use Prim.Native.Nat.{_+_, _≤_, suc, ℕ}
 use native.Mathlib.Numerals.{add-one}
 use native.Mathlib.Omega.{arith}
-use mathlib.Core.Bool.{Bool, false, true}
+use mathlib.Core.Bool.{Bool}
 use mathlib.Core.List.{List, [], _++_, _∷_, append-assoc, append-nil}
 use mathlib.Core.Path.{_∙_, _≡_, ap, refl, subst, sym}
 use lib.IntN.{ℤ}
@@ -13,7 +13,7 @@ use Rattle.convert.specs.Contracts.{FormWithin, Grown, GrownBy, HoldsAs,
 use Rattle.convert.specs.declared.Form.{Form}
 use Rattle.convert.specs.declared.Measured.{Measured}
 use Rattle.table.specs.ColumnList.{listed}
-use Rattle.flags.specs.Contracts.{flagBit}
+use Rattle.binary.specs.Binary.{flagBit}
 use Rattle.number.specs.Number.{toDigits}
 use Rattle.row_reading.proofs.Parts.{RowRead, read-end}
 use Rattle.row_reading.specs.Contracts.{flagsIn}
@@ -21,7 +21,7 @@ use Rattle.row_writing.proofs.HeldForm.{FewCells, held-form, held-row-more, hel
 use Rattle.row_writing.proofs.RowForm.{join, nullBits, row-form, start-bytes}
 use Rattle.row_writing.specs.Contracts.{FewIn, HeldReady, HeldWithin, heldCell, heldNext, putForm, rowBytes, rowForm, startBytes}
 use Rattle.row_writing.specs.declared.Holding.{Holding}
-use Rattle.rows.specs.Stream.{bit, writeCell, writeCells, writeEnd, writeRow, writeStart}
+use Rattle.rows.specs.Stream.{writeCell, writeCells, writeEnd, writeRow}
 use Rattle.table.proofs.Laws.{bad-good}
 use Rattle.table.specs.Cell.{Cell, isNull}
 use Rattle.table.specs.Contracts.{sizeAs, sizeOf}
@@ -61,14 +61,9 @@ length-as : (i : ℕ) (x : Result ℕ (List ℕ)) → refusedAs (at i) (sizeOf x
 length-as i (good b) = refl
 length-as i (bad n) = refl
 
-flag-bit : (b : Bool) → flagBit b ≡ bit b
-unfolding bit
-flag-bit true = refl
-flag-bit false = refl
-
 nulls-more : (acc : List Cell) (x : Cell) → nullBits acc ++ (flagBit (isNull x) ∷ []) ≡ nullBits (acc ++ (x ∷ []))
-nulls-more [] x = ap (λ (n : ℕ). n ∷ []) (flag-bit (isNull x))
-nulls-more (y ∷ acc) x = ap (λ (l : List ℕ). bit (isNull y) ∷ l) (nulls-more acc x)
+nulls-more [] x = refl
+nulls-more (y ∷ acc) x = ap (λ (l : List ℕ). flagBit (isNull y) ∷ l) (nulls-more acc x)
 
 few-more : (cs : List Column) (xs : List Cell) (c : Column) (more : List Column) (x : Cell) → FewCells cs xs → drop (length xs) cs ≡ c ∷ more → FewIn c x → FewCells cs (xs ++ (x ∷ []))
 few-more [] [] c more x f e g = absurd (omega (arith, ap length e))

@@ -9,7 +9,7 @@ use lib.ListN.{drop, length, take}
 use Rattle.convert.specs.declared.Form.{Form}
 use Rattle.convert.specs.declared.Measured.{Measured}
 use Rattle.convert.specs.declared.Turn.{Turn}
-use Rattle.flags.specs.Contracts.{flagBit}
+use Rattle.binary.specs.Binary.{flagBit}
 use Rattle.number.specs.Number.{toDigits}
 use Rattle.row_writing.specs.Contracts.{FewIn, heldCell}
 use Rattle.row_writing.specs.declared.Holding.{Holding}

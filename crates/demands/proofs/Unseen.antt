@@ -11,9 +11,8 @@ use lib.ListN.{getD, length, length-append, length-replicate, length-take, repli
 use lib.Seq.{take-at}
 use borrow.Author.Tests.{ltb-false}
 use Rattle.binary.proofs.Laws.{front-back}
-use Rattle.binary.specs.Binary.{atMost, beforeNul, bitBytes, content, contentBytes, countIn, counted, element, front, numbersIn, readBinary2, shows, unpack}
+use Rattle.binary.specs.Binary.{atMost, beforeNul, bitBytes, content, contentBytes, countIn, counted, element, front, numbersIn, readBinary2, readFlags, shows, unpack}
 use Rattle.demands.specs.Places.{cellsShow, contentShows, marksOf, rowShows, showsAt, streamShows, throughNul}
-use Rattle.demands.specs.Tables.{count}
 use Rattle.number.specs.Number.{ofDigits}
 use Rattle.rows.proofs.Laws.{read-step}
 use Rattle.rows.specs.Stream.{Table, atEnd, flag, flagsLeft, isEmpty, isOne, read, readCell, readCells, readEnd, readRow, readStart}
@@ -48,7 +47,7 @@ data CellsAlike : List Column → List Bool → List ℕ → List ℕ → Type 0
 -- two BINARY2 streams that do
 data Alike (cs : List Column) : List ℕ → List ℕ → Type 0 where
   the-same : {s : List ℕ} → Alike cs s s
-  a-row : (flags bits : List ℕ) {p q s t : List ℕ} → length flags ≡ bitBytes (length cs) → unpack (length cs) flags ≡ good bits
+  a-row : (flags bits : List ℕ) {p q s t : List ℕ} → length flags ≡ bitBytes (length cs) → ((u : List ℕ) → readFlags (length cs) (flags ++ u) ≡ good (bits, u))
       → CellsAlike cs (map isOne bits) p q → Alike cs s t → Alike cs (flags ++ (p ++ s)) (flags ++ (q ++ t))
 
 content-seen : (k : Shape) (n : ℕ) (p q : List ℕ) → seen k false p ≡ seen k false q → content k n p ≡ content k n q
@@ -91,11 +90,11 @@ cells-both {fs = fs} (a-cell {c = c} {cs = cs} n count p q {ps = ps} {qs = qs} h
     go (good x) b = again x _ _ b
     go (bad n) b = refuse
 
-row-both : (cs : List Column) (flags bits p q s t : List ℕ) → length flags ≡ bitBytes (length cs) → unpack (length cs) flags ≡ good bits
+row-both : (cs : List Column) (flags bits p q s t : List ℕ) → ((u : List ℕ) → readFlags (length cs) (flags ++ u) ≡ good (bits, u))
     → CellsAlike cs (map isOne bits) p q → Both s t (readRow Binary2 cs (flags ++ (p ++ s))) (readRow Binary2 cs (flags ++ (q ++ t)))
 unfolding readRow readStart readEnd
-row-both cs flags bits p q s t l u a =
-    rw (front-back (bitBytes (length cs)) flags (p ++ s) l, front-back (bitBytes (length cs)) flags (q ++ t) l, u)
+row-both cs flags bits p q s t u a =
+    rw (u (p ++ s), u (q ++ t))
     (go (readCells Binary2 cs (map isOne bits) 0 (p ++ s)) (readCells Binary2 cs (map isOne bits) 0 (q ++ t)) (cells-both a 0 s t))
   where
     go : (a b : Result Refusal (List Cell × List ℕ)) → Both s t a b
@@ -119,7 +118,7 @@ alike cs i the-same = refl
 alike cs i (a-row flags bits {p = p} {q = q} {s = s} {t = t} l u a r) =
     read-step Binary2 cs i (flags ++ (p ++ s))
     ∙ rw (some-flags (length cs) flags (p ++ s) (i .some) l)
-    (then-both s t _ _ (read Binary2 cs) (alike cs i r) (row-both cs flags bits p q s t l u a)
+    (then-both s t _ _ (read Binary2 cs) (alike cs i r) (row-both cs flags bits p q s t u a)
     ∙ sym (read-step Binary2 cs i (flags ++ (q ++ t)) ∙ rw (some-flags (length cs) flags (q ++ t) (i .some) l)))
 
 -- ---- a cell's parts
@@ -265,11 +264,13 @@ one-cell c cs fs s n t p u m rest h g l more ns w a =
     let count : List ℕ = countPart (c .len) s in
     let e : s ≡ count ++ (p ++ u) = h .0 ∙ ap (λ (x : List ℕ). count ++ x) g in
     let marks : List Bool = replicate (length s - length t) true in
+    let inside : List Bool = contentShows k (flag fs) p in
     let long : length marks ≡ length count = part-length count s t (h .0) in
-    let a′ : Agree (marks ++ (contentShows k (flag fs) p ++ (m ++ ns))) (count ++ (p ++ u)) w
-    = subst₂ (λ (x : List Bool) (y : List ℕ). Agree x y w) (append-assoc marks (contentShows k (flag fs) p ++ m) ns ∙ ap (λ (x : List Bool). marks ++ x) (append-assoc (contentShows k (flag fs) p) m ns)) e a in
-    let first : Cut marks (contentShows k (flag fs) p ++ (m ++ ns)) count (p ++ u) w = cut marks (contentShows k (flag fs) p ++ (m ++ ns)) count (p ++ u) w long a′ in
-    let second : Cut (contentShows k (flag fs) p) (m ++ ns) p u (first .left) = cut (contentShows k (flag fs) p) (m ++ ns) p u (first .left) (length-content k (flag fs) p) (first .rest) in
+    let a′ : Agree (marks ++ (inside ++ (m ++ ns))) (count ++ (p ++ u)) w
+    = subst₂ (λ (x : List Bool) (y : List ℕ). Agree x y w)
+    (append-assoc marks (inside ++ m) ns ∙ ap (λ (x : List Bool). marks ++ x) (append-assoc inside m ns)) e a in
+    let first : Cut marks (inside ++ (m ++ ns)) count (p ++ u) w = cut marks (inside ++ (m ++ ns)) count (p ++ u) w long a′ in
+    let second : Cut inside (m ++ ns) p u (first .left) = cut inside (m ++ ns) p u (first .left) (length-content k (flag fs) p) (first .rest) in
     let third : CellsAgree cs (flagsLeft fs) u (second .left) rest ns = more ns (second .left) (second .rest) in
     let same-count : first .other ≡ count
     = all-seen count (first .other) (subst (λ (x : ℕ). Agree (replicate x true) count (first .other)) (sym (length-replicate (length s - length t) true) ∙ long) (first .here)) in
@@ -281,7 +282,8 @@ one-cell c cs fs s n t p u m rest h g l more ns w a =
       splits′ =
           first .splits ∙ ap₂ _++_ same-count (second .splits ∙ ap (λ (x : List ℕ). second .other ++ x) (third .splits′) ∙ sym (append-assoc (second .other) (third .others) (third .left)))
           ∙ sym (append-assoc count (second .other ++ third .others) (third .left));
-      alike-cells = a-cell n count p (second .other) (h .1) l (agree-length (contentShows k (flag fs) p) p (second .other) (second .here) ∙ l) (content-agree k (flag fs) p (second .other) (second .here)) (third .alike-cells);
+      alike-cells = a-cell n count p (second .other) (h .1) l
+          (agree-length inside p (second .other) (second .here) ∙ l) (content-agree k (flag fs) p (second .other) (second .here)) (third .alike-cells);
       behind = third .behind;
     }
 
@@ -295,49 +297,37 @@ cells-agree (c ∷ cs) fs s =
     holds-bind (cells-agree cs (flagsLeft fs) (p .1)) (λ m more.
     holds (one-cell c cs fs s (n .0) (n .1) (p .0) (p .1) (m .0) (m .1) h (g .0) (g .1) more))))
 
-record RowAgree (cs : List Column) (s t rest : List ℕ) (ns : List Bool) : Type 0 where
-  flags : List ℕ
-  bits : List ℕ
-  cells : List ℕ
-  others : List ℕ
-  left : List ℕ
-  splits : s ≡ flags ++ (cells ++ rest)
-  splits′ : t ≡ flags ++ (others ++ left)
-  long : length flags ≡ bitBytes (length cs)
-  says : unpack (length cs) flags ≡ good bits
-  alike-cells : CellsAlike cs (map isOne bits) cells others
-  behind : Agree ns rest left
+flags-split : (n : ℕ) (s : List ℕ)
+    → Holds (λ (p : List ℕ × List ℕ). (flags : List ℕ) × (s ≡ flags ++ p .1) × (length flags ≡ bitBytes n) × ((u : List ℕ) → readFlags n (flags ++ u) ≡ good (p .0, u))) (readFlags n s)
+unfolding readFlags
+flags-split n s =
+    holds-bind (front-splits (bitBytes n) s) (λ f h.
+    holds-bind (holds-eq (unpack n (f .0))) (λ bits e. holds (f .0, h .0, h .1, λ u. rw (front-back (bitBytes n) (f .0) u (h .1), e))))
 
-one-row : (cs : List Column) (s flags t bits : List ℕ) (m : List Bool) (rest : List ℕ) → s ≡ flags ++ t → length flags ≡ bitBytes (length cs) → unpack (length cs) flags ≡ good bits
-    → ((ns : List Bool) (w : List ℕ) → Agree (m ++ ns) t w → CellsAgree cs (map isOne bits) t w rest ns)
-    → (ns : List Bool) (w : List ℕ) → Agree ((replicate (length flags) true ++ m) ++ ns) s w → RowAgree cs s w rest ns
-one-row cs s flags t bits m rest e l u more ns w a =
+-- a row's marks, and those of what follows it
+abbrev RowAgrees : List Column → List ℕ → List Bool × List ℕ → Type 0
+RowAgrees cs s m =
+    (ns : List Bool) (t : List ℕ) → ((left : List ℕ) → Agree ns (m .1) left → Alike cs (m .1) left) → Agree (m .0 ++ ns) s t → Alike cs s t
+
+one-row : (cs : List Column) (s flags bits t : List ℕ) (m : List Bool × List ℕ) → s ≡ flags ++ t → length flags ≡ bitBytes (length cs)
+    → ((u : List ℕ) → readFlags (length cs) (flags ++ u) ≡ good (bits, u))
+    → ((ns : List Bool) (w : List ℕ) → Agree (m .0 ++ ns) t w → CellsAgree cs (map isOne bits) t w (m .1) ns)
+    → RowAgrees cs s (replicate (bitBytes (length cs)) true ++ m .0, m .1)
+one-row cs s flags bits t m e l u more ns w behind a =
     let marks : List Bool = replicate (length flags) true in
-    let a′ : Agree (marks ++ (m ++ ns)) (flags ++ t) w = subst₂ (λ (x : List Bool) (y : List ℕ). Agree x y w) (append-assoc marks m ns) e a in
-    let first : Cut marks (m ++ ns) flags t w = cut marks (m ++ ns) flags t w (length-replicate (length flags) true) a′ in
-    let second : CellsAgree cs (map isOne bits) t (first .left) rest ns = more ns (first .left) (first .rest) in
-    record {
-      flags = flags;
-      bits = bits;
-      cells = second .cells;
-      others = second .others;
-      left = second .left;
-      splits = e ∙ ap (λ (x : List ℕ). flags ++ x) (second .splits);
-      splits′ = first .splits ∙ ap₂ _++_ (all-seen flags (first .other) (first .here)) (second .splits′);
-      long = l;
-      says = u;
-      alike-cells = second .alike-cells;
-      behind = second .behind;
-    }
+    let a′ : Agree (marks ++ (m .0 ++ ns)) (flags ++ t) w
+    = subst₂ (λ (x : List Bool) (y : List ℕ). Agree x y w) (append-assoc (replicate (bitBytes (length cs)) true) (m .0) ns ∙ ap (λ (k : ℕ). replicate k true ++ (m .0 ++ ns)) (sym l)) e a in
+    let first : Cut marks (m .0 ++ ns) flags t w = cut marks (m .0 ++ ns) flags t w (length-replicate (length flags) true) a′ in
+    let second : CellsAgree cs (map isOne bits) t (first .left) (m .1) ns = more ns (first .left) (first .rest) in
+    subst₂ (λ (x y : List ℕ). Alike cs x y) (sym (e ∙ ap (λ (x : List ℕ). flags ++ x) (second .splits)))
+    (sym (first .splits ∙ ap₂ _++_ (all-seen flags (first .other) (first .here)) (second .splits′)))
+    (a-row flags bits l u (second .alike-cells) (behind (second .left) (second .behind)))
 
-row-agree : (cs : List Column) (s : List ℕ)
-    → Holds (λ (m : List Bool × List ℕ). (ns : List Bool) (w : List ℕ) → Agree (m .0 ++ ns) s w → RowAgree cs s w (m .1) ns) (rowShows cs s)
+row-agree : (cs : List Column) (s : List ℕ) → Holds (RowAgrees cs s) (rowShows cs s)
 unfolding rowShows
 row-agree cs s =
-    holds-bind (front-splits (bitBytes (length cs)) s) (λ f h.
-    holds-bind (holds-eq (unpack (length cs) (f .0))) (λ bits u.
-    holds-bind (cells-agree cs (map isOne bits) (f .1)) (λ m more.
-    holds (one-row cs s (f .0) (f .1) bits (m .0) (m .1) (h .0) (h .1) u more))))
+    holds-bind (flags-split (length cs) s) (λ f h.
+    holds-bind (cells-agree cs (map isOne (f .0)) (f .1)) (λ m more. holds (one-row cs s (h .0) (f .0) (f .1) m (h .1) (h .2) (h .3) more)))
 
 same-alike : (cs : List Column) (s t : List ℕ) → t ≡ s → Alike cs s t
 same-alike cs s t e = subst (Alike cs s) (sym e) the-same
@@ -350,13 +340,11 @@ unfolding sequenceF marksOf
 rows-agree zero cs s t a = same-alike cs s t a
 rows-agree (suc f) cs s t a = go (isEmpty s) (rowShows cs s) (row-agree cs s) (rows-agree f cs) a
   where
-    go : (b : Bool) (r : Result ℕ (List Bool × List ℕ)) → Holds (λ (m : List Bool × List ℕ). (ns : List Bool) (w : List ℕ) → Agree (m .0 ++ ns) s w → RowAgree cs s w (m .1) ns) r
+    go : (b : Bool) (r : Result ℕ (List Bool × List ℕ)) → Holds (RowAgrees cs s) r
         → ((s t : List ℕ) → Agree (marksOf (rowsShow f cs s)) s t → Alike cs s t) → Agree (marksOf (cond b finished (rowThen (refusedAs (at 0) r) (rowsShow f cs)))) s t → Alike cs s t
-    go true r h ih a = same-alike cs s t a
-    go false r refuses ih a = unfold rowThen marksOf in same-alike cs s t a
-    go false r (holds {a = m} h) ih a = unfold rowThen marksOf in
-        let x : RowAgree cs s t (m .1) (marksOf (rowsShow f cs (m .1))) = h (marksOf (rowsShow f cs (m .1))) t a in
-        subst₂ (λ (y z : List ℕ). Alike cs y z) (sym (x .splits)) (sym (x .splits′)) (a-row (x .flags) (x .bits) (x .long) (x .says) (x .alike-cells) (ih (m .1) (x .left) (x .behind)))
+    go true r h more a = same-alike cs s t a
+    go false r refuses more a = unfold rowThen marksOf in same-alike cs s t a
+    go false r (holds {a = m} h) more a = unfold rowThen marksOf in h (marksOf (rowsShow f cs (m .1))) t (more (m .1)) a
 
 -- two BINARY2 streams that agree at every place that shows something say the same
 pub unseen : (cs : List Column) (s t : List ℕ) → AreColumns cs → length t ≡ length s

@@ -5,7 +5,7 @@ use mathlib.Core.Bool.{Bool, cond, false, true}
 use mathlib.Core.List.{List, [], _++_, _∷_, map}
 use lib.Dec.{eqb}
 use lib.ListN.{getD, length, replicate}
-use Rattle.binary.specs.Binary.{bitBytes, contentBytes, countIn, front, unpack}
+use Rattle.binary.specs.Binary.{bitBytes, contentBytes, countIn, front, readFlags}
 use Rattle.rows.specs.Sequence.{Sequence, finished, row, sequence, stopped}
 use Rattle.rows.specs.Stream.{flag, flagsLeft, isEmpty, isOne}
 use Rattle.table.specs.Outcome.{at}
@@ -38,10 +38,9 @@ cellsShow (c ∷ cs) fs s = do
 -- a row: its flags show
 unfoldable pub rowShows : List Column → List ℕ → Result ℕ (List Bool × List ℕ)
 rowShows cs s = do
-  (p, t) ← front (bitBytes (length cs)) s
-  bits ← unpack (length cs) p
+  (bits, t) ← readFlags (length cs) s
   (marks, rest) ← cellsShow cs (map isOne bits) t
-  good (replicate (length p) true ++ marks, rest)
+  good (replicate (bitBytes (length cs)) true ++ marks, rest)
 
 -- row after row, up to the first that cannot be told apart
 unfoldable pub streamShows : List Column → List ℕ → Sequence (List Bool)

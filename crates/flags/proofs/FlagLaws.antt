@@ -2,8 +2,7 @@
 use Prim.Native.Nat.{_%_, _*_, _+_, _-_, _/_, _<_, _^_, _≤_, suc, zero, ℕ}
 use Rattle.binary.proofs.Digits.{digits-split, unit-is, zero-digits}
 use Rattle.binary.proofs.Laws.{length-pack}
-use Rattle.binary.specs.Binary.{bitBytes, bitsOf, front, pack, packed, unpack}
-use Rattle.flags.specs.Contracts.{readFlags}
+use Rattle.binary.specs.Binary.{bitBytes, bitsOf, front, pack, packed, readFlags, unpack}
 use Rattle.number.proofs.Laws.{digits-last, digits-low, length-to, of-from, of-lt, of-to-from, pow-pos}
 use Rattle.number.specs.Number.{ofDigits, toDigits}
 use Rattle.table.proofs.Laws.{all-drop, all-take}

@@ -1,18 +1,12 @@
 -- The flags of a BINARY2 row as the contracts of the code speak of them.
 use Prim.Native.Nat.{_<_, _^_, _≤_, ℕ}
-use mathlib.Core.Bool.{Bool, false, true}
 use mathlib.Core.List.{List}
 use mathlib.Core.Path.{_≡_}
 use lib.ListN.{drop, length}
-use Rattle.binary.specs.Binary.{bitBytes, front, unpack}
 use Rattle.flags.specs.declared.Flags.{Flags}
 use Rattle.flags.specs.declared.Flags.the-variants.{Are, Spoiled}
 use Rattle.number.specs.Number.{toDigits}
-use Rattle.table.specs.Result.{Result, _>>=_, bad, good}
-
--- "(columns+7)/8 bytes, rounded down, of flags: first column in the highest bit, .. spare bits 0": a bit for each column, and what follows
-unfoldable pub readFlags : ℕ → List ℕ → Result ℕ (List ℕ × List ℕ)
-readFlags n s = front (bitBytes n) s >>= λ p. unpack n (p .0) >>= λ bits. good (bits, p .1)
+use Rattle.table.specs.Result.{Result, bad, good}
 
 -- the flags of n columns as one number: its n digits in base 2
 abbrev pub flagsAs : ℕ → List ℕ → Flags → Result ℕ (List ℕ × List ℕ)
@@ -26,8 +20,3 @@ FlagsWithin n s place (Spoiled k) = Unit {0}
 pub record ReadsFlags (definition : Result ℕ (List ℕ × List ℕ)) (s : List ℕ) (place columns : ℕ) (r : Flags) : Type 0 where
   pub found : definition ≡ flagsAs columns s r
   pub within : FlagsWithin columns s place r
-
--- "1 for null"
-abbrev pub flagBit : Bool → ℕ
-flagBit true = 1
-flagBit false = 0

@@ -7,8 +7,8 @@ ghost use lib.Dec.{eqb};
 ghost use lib.ListN.{drop, getD, length, take};
 ghost use Rattle.number.specs.Number.{ofDigits, toDigits};
 ghost use Rattle.table.specs.Wrote.{Wrote};
-ghost use Rattle.binary.specs.Binary.{bitBytes, pack};
-ghost use Rattle.flags.specs.Contracts.{ReadsFlags, flagBit, readFlags};
+ghost use Rattle.binary.specs.Binary.{bitBytes, flagBit, pack, readFlags};
+ghost use Rattle.flags.specs.Contracts.{ReadsFlags};
 
 // ---- "A BINARY2 row begins with (columns+7)/8 bytes, rounded down, of flags"
 

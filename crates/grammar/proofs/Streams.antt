@@ -7,7 +7,7 @@ use mathlib.Core.Path.{_∙_, _≡_, ap, refl, subst, subst⁻¹, sym}
 use lib.Dec.{lit≤}
 use lib.ListN.{length}
 use Rattle.binary.proofs.Laws.{front-back}
-use Rattle.binary.specs.Binary.{bitBytes}
+use Rattle.binary.specs.Binary.{bitBytes, readFlags}
 use Rattle.grammar.proofs.BinariesRead.{binary-is, binary-read, binary2-is, binary2-read, bits-in-all, bits-in-bytes, bits-in-is, bits-in-long, bits-in-read, front-part, joined, parts-bytes}
 use Rattle.grammar.proofs.Fronts.{Front, skip-all, skip-is, skip-stays, skip-white, tag-is, tag-read}
 use Rattle.grammar.proofs.TextRead.{Indented, cell-is, cell-read}
@@ -205,19 +205,23 @@ flagged-are (c ∷ cs) (suc zero ∷ flags) k s l f a =
 flagged-are (c ∷ cs) (suc (suc n) ∷ flags) k s l f a = absurd (omega (arith, f .0))
 
 binary2-row-read : (cs : List Column) (b : List ℕ) (xs : List Cell) → Binary2Row cs b xs → (rest : List ℕ) → readRow Binary2 cs (b ++ rest) ≡ good (xs, rest)
-unfolding readRow readStart readEnd bitBytes
+unfolding readRow readStart readEnd readFlags bitBytes
 binary2-row-read cs t xs (binary2-row {a = a} {b = b} h r) rest =
     rw (append-assoc a b rest, front-back ((length cs + 7) / 8) a (b ++ rest) (bits-in-bytes h), bits-in-read h, flagged-read r 0 rest)
+
+flags-in : (n : ℕ) (s : List ℕ) → AreBytes s → Holds (λ (p : List ℕ × List ℕ). (a : List ℕ) × BitsIn n a (p .0) × (s ≡ a ++ p .1)) (readFlags n s)
+unfolding readFlags bitBytes
+flags-in n s a =
+    holds-bind (front-part ((n + 7) / 8) s) (λ p h.
+    holds-bind (bits-in-is n (p .0) (h .0) (parts-bytes s (p .0) (p .1) (h .1) a .0)) (λ flags g. holds (p .0, g, h .1)))
 
 -- flags, and what follows them
 abbrev Flags : ℕ → List ℕ → List Bool × List ℕ → Type 0
 Flags n s p = (a : List ℕ) × (flags : List ℕ) × BitsIn n a flags × (p .0 ≡ map isOne flags) × (s ≡ a ++ p .1)
 
 binary2-start-is : (n : ℕ) (s : List ℕ) → AreBytes s → Holds (Flags n s) (readStart Binary2 n s)
-unfolding readStart bitBytes
-binary2-start-is n s a =
-    holds-bind (front-part ((n + 7) / 8) s) (λ p h.
-    holds-bind (bits-in-is n (p .0) (h .0) (parts-bytes s (p .0) (p .1) (h .1) a .0)) (λ flags g. holds (p .0, flags, g, refl, h .1)))
+unfolding readStart
+binary2-start-is n s a = holds-bind (flags-in n s a) (λ p h. holds (h .0, p .0, h .1, refl, h .2))
 
 binary2-row-is : (cs : List Column) (s : List ℕ) → AreBytes s → Holds (Front (Binary2Row cs) s) (readRow Binary2 cs s)
 unfolding readRow readEnd

@@ -2,7 +2,7 @@
 use Prim.Native.Nat.{_*_, _+_, _-_, _<_, _^_, _≤_, suc, zero, ℕ}
 use native.Mathlib.Nat.{pow-le-pow-right}
 use native.Mathlib.Omega.{arith}
-use mathlib.Core.Bool.{Bool, false, true}
+use mathlib.Core.Bool.{true}
 use mathlib.Core.List.{List, [], _∷_, map}
 use mathlib.Core.Option.{Option, none, some}
 use mathlib.Core.Path.{_≡_, refl}
@@ -10,13 +10,14 @@ use lib.Dec.{lit<}
 use lib.IntN.{ℤ}
 use lib.ListN.{drop, length, length-take, replicate, take}
 use Rattle.binary.proofs.Laws.{numbers-are}
+use Rattle.binary.proofs.RowFlags.{flags-small}
 use Rattle.binary.specs.Binary.{bitBytes, bytesOf, canBeEmpty, contentBytes, countBytes, elementsBytes, groups, nullForm, number, pack, packed, writeBinary, writeBinary2, zeros}
 use Rattle.demands.specs.Tables.{lines}
 use Rattle.number.proofs.Laws.{all-to, of-lt, pattern-lt}
 use Rattle.number.specs.Number.{ofDigits, toDigits}
 use Rattle.rows.proofs.Sequences.{AllRows}
 use Rattle.rows.proofs.Laws.{FitsAll}
-use Rattle.rows.specs.Stream.{Table, bit, writeCell, writeCells, writeEnd, writeRow, writeStart}
+use Rattle.rows.specs.Stream.{Table, writeCell, writeCells, writeEnd, writeRow, writeStart}
 use Rattle.rows.specs.Sequence.{finished, row, stopped}
 use Rattle.table.proofs.Laws.{all-append, all-drop, all-replicate, all-take, holds-as, holds-bind, holds-cond}
 use Rattle.table.specs.All.{All, AreBytes}
@@ -117,16 +118,10 @@ cells-bytes b (c ∷ cs) [] k i f = holds tt
 cells-bytes b (c ∷ cs) (x ∷ xs) k i f =
     holds-bind (holds-as (at k) (cell-bytes b c x (i .0) (f .0))) (λ p h. holds-bind (cells-bytes b cs xs (k + 1) (i .1) (f .1)) (λ q g. holds (all-append IsByte p q h g)))
 
-flag-bits : (bs : List Bool) → All (λ (b : ℕ). b < 2) (map bit bs)
-unfolding bit
-flag-bits [] = tt
-flag-bits (true ∷ bs) = (lit< tt, flag-bits bs)
-flag-bits (false ∷ bs) = (lit< tt, flag-bits bs)
-
 start-bytes : {to : Rows} → IsBinary to → (xs : List Cell) → AreBytes (writeStart to xs)
 unfolding writeStart
 start-bytes the-binary xs = tt
-start-bytes the-binary2 xs = pack-bytes _ (flag-bits (map isNull xs))
+start-bytes the-binary2 xs = pack-bytes _ (flags-small (map isNull xs))
 
 end-bytes : {to : Rows} → IsBinary to → AreBytes (writeEnd to)
 unfolding writeEnd
@@ -138,5 +133,6 @@ unfolding lines writeRow
 lines-bytes b cs i finished f = holds tt
 lines-bytes b cs i (stopped e) f = holds tt
 lines-bytes {to} b cs i (row xs t) f =
-    holds-bind (holds-bind (cells-bytes b cs xs 0 (i .each) (f .0)) (λ p h. holds (all-append IsByte (writeStart to xs) _ (start-bytes b xs) (all-append IsByte p (writeEnd to) h (end-bytes b))))) (λ q h.
+    holds-bind (holds-bind (cells-bytes b cs xs 0 (i .each) (f .0)) (λ p h.
+    holds (all-append IsByte (writeStart to xs) _ (start-bytes b xs) (all-append IsByte p (writeEnd to) h (end-bytes b))))) (λ q h.
     holds-bind (lines-bytes b cs i t (f .1)) (λ r g. holds (all-append IsByte q r h g)))

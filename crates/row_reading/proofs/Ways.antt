@@ -4,12 +4,12 @@ use native.Mathlib.Nat.{le-refl}
 use native.Mathlib.Omega.{arith}
 use mathlib.Core.Bool.{Bool, false, true}
 use mathlib.Core.List.{List, [], _∷_, map}
-use mathlib.Core.Path.{_∙_, _≡_, ap, refl, subst, sym}
+use mathlib.Core.Path.{_∙_, _≡_, ap, refl, subst}
 use lib.Dec.{eqb, lit<}
 use lib.ListN.{drop, getD, length}
 use borrow.Author.Tests.{eq-eqb, eqb-false, eqb-true, ne-eqb}
-use Rattle.binary.specs.Binary.{bitBytes, front, unpack}
-use Rattle.flags.specs.Contracts.{FlagsWithin, ReadsFlags, flagsAs, readFlags}
+use Rattle.binary.specs.Binary.{readFlags}
+use Rattle.flags.specs.Contracts.{FlagsWithin, ReadsFlags, flagsAs}
 use Rattle.flags.specs.declared.Flags.{Flags}
 use Rattle.number.proofs.Laws.{all-to, length-to}
 use Rattle.number.specs.Number.{toDigits}
@@ -19,7 +19,7 @@ use Rattle.row_reading.specs.declared.Begin.{Begin}
 use Rattle.row_reading.specs.declared.Close.{Close}
 use Rattle.table.specs.All.{All}
 use Rattle.table.specs.Bytes.{skipWhite, tag}
-use Rattle.table.specs.Result.{Result, _>>=_, bad, good}
+use Rattle.table.specs.Result.{Result, _>>=_, good}
 use Rattle.table.specs.declared.Rows.{Rows}
 use Rattle.table.specs.declared.Rows.the-variants.{Binary, Binary2, TableData}
 use Rattle.tabledata_reading.specs.Tags.{TagIs, TagWithin, tagAs}
@@ -98,24 +98,13 @@ no-flag (suc k) = refl
 abbrev asFlags : Result ℕ (List ℕ × List ℕ) → Result ℕ (List Bool × List ℕ)
 asFlags r = r >>= λ p. good (map isOne (p .0), p .1)
 
-start-flags : (count : ℕ) (s : List ℕ) → readStart Binary2 count s ≡ asFlags (readFlags count s)
-unfolding readStart readFlags
-start-flags count s = go (front (bitBytes count) s)
-  where
-    bits : (t : List ℕ) (b : Result ℕ (List ℕ)) → (b >>= λ bits. good (map isOne bits, t)) ≡ asFlags (b >>= λ bits. good (bits, t))
-    bits t (good b) = refl
-    bits t (bad n) = refl
-
-    go : (f : Result ℕ (List ℕ × List ℕ)) → (f >>= λ p. unpack count (p .0) >>= λ bits. good (map isOne bits, p .1)) ≡ asFlags (f >>= λ p. unpack count (p .0) >>= λ bits. good (bits, p .1))
-    go (good p) = bits (p .1) (unpack count (p .0))
-    go (bad n) = refl
-
 module _ (s : List ℕ) (place count : ℕ) (r : Flags) (h : ReadsFlags (readFlags count (drop place s)) s place count r) where
   pub begun-binary2 : (word next : ℕ) → r ≡ Flags.Are word next → Begins Binary2 count s place (Begin.Row word next)
-  unfolding flagsIn
+  unfolding flagsIn readStart
   begun-binary2 word next e =
       let w : (place ≤ next) × (next ≤ length s) × (word < 2 ^ count) = subst (FlagsWithin count s place) e (h .within) in
-      record { begun = start-flags count (drop place s) ∙ ap asFlags (h .found ∙ ap (flagsAs count s) e); within = (w .0, w .1) }
+      record { begun = ap asFlags (h .found ∙ ap (flagsAs count s) e); within = (w .0, w .1) }
 
   pub unbegun-binary2 : (n : ℕ) → r ≡ Flags.Spoiled n → Begins Binary2 count s place (Begin.Refused n)
-  unbegun-binary2 n e = record { begun = start-flags count (drop place s) ∙ ap asFlags (h .found ∙ ap (flagsAs count s) e); within = tt }
+  unfolding readStart
+  unbegun-binary2 n e = record { begun = ap asFlags (h .found ∙ ap (flagsAs count s) e); within = tt }

@@ -9,13 +9,13 @@ use mathlib.Core.List.{List, [], _++_, _∷_, map}
 use mathlib.Core.Path.{_∙_, _≡_, ap, ap₂, refl, sym}
 use lib.ListN.{drop, drop-of-length-le, length, length-append}
 use lib.Seq.{length-sets, sets}
-use Rattle.binary.specs.Binary.{pack}
+use Rattle.binary.specs.Binary.{flagBit, pack}
 use Rattle.table.proofs.Wrote.{sets-append, wrote-then}
 use Rattle.number.specs.Number.{toDigits}
 use Rattle.row_reading.proofs.Parts.{cellThen, flags-next, push}
 use Rattle.row_writing.specs.Contracts.{Rewritten, cellBytes, cellForm, restOf, rowBytes, rowForm, startBytes}
 use Rattle.row_writing.specs.declared.Writing.{Writing}
-use Rattle.rows.specs.Stream.{bit, flag, flagsLeft, readCell, readCells, writeCell, writeCells, writeEnd, writeStart}
+use Rattle.rows.specs.Stream.{flag, flagsLeft, readCell, readCells, writeCell, writeCells, writeEnd, writeStart}
 use Rattle.table.proofs.Laws.{bad-good}
 use Rattle.table.specs.Cell.{Cell, isNull}
 use Rattle.table.specs.Contracts.{formBytes}
@@ -157,7 +157,7 @@ module _ {A : Type 0} (take-next : Column → Bool → List A → Result ℕ (Ce
 
 -- the flags of cells: 1 for null
 abbrev pub nullBits : List Cell → List ℕ
-nullBits xs = map bit (map isNull xs)
+nullBits xs = map flagBit (map isNull xs)
 
 -- ---- the word of the null cells
 

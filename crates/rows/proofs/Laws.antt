@@ -1,27 +1,28 @@
 -- Laws of rows and streams. A row that is written is read back as the cells it was written from. Each row takes at least a byte, so a
 -- stream is its first row and what the rest says: the bound on rows never ends it. What is read fits its columns.
-use Prim.Native.Nat.{_+_, _<_, _≤_, suc, zero, zero-le, ℕ}
+use Prim.Native.Nat.{_+_, _<_, _≤_, zero-le, ℕ}
 use native.Mathlib.Nat.{le-refl, not-suc-le-zero}
 use native.Mathlib.Omega.{arith}
 use mathlib.Core.Bool.{Bool, cond, false, true}
 use mathlib.Core.List.{List, [], _++_, _∷_, append-assoc, map}
 use mathlib.Core.Option.{Option·none-ne-some, none, some}
 use mathlib.Core.Path.{_∙_, _≡_, ap, refl, subst, sym}
-use lib.Dec.{lit<, lit≤}
+use lib.Dec.{lit≤}
 use lib.IntN.{pos, ℤ}
 use lib.ListN.{length, length-map}
-use Rattle.binary.proofs.Laws.{binary-cell-back, binary-fails, binary-less, binary2-cell-back, binary2-fails, binary2-fits, front-back, front-fails, front-is, front-less, length-pack, unpack-fails, unpack-pack, write-binary-fails}
-use Rattle.binary.specs.Binary.{bitBytes, content, contentBytes, countIn, front, pack, readBinary, readBinary2, shows, unpack}
+use Rattle.binary.proofs.Laws.{binary-cell-back, binary-fails, binary-less, binary2-cell-back, binary2-fails, binary2-fits, write-binary-fails}
+use Rattle.binary.proofs.RowFlags.{flags-are, flags-back, flags-fails, flags-le}
+use Rattle.binary.specs.Binary.{content, contentBytes, countIn, flagBit, front, readBinary, readBinary2, shows}
 use Rattle.rows.proofs.Sequences.{AllRows, Stops, sequence-all, sequence-fuel, sequence-step, sequence-stops}
 use Rattle.rows.specs.Bounds.{Bounded, Within}
 use Rattle.rows.specs.Sequence.{finished, row, rowThen, sequence, sequenceF}
-use Rattle.rows.specs.Stream.{atEnd, bit, flag, flagsLeft, isEmpty, isOne, read, readCell, readCells, readEnd, readRow, readStart, writeCell, writeCells, writeEnd, writeRow, writeStart}
-use Rattle.table.proofs.Laws.{Numbered, all-weaken, bad-good, cond-cases, each-length, empty-fits, fails-as, fails-bind, fails-weaken, holds-any, holds-as, holds-at, holds-bind, holds-weaken, skip-le, tag-fails, tag-le}
+use Rattle.rows.specs.Stream.{atEnd, flag, flagsLeft, isEmpty, isOne, read, readCell, readCells, readEnd, readRow, readStart, writeCell, writeCells, writeEnd, writeRow, writeStart}
+use Rattle.table.proofs.Laws.{Numbered, all-weaken, bad-good, each-length, empty-fits, fails-as, fails-bind, fails-weaken, holds-any, holds-as, holds-at, holds-bind, holds-weaken, skip-le, tag-fails, tag-le}
 use Rattle.table.specs.All.{All, AreBytes}
 use Rattle.table.specs.Bytes.{after, ends, isWhite, skipWhite, tag}
 use Rattle.table.specs.Cell.{AreColumns, Cell, Each, Fits, IsColumn, below, isElement, isNull, isScalar, nullElement, nullOfKind, show}
 use Rattle.table.specs.Outcome.{Refusal, at}
-use Rattle.table.specs.Result.{Fails, Holds, Result, _>>=_, bad, fails, gives, good, holds, refuses}
+use Rattle.table.specs.Result.{Fails, Holds, Result, _>>=_, bad, gives, good, holds, refuses}
 use Rattle.table.specs.Shape.{Bits, Shape, Text, Truths, Whole, shape}
 use Rattle.table.specs.declared.Column.{Column}
 use Rattle.table.specs.declared.Null.the-variants.{Undeclared}
@@ -130,14 +131,9 @@ flags-left TableData x xs = refl
 flags-left Binary x xs = refl
 flags-left Binary2 x xs = refl
 
-bits-small : (bs : List Bool) → All (λ (b : ℕ). b < 2) (map bit bs)
-unfolding bit
-bits-small [] = tt
-bits-small (true ∷ bs) = (lit< tt, bits-small bs)
-bits-small (false ∷ bs) = (lit< tt, bits-small bs)
-
-one-bit : (bs : List Bool) → map isOne (map bit bs) ≡ bs
-unfolding bit isOne
+-- "1 for null"
+one-bit : (bs : List Bool) → map isOne (map flagBit bs) ≡ bs
+unfolding isOne
 one-bit [] = refl
 one-bit (true ∷ bs) = ap (λ (t : List Bool). true ∷ t) (one-bit bs)
 one-bit (false ∷ bs) = ap (λ (t : List Bool). false ∷ t) (one-bit bs)
@@ -147,12 +143,7 @@ unfolding readStart writeStart flagsOf skipWhite tag after ends open-TR isWhite
 start-back TableData n xs t h = refl
 start-back Binary n xs t h = refl
 start-back Binary2 n xs t h =
-    let m : length (map bit (map isNull xs)) ≡ n = simp length-map h in
-    rw (
-      front-back (bitBytes n) (pack (map bit (map isNull xs))) t (length-pack _ ∙ ap bitBytes m),
-      rw m at (unpack-pack (map bit (map isNull xs)) (bits-small (map isNull xs))),
-      one-bit,
-    )
+    rw (flags-back n (map isNull xs) t (simp length-map h), one-bit)
 
 -- what is left of a written row once it is read: the end of its line
 unfoldable pub newline : Rows → List ℕ
@@ -193,7 +184,7 @@ start-le : (from : Rows) (n : ℕ) (s : List ℕ) → Holds (λ (p : List Bool �
 unfolding readStart
 start-le TableData n s = holds-bind (tag-skip open-TR s) (λ t h. holds h)
 start-le Binary n s = holds (le-refl (length s))
-start-le Binary2 n s = holds-bind (front-less (bitBytes n) s) (λ p h. holds-bind (holds-any (unpack n (p .0))) (λ bits _. holds (omega arith)))
+start-le Binary2 n s = holds-bind (flags-le n s) (λ p h. holds h)
 
 end-le : (from : Rows) (s : List ℕ) → Holds (λ (t : List ℕ). length t ≤ length s) (readEnd from s)
 unfolding readEnd
@@ -311,7 +302,7 @@ read-fits Binary cs s a =
     table-is Binary Fits AreBytes (λ c f s i. holds-bind (binary2-fits c false s i) (λ p h. holds (empty-fits c (p .0) (h .0), h .1))) (λ n s i. holds i) (λ s i. holds i) cs s a
 read-fits Binary2 cs s a =
     table-is Binary2 Fits AreBytes (λ c f s i. binary2-fits c f s i)
-    (λ n s i. holds-bind (front-is (bitBytes n) s i) (λ p h. holds-bind (holds-any (unpack n (p .0))) (λ bits _. holds (h .2)))) (λ s i. holds i) cs s a
+    (λ n s i. holds-bind (flags-are n s i) (λ p h. holds h)) (λ s i. holds i) cs s a
 
 -- a cell that a text shows has a text again
 pub text-rows : (cs : List Column) (s : List ℕ) → AllRows (Each TextFits cs) (read TableData cs s)
@@ -342,7 +333,7 @@ read-start-fails : (from : Rows) (n : ℕ) (s : List ℕ) → Fails (Numbered 8 
 unfolding readStart
 read-start-fails TableData n s = fails-bind (tag-fails 10 open-TR (skipWhite s) (lit≤ tt, lit≤ tt)) (λ t. gives)
 read-start-fails Binary n s = gives
-read-start-fails Binary2 n s = fails-bind (front-fails (bitBytes n) s) (λ p. fails-bind (unpack-fails n (p .0)) (λ bits. gives))
+read-start-fails Binary2 n s = fails-bind (flags-fails n s) (λ p. gives)
 
 read-end-fails : (from : Rows) (s : List ℕ) → Fails (Numbered 8 13) (readEnd from s)
 unfolding readEnd

@@ -4,7 +4,7 @@ use mathlib.Core.Bool.{Bool, cond, false, true}
 use mathlib.Core.List.{List, [], _++_, _∷_, map}
 use lib.Dec.{ltb}
 use lib.ListN.{length}
-use Rattle.binary.specs.Binary.{bitBytes, front, pack, readBinary, readBinary2, unpack, writeBinary, writeBinary2}
+use Rattle.binary.specs.Binary.{flagBit, pack, readBinary, readBinary2, readFlags, writeBinary, writeBinary2}
 use Rattle.rows.specs.Sequence.{Sequence, finished, row, sequence, stopped}
 use Rattle.table.specs.Bytes.{bytes, skipWhite, tag}
 use Rattle.table.specs.Cell.{Cell, isNull}
@@ -45,14 +45,12 @@ unfoldable pub isOne : ℕ → Bool
 isOne zero = false
 isOne (suc n) = true
 
--- what begins a row: `<TR>`, nothing, or the flags, "(columns+7)/8 bytes, rounded down, of flags: first column in the highest bit, 1 for
--- null, spare bits 0"
+-- what begins a row: `<TR>`, nothing, or the flags
 unfoldable pub readStart : Rows → ℕ → List ℕ → Result ℕ (List Bool × List ℕ)
 readStart TableData n s = tag 10 open-TR (skipWhite s) >>= λ t. good ([], t)
 readStart Binary n s = good ([], s)
 readStart Binary2 n s = do
-  (p, t) ← front (bitBytes n) s
-  bits ← unpack n p
+  (bits, t) ← readFlags n s
   good (map isOne bits, t)
 
 -- what ends it: `</TR>`, or nothing
@@ -109,14 +107,10 @@ writeCells to (c ∷ cs) (x ∷ xs) k = do
   r ← writeCells to cs xs (k + 1)
   good (b ++ r)
 
-unfoldable pub bit : Bool → ℕ
-bit true = 1
-bit false = 0
-
 unfoldable pub writeStart : Rows → List Cell → List ℕ
 writeStart TableData xs = open-TR ++ bytes ">"
 writeStart Binary xs = []
-writeStart Binary2 xs = pack (map bit (map isNull xs))
+writeStart Binary2 xs = pack (map flagBit (map isNull xs))
 
 -- "one line per row, byte 10 at its end, nothing else between tags"
 unfoldable pub writeEnd : Rows → List ℕ

@@ -1,6 +1,6 @@
 -- `flags::add_flag` meets its contract: one digit more; what is shifted out of the word is no flag of these columns.
 use Rattle.flags.proofs.FlagLaws.{flag-added}
-use Rattle.flags.specs.Contracts.{flagBit}
+use Rattle.binary.specs.Binary.{flagBit}
 use Rattle.number.specs.Number.{toDigits}
 use lib.Dec.{lit<}
 use mathlib.Core.Bool.{Bool}
