@@ -25,7 +25,6 @@ use Rattle.rows.specs.Convert.{convert, converting, underColumns}
 use Rattle.rows.specs.Stream.{Table, read, run, writeCell}
 use Rattle.table.proofs.Laws.{each-weaken, fails-at, holds-at, the}
 use Rattle.table.specs.All.{AreBytes}
-use Rattle.table.specs.Bytes.{ends, same}
 use Rattle.table.specs.Cell.{AreColumns, Each, Fits}
 use Rattle.table.specs.Outcome.{Call, Outcome, Refusal, accepted, answerOf, at, ending, mostInput}
 use Rattle.table.specs.Result.{Result, bad, good}
@@ -33,7 +32,6 @@ use Rattle.table.specs.declared.Column.{Column}
 use Rattle.table.specs.declared.Rows.{Rows}
 use Rattle.table.specs.declared.Rows.the-variants.{Binary2, TableData}
 use Rattle.tabledata.proofs.Laws.{TextFits}
-use Rattle.tabledata.specs.TableData.{forms}
 
 -- ---- a call under good declarations
 
@@ -51,7 +49,7 @@ valid-of : (decls : List ℕ) (from to : Rows) (input out : List ℕ) (cs : List
     → Accepted (convert decls from to input out) → Valid decls from to input (length out)
 valid-of decls from to input out cs q h a =
     let s : RowsStand cs from to input out (convert decls from to input out) = stands decls from to input out cs q in
-    let e : Ends (read from cs input) × (convert decls from to input out .answer .rows ≡ count (read from cs input)) × (convert decls from to input out .answer .row ≡ 0) × (convert decls from to input out .answer .column ≡ 0) = s .all-rows a in
+    let e = s .all-rows a in
     record {
       columns = cs;
       declared = q;

@@ -35,23 +35,32 @@ fuel-never-ends decls cs q from = fuel from cs (declared-columns decls cs q)
 -- ---- "The row lengths of an accepted stream, added in order, give the stream's length."
 
 module _ (from : Rows) (cs : List Column) (i : AreColumns cs) (bare : (s : List ℕ) → atEnd from s ≡ true → length s ≡ 0) where
-  lengths-then : (s : List ℕ) (r : Result Refusal (List Cell × List ℕ)) (more : List ℕ → Table) (lengths : List ℕ → Sequence ℕ)
-      → Holds (λ (p : List Cell × List ℕ). (length (p .1) < length s) × (Ends (more (p .1)) → sum (inOrder (lengths (p .1))) ≡ length (p .1))) r
-      → Ends (rowThen r more) → sum (inOrder (rowThen (r >>= λ p. good (length s - length (p .1), p .1)) lengths)) ≡ length s
-  unfolding rowThen inOrder sum
-  lengths-then s r more lengths refuses e = absurd e
-  lengths-then s r more lengths (holds h) e = omega (arith, h .0, h .1 e)
+  -- within a bound on rows: the table, and the lengths
+  abbrev table : ℕ → List ℕ → Table
+  table f = sequenceF f (atEnd from) (readRow from cs)
 
-  lengths-sum : (f : ℕ) (s : List ℕ) → Ends (sequenceF f (atEnd from) (readRow from cs) s) → sum (inOrder (sequenceF f (atEnd from) (rowLength from cs) s)) ≡ length s
+  abbrev lengths : ℕ → List ℕ → Sequence ℕ
+  lengths f = sequenceF f (atEnd from) (rowLength from cs)
+
+  abbrev AddUp : ℕ → List ℕ → Type 0
+  AddUp f s = Ends (table f s) → sum (inOrder (lengths f s)) ≡ length s
+
+  lengths-then : (f : ℕ) (s : List ℕ) (r : Result Refusal (List Cell × List ℕ)) → Holds (λ (p : List Cell × List ℕ). (length (p .1) < length s) × AddUp f (p .1)) r
+      → Ends (rowThen r (table f)) → sum (inOrder (rowThen (r >>= λ p. good (length s - length (p .1), p .1)) (lengths f))) ≡ length s
+  unfolding rowThen inOrder sum
+  lengths-then f s r refuses e = absurd e
+  lengths-then f s r (holds h) e = omega (arith, h .0, h .1 e)
+
+  lengths-sum : (f : ℕ) (s : List ℕ) → AddUp f s
   unfolding sequenceF rowLength
   lengths-sum zero s e = absurd e
   lengths-sum (suc f) s e = go (atEnd from s) refl e (holds-weaken (row-less from cs s i) (λ p l. (l, lengths-sum f (p .1))))
     where
-      go : (b : Bool) → atEnd from s ≡ b → Ends (cond b finished (rowThen (readRow from cs s) (sequenceF f (atEnd from) (readRow from cs))))
-          → Holds (λ (p : List Cell × List ℕ). (length (p .1) < length s) × (Ends (sequenceF f (atEnd from) (readRow from cs) (p .1)) → sum (inOrder (sequenceF f (atEnd from) (rowLength from cs) (p .1))) ≡ length (p .1))) (readRow from cs s)
-          → sum (inOrder (cond b finished (rowThen (readRow from cs s >>= λ p. good (length s - length (p .1), p .1)) (sequenceF f (atEnd from) (rowLength from cs))))) ≡ length s
+      go : (b : Bool) → atEnd from s ≡ b → Ends (cond b finished (rowThen (readRow from cs s) (table f)))
+          → Holds (λ (p : List Cell × List ℕ). (length (p .1) < length s) × AddUp f (p .1)) (readRow from cs s)
+          → sum (inOrder (cond b finished (rowThen (rowLength from cs s) (lengths f)))) ≡ length s
       go true q e k = unfold inOrder sum in sym (bare s q)
-      go false q e k = lengths-then s (readRow from cs s) (sequenceF f (atEnd from) (readRow from cs)) (sequenceF f (atEnd from) (rowLength from cs)) k e
+      go false q e k = unfold rowLength in lengths-then f s (readRow from cs s) k e
 
 empty-length : (s : List ℕ) → isEmpty s ≡ true → length s ≡ 0
 unfolding isEmpty

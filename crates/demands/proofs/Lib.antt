@@ -1,5 +1,6 @@
 pub mod Everything
 pub mod PCases
+pub mod Night
 pub mod Writing
 pub mod Lengths
 pub mod Unseen

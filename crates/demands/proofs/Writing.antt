@@ -7,7 +7,6 @@ use mathlib.Core.Path.{_∙_, _≡_, ap, ap₂, refl, sym}
 use lib.Dec.{lit≤, ltb}
 use lib.ListN.{length, length-append}
 use borrow.Author.Tests.{le-ltb, ltb-false, ltb-true}
-use Rattle.demands.specs.Demands.{output}
 use Rattle.demands.specs.Tables.{Ends, count, lines, upTo}
 use Rattle.rows.proofs.Sequences.{AllRows, Stops}
 use Rattle.rows.proofs.Laws.{FitsAll, Placed, newline, newline-read, read-nothing, read-row, row-back, write-row-fails}

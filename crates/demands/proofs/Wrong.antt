@@ -3,62 +3,31 @@
 -- that meets demand 2 is one of these. Each is caught by the sample night, whose two rows differ, or by the empty input.
 use Prim.Native.Nat.{suc, zero, ℕ}
 use native.Mathlib.Omega.{arith}
-use mathlib.Core.Bool.{Bool, _&&_, true}
 use mathlib.Core.List.{List, [], _∷_}
 use mathlib.Core.Option.{some}
 use mathlib.Core.Path.{_∙_, _≡_, ap, ap₂, refl, subst, sym}
-use lib.Dec.{lit≤, ltb}
-use lib.IntN.{negsuc, pos}
-use lib.ListN.{replicate}
-use borrow.Author.Tests.{ltb-true}
+use lib.Dec.{lit≤}
 use Rattle.demands.proofs.Everything.{everything}
-use Rattle.demands.specs.Cases.{nightBinary2, nightDeclared, nightText}
+use Rattle.demands.proofs.Night.{firstRow, night-declared, nightColumns, nightDecls, room, secondRow, small-bytes}
+use Rattle.demands.specs.Cases.{nightBinary2, nightText}
 use Rattle.demands.specs.Demands.{Accepted, Converter, Demand2, Valid, output}
 use Rattle.demands.specs.Tables.{count, rowAt, upTo}
 use Rattle.fields.specs.Fields.{declare}
 use Rattle.rows.proofs.Laws.{read-nothing}
-use Rattle.rows.specs.Convert.{convert}
 use Rattle.rows.specs.Stream.{Table, read}
 use Rattle.rows.specs.Sequence.{finished, row, stopped}
-use Rattle.table.proofs.Laws.{and-both}
 use Rattle.table.specs.All.{All, AreBytes}
-use Rattle.table.specs.Bytes.{bytes}
 use Rattle.table.specs.Cell.{Cell, null, shown}
 use Rattle.table.specs.Outcome.{Call}
 use Rattle.table.specs.Result.{good}
 use Rattle.table.specs.declared.Column.{Column}
-use Rattle.table.specs.declared.Kind.{Kind}
-use Rattle.table.specs.declared.Kind.the-variants.{Boolean, Short}
-use Rattle.table.specs.declared.Len.the-variants.{Fixed}
-use Rattle.table.specs.declared.Null.the-variants.{Declared, Undeclared}
 use Rattle.table.specs.declared.Rows.{Rows}
 use Rattle.table.specs.declared.Rows.the-variants.{Binary2, TableData}
 
 -- ---- the sample night: valid from TABLEDATA to BINARY2
 
-abbrev nightColumns : List Column
-nightColumns =
-    record { kind = Short; len = Fixed 1; null = Declared (negsuc 98) } ∷ record { kind = Kind.Char; len = Fixed 4; null = Undeclared }
-    ∷ record { kind = Boolean; len = Fixed 1; null = Undeclared } ∷ []
-
-abbrev firstRow : List Cell
-firstRow = shown (pos 7 ∷ []) ∷ shown (pos 97 ∷ pos 38 ∷ pos 98 ∷ []) ∷ shown (pos 1 ∷ []) ∷ []
-
-abbrev secondRow : List Cell
-secondRow = null ∷ shown (pos 100 ∷ pos 117 ∷ pos 115 ∷ pos 107 ∷ []) ∷ null ∷ []
-
 abbrev nightRows : Table
 nightRows = row firstRow (row secondRow finished)
-
-abbrev room : List ℕ
-room = replicate 100 7
-
-abbrev nightDecls : List ℕ
-nightDecls = bytes nightDeclared
-
-night-declared : declare nightDecls ≡ good nightColumns
-unfolding everything
-night-declared = refl
 
 night-read : read TableData nightColumns nightText ≡ nightRows
 unfolding everything
@@ -74,16 +43,8 @@ unfolding everything
 empty-valid =
     record { columns = nightColumns; declared = night-declared; sized = lit≤ tt; ends = tt; body = []; forms = refl; fits = lit≤ tt }
 
-abbrev allSmall : List ℕ → Bool
-allSmall [] = true
-allSmall (b ∷ s) = ltb b 256 && allSmall s
-
-small : (s : List ℕ) → allSmall s ≡ true → AreBytes s
-small [] h = tt
-small (b ∷ s) h = (ltb-true b 256 (and-both (ltb b 256) (allSmall s) h .0), small s (and-both (ltb b 256) (allSmall s) h .1))
-
 night-bytes : AreBytes nightText
-night-bytes = small nightText refl
+night-bytes = small-bytes nightText refl
 
 -- what tells them apart: a table with a row, a cell that is not null, a row whose first cell is not null
 abbrev Some : Table → Type 0
@@ -141,7 +102,9 @@ module _ (convert : Converter) (d : Demand2 convert) where
   pub not-the-silent : ((decls : List ℕ) (from to : Rows) (input out : List ℕ) → Accepted (convert decls from to input out) → output (convert decls from to input out) ≡ []) → ⊥
   not-the-silent wrong =
       subst Some
-      (sym night-written ∙ ap (read Binary2 nightColumns) (wrong nightDecls TableData Binary2 nightText room night-accepted ∙ sym (wrong nightDecls TableData Binary2 [] room empty-accepted)) ∙ empty-written)
+      (sym night-written
+      ∙ ap (read Binary2 nightColumns) (wrong nightDecls TableData Binary2 nightText room night-accepted ∙ sym (wrong nightDecls TableData Binary2 [] room empty-accepted))
+      ∙ empty-written)
       tt
 
   -- a row of what was written, as it reads back
@@ -168,5 +131,6 @@ module _ (convert : Converter) (d : Demand2 convert) where
   pub not-the-inventor : (n : ℕ) → ((decls : List ℕ) (from to : Rows) (input out : List ℕ) → Accepted (convert decls from to input out) → convert decls from to input out .answer .rows ≡ n) → ⊥
   not-the-inventor n wrong =
       let two : 2 ≡ n = sym night-count ∙ wrong nightDecls TableData Binary2 nightText room night-accepted in
-      let none-read : emptyCall .answer .rows ≡ 0 = d .does-all nightDecls TableData Binary2 [] room nightColumns night-declared empty-accepted ∙ ap count (read-nothing TableData nightColumns) ∙ (unfold count in refl) in
+      let none-read : emptyCall .answer .rows ≡ 0
+      = d .does-all nightDecls TableData Binary2 [] room nightColumns night-declared empty-accepted ∙ ap count (read-nothing TableData nightColumns) ∙ (unfold count in refl) in
       absurd (omega (arith, two, wrong nightDecls TableData Binary2 [] room empty-accepted, none-read))

@@ -7,9 +7,8 @@ use mathlib.Core.Option.{some}
 use mathlib.Core.Path.{_≡_}
 use lib.ListN.{drop, getD, length, take}
 use Rattle.demands.specs.Places.{showsAt}
-use Rattle.demands.specs.Tables.{Ends, count, lines, rowAt, upTo}
+use Rattle.demands.specs.Tables.{Ends, count, lines, only, rowAt, upTo}
 use Rattle.fields.specs.Fields.{declare}
-use Rattle.rows.specs.Sequence.{finished, row}
 use Rattle.rows.specs.Stream.{read}
 use Rattle.table.specs.All.{AreBytes}
 use Rattle.table.specs.Cell.{Cell}
@@ -126,7 +125,7 @@ pub record Stands (to : Rows) (cs : List Column) (xs : List Cell) (s : Stream) (
   pub behind : List ℕ
   pub there : output c ≡ before ++ (b ++ behind)
   pub earlier : read to cs before ≡ upTo (s .row) (read (s .from) cs (s .input))
-  pub itself : read to cs b ≡ row xs finished
+  pub itself : read to cs b ≡ only xs
 
 -- the row is refused
 pub record RefusedAt (s : Stream) (number column : ℕ) (c : Call) : Type 0 where

@@ -37,6 +37,10 @@ rowAt j (stopped e) = none
 rowAt zero (row xs t) = some xs
 rowAt (suc j) (row xs t) = rowAt j t
 
+-- a table of one row
+abbrev pub only : List Cell → Table
+only xs = row xs finished
+
 -- the rows as the target writes them, in order, whole; or the first refusal in writing
 unfoldable pub lines : Rows → List Column → Table → Result Refusal (List ℕ)
 lines to cs finished = good []

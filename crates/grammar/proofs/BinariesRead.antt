@@ -3,13 +3,14 @@
 use Prim.Native.Nat.{_*_, _+_, _/_, _<_, _^_, _≤_, suc, zero, ℕ}
 use native.Mathlib.Omega.{arith}
 use mathlib.Core.Bool.{Bool, _||_, false, true}
-use mathlib.Core.List.{List, [], _++_, _∷_, append-assoc, append-nil, map}
+use mathlib.Core.List.{List, [], _++_, _∷_, append-assoc, append-nil}
 use mathlib.Core.Path.{_∙_, _≡_, ap, ap₂, refl, subst, subst⁻¹, sym}
 use lib.Dec.{eqb, lit<, lit≤, ltb}
 use lib.IntN.{pos, ℤ}
 use lib.ListN.{drop, length, length-append, length-drop, length-take, replicate, take, take-append-drop}
 use lib.Seq.{drop-at, take-at}
 use borrow.Author.Tests.{eqb-false, eqb-true, le-ltb, lt-ltb, ltb-false, ltb-true, ne-eqb}
+use Rattle.binary.proofs.Digits.{every-bits}
 use Rattle.binary.proofs.Laws.{front-back}
 use Rattle.binary.specs.Binary.{allZero, atMost, beforeNul, bitBytes, bitsOf, content, contentBytes, countIn, counted, element, front, numbers, numbersIn, readBinary, readBinary2, shows, truth, unpack}
 use Rattle.grammar.proofs.Fronts.{Front}
@@ -226,15 +227,10 @@ chars-long (bytes-then h k r) = ap suc (chars-long r)
 
 -- ---- contents
 
-every-pos : (ns : List ℕ) → every (element Bits) ns ≡ good (map pos ns)
-unfolding every element
-every-pos [] = refl
-every-pos (n ∷ ns) = rw (every-pos ns)
-
 content-read : {k : Shape} {n : ℕ} {s : List ℕ} {es : List ℤ} → Content k n s es → content k n s ≡ good es
 unfolding content numbersIn
 content-read (content-truths h) = listed-read TruthByte 1 (element Truths) truth-long truth-byte-read truth-byte-is h
-content-read (content-bits {bits = bits} h) = rw (bits-in-read h) (every-pos bits)
+content-read (content-bits {bits = bits} h) = rw (bits-in-read h) (every-bits bits)
 content-read (content-whole {g = g} {v = v} h) =
     listed-read (IntegerBytes g (suc (last v))) (suc (last v)) (element (Whole g v)) (integer-long g (suc (last v))) (integer-bytes-read g v) (integer-bytes-are g v) h
 content-read (content-chars h) = chars-read h
@@ -250,7 +246,7 @@ content-long (content-chars h) = chars-long h
 content-is : (k : Shape) (n : ℕ) (s : List ℕ) → length s ≡ contentBytes k n → AreBytes s → Holds (Content k n s) (content k n s)
 unfolding content numbersIn contentBytes bitBytes
 content-is Truths n s l a = holds-weaken (listed-is TruthByte 1 (element Truths) truth-long truth-byte-read truth-byte-is n s (omega arith) a) (λ es h. content-truths h)
-content-is Bits n s l a = holds-bind (bits-in-is n s l a) (λ bits h. rw (every-pos bits) (holds (content-bits h)))
+content-is Bits n s l a = holds-bind (bits-in-is n s l a) (λ bits h. rw (every-bits bits) (holds (content-bits h)))
 content-is (Whole g v) n s l a =
     holds-weaken (listed-is (IntegerBytes g (suc (last v))) (suc (last v)) (element (Whole g v)) (integer-long g (suc (last v))) (integer-bytes-read g v) (integer-bytes-are g v) n s l a)
     (λ es h. content-whole h)

@@ -17,7 +17,6 @@ use Rattle.grammar.specs.Declarations.{AttributeText, AttributesText, Fi
 use Rattle.grammar.specs.Words.{Tag, White, a-tag, white-end, white-then}
 use Rattle.table.proofs.Laws.{and-both, between-is, between-yes, cond-cases, holds-bind, holds-cond, holds-else, holds-weaken, no-white, or-either}
 use Rattle.table.specs.Bytes.{after, between, bytes, ends, isWhite, same, skipWhite}
-use Rattle.table.specs.Cell.{null}
 use Rattle.table.specs.Result.{Holds, Result, _>>=_, bad, good, holds, orElse, refuses}
 
 -- ---- names
@@ -132,8 +131,10 @@ unfolding readValue
 quoted-is [] = refuses
 quoted-is (b ∷ s) =
     holds-cond (eqb b 34 || eqb b 39) (λ h. or-either (eqb b 34) (eqb b 39) h
-    (λ e. rw (eqb-true b 34 e) (holds-weaken (value-is 34 s) (λ p k. record { taken = 34 ∷ (p .0 ++ (34 ∷ [])); whole = ap (λ (x : List ℕ). 34 ∷ x) (k .1 ∙ sym (append-assoc (p .0) (34 ∷ []) (p .1))); spelled = quoted-double (k .0) })))
-    (λ e. rw (eqb-true b 39 e) (holds-weaken (value-is 39 s) (λ p k. record { taken = 39 ∷ (p .0 ++ (39 ∷ [])); whole = ap (λ (x : List ℕ). 39 ∷ x) (k .1 ∙ sym (append-assoc (p .0) (39 ∷ []) (p .1))); spelled = quoted-single (k .0) }))))
+    (λ e. rw (eqb-true b 34 e) (holds-weaken (value-is 34 s) (λ p k.
+    record { taken = 34 ∷ (p .0 ++ (34 ∷ [])); whole = ap (λ (x : List ℕ). 34 ∷ x) (k .1 ∙ sym (append-assoc (p .0) (34 ∷ []) (p .1))); spelled = quoted-double (k .0) })))
+    (λ e. rw (eqb-true b 39 e) (holds-weaken (value-is 39 s) (λ p k.
+    record { taken = 39 ∷ (p .0 ++ (39 ∷ [])); whole = ap (λ (x : List ℕ). 39 ∷ x) (k .1 ∙ sym (append-assoc (p .0) (39 ∷ []) (p .1))); spelled = quoted-single (k .0) }))))
     (λ _. refuses)
 
 -- ---- an attribute
@@ -476,7 +477,8 @@ field-read {d = d} (field-empty {a = a} {w = w} h k) x y rest =
     ∙ field-rest-read a (w ++ (47 ∷ 62 ∷ rest)) rest d h (no-attribute 47 (62 ∷ rest) k (no-white 47 (lit≤ tt)) slash-name)
     (rw (ends-word 1 47 (62 ∷ []) rest (no-white 47 (lit≤ tt)) k)) x y
 field-read {d = d} (field-tags {a = a} {w = w} {b = b} {z = z} h k i e) x y rest =
-    ap (λ (s : List ℕ). readField (bytes "<FIELD" ++ s)) (append-assoc a (w ++ (62 ∷ (b ++ z))) rest ∙ ap (λ (s : List ℕ). a ++ s) (append-assoc w (62 ∷ (b ++ z)) rest ∙ ap (λ (s : List ℕ). w ++ (62 ∷ s)) (append-assoc b z rest)))
+    ap (λ (s : List ℕ). readField (bytes "<FIELD" ++ s))
+    (append-assoc a (w ++ (62 ∷ (b ++ z))) rest ∙ ap (λ (s : List ℕ). a ++ s) (append-assoc w (62 ∷ (b ++ z)) rest ∙ ap (λ (s : List ℕ). w ++ (62 ∷ s)) (append-assoc b z rest)))
     ∙ field-rest-read a (w ++ (62 ∷ (b ++ (z ++ rest)))) rest d h (no-attribute 62 (b ++ (z ++ rest)) k (no-white 62 (lit≤ tt)) greater-name)
     (rw (ends-other 1 47 62 (62 ∷ []) (b ++ (z ++ rest)) (no-white 62 (lit≤ tt)) refl k, ends-word 1 62 [] (b ++ (z ++ rest)) (no-white 62 (lit≤ tt)) k) (body-read i e rest)) x y
 

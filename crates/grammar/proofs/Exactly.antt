@@ -20,7 +20,6 @@ use Rattle.grammar.proofs.WrittenBytes.{IsBinary, lines-bytes, the-bina
 use Rattle.grammar.specs.Declarations.{Declares}
 use Rattle.grammar.specs.Exact.{BothWays, InGrammar, tableOf}
 use Rattle.grammar.specs.Valid.{HasForm, HaveForms, Spells}
-use Rattle.number.specs.Number.{sized}
 use Rattle.rows.proofs.Sequences.{AllRows}
 use Rattle.rows.proofs.Laws.{FitsAll, read-fits}
 use Rattle.rows.specs.Convert.{convert}
@@ -28,14 +27,12 @@ use Rattle.rows.specs.Stream.{Table, read, writeCell, writeCells, writeEnd, wri
 use Rattle.rows.specs.Sequence.{finished, row, stopped}
 use Rattle.table.proofs.Laws.{each-weaken, holds-at, the}
 use Rattle.table.specs.All.{AreBytes}
-use Rattle.table.specs.Bytes.{ends}
 use Rattle.table.specs.Cell.{AreColumns, Cell, Each, Fits}
 use Rattle.table.specs.Outcome.{Refusal, accepted, answerOf, at, bufferOf, ending, mostInput, written}
 use Rattle.table.specs.Result.{IsGood, Result, _>>=_, bad, good, refusedAs}
 use Rattle.table.specs.declared.Column.{Column}
 use Rattle.table.specs.declared.Rows.{Rows}
 use Rattle.table.specs.declared.Rows.the-variants.{Binary, Binary2, TableData}
-use Rattle.tabledata.specs.TableData.{forms}
 
 -- ---- rows
 
@@ -165,9 +162,9 @@ in-valid decls from to input room g =
 
 -- DEMAND 2, "It accepts exactly what VOTable 1.4, as narrowed in document 01, calls valid, 01's writing refusals apart": of any converter that
 -- meets the demand as crate demands states it, and for every call
-pub accepts-exactly-of : (convert : Converter) → Demand2 convert → (decls : List ℕ) (from to : Rows) (input out : List ℕ) → AreBytes input
-    → Accepted (convert decls from to input out) ↔ InGrammar decls from to input (length out)
-accepts-exactly-of convert d decls from to input out a = (
+pub accepts-exactly-of : (f : Converter) → Demand2 f → (decls : List ℕ) (from to : Rows) (input out : List ℕ) → AreBytes input
+    → Accepted (f decls from to input out) ↔ InGrammar decls from to input (length out)
+accepts-exactly-of f d decls from to input out a = (
   (λ h. valid-in decls from to input (length out) a (d .exactly decls from to input out .0 h)),
   (λ g. d .exactly decls from to input out .1 (in-valid decls from to input (length out) g)),
 )
@@ -196,7 +193,8 @@ up-to-fits cs (suc m) (row xs t) f = (f .0, up-to-fits cs m t (f .1))
 output-bytes : (decls : List ℕ) (from : Rows) {to : Rows} → IsBinary to → (input out : List ℕ) (cs : List Column) → declare decls ≡ good cs → AreBytes input
     → AreBytes (output (convert decls from to input out))
 output-bytes decls from {to} b input out cs q a =
-    holds-at (lines-bytes b cs (declared-columns decls cs q) (upTo (convert decls from to input out .answer .rows) (read from cs input)) (up-to-fits cs (convert decls from to input out .answer .rows) (read from cs input) (read-fits from cs input a)))
+    let done = convert decls from to input out .answer .rows in
+    holds-at (lines-bytes b cs (declared-columns decls cs q) (upTo done (read from cs input)) (up-to-fits cs done (read from cs input) (read-fits from cs input a)))
     (stands decls from to input out cs q .lines-whole)
 
 -- what is read back as these rows spells them

@@ -1,9 +1,7 @@
 -- What the grammar says a cell shows is what the definition `show` computes.
-use Prim.Native.Nat.{ℕ}
-use native.Mathlib.Omega.{arith}
 use mathlib.Core.Bool.{Bool, cond, false, false≢true, true}
 use mathlib.Core.List.{List, [], _∷_}
-use mathlib.Core.Option.{Option, none, some}
+use mathlib.Core.Option.{Option, Option·none-ne-some, none, some}
 use mathlib.Core.Path.{_∙_, _≡_, ap, refl, subst, subst⁻¹, sym}
 use lib.Dec.{eqb}
 use lib.IntN.{negsuc, pos, ℤ}
@@ -23,18 +21,15 @@ unfolding nullElement isScalar nullOfKind
 stands-for-read (null-declared l k n) = rw (l, k, n)
 stands-for-read (null-unknown l k) = rw (l, k)
 
-none-some : {z : ℤ} → none ≡ some z → ⊥
-none-some h = let q : _≡_ {A = ℕ} 0 1 = cc in omega arith
-
 pub stands-for-is : (c : Column) (z : ℤ) → nullElement c ≡ some z → StandsForNull c z
 unfolding nullElement
 stands-for-is c z e = by-length (c .len) refl e
   where
     by-null : c .len ≡ Fixed 1 → (k : Shape) → shape (c .kind) ≡ k → (n : Null) → c .null ≡ n → nullOfKind k n ≡ some z → StandsForNull c z
     by-null l Truths k n m e = unfold nullOfKind in subst (StandsForNull c) (cc e) (null-unknown l k)
-    by-null l Bits k n m e = unfold nullOfKind in absurd (none-some e)
-    by-null l Text k n m e = unfold nullOfKind in absurd (none-some e)
-    by-null l (Whole g v) k Undeclared m e = unfold nullOfKind in absurd (none-some e)
+    by-null l Bits k n m e = unfold nullOfKind in absurd (Option·none-ne-some z e)
+    by-null l Text k n m e = unfold nullOfKind in absurd (Option·none-ne-some z e)
+    by-null l (Whole g v) k Undeclared m e = unfold nullOfKind in absurd (Option·none-ne-some z e)
     by-null l (Whole g v) k (Declared y) m e = unfold nullOfKind in subst (StandsForNull c) (cc e) (null-declared l k m)
 
     by-length : (l : Len) → c .len ≡ l → cond (isScalar l) (nullOfKind (shape (c .kind)) (c .null)) none ≡ some z → StandsForNull c z
@@ -42,9 +37,9 @@ stands-for-is c z e = by-length (c .len) refl e
       where
         scalar : (b : Bool) → eqb n 1 ≡ b → cond b (nullOfKind (shape (c .kind)) (c .null)) none ≡ some z → StandsForNull c z
         scalar true h e = by-null (q ∙ ap Fixed (eqb-true n 1 h)) (shape (c .kind)) refl (c .null) refl e
-        scalar false h e = absurd (none-some e)
-    by-length (Bounded n) q e = unfold isScalar in absurd (none-some e)
-    by-length Free q e = unfold isScalar in absurd (none-some e)
+        scalar false h e = absurd (Option·none-ne-some z e)
+    by-length (Bounded n) q e = unfold isScalar in absurd (Option·none-ne-some z e)
+    by-length Free q e = unfold isScalar in absurd (Option·none-ne-some z e)
 
 same-integer-is : (a b : ℤ) → sameInteger a b ≡ true → a ≡ b
 unfolding sameInteger
@@ -75,7 +70,9 @@ shows-read {c} (shows-list {es = es} h) = rw (not-null c es h)
 
 pub shows-is : (c : Column) (es : List ℤ) → Shows c es (show c es)
 unfolding show
-shows-is c es = cond-cases (Shows c es) (isNullList (nullElement c) es) null (shown es) (λ h. is-null (nullElement c) refl es h) (λ h. shows-list (λ z e s. false≢true (sym h ∙ rw (e, stands-for-read s) (one-null z))))
+shows-is c es =
+    cond-cases (Shows c es) (isNullList (nullElement c) es) null (shown es) (λ h. is-null (nullElement c) refl es h)
+    (λ h. shows-list (λ z e s. false≢true (sym h ∙ rw (e, stands-for-read s) (one-null z))))
   where
     one-null : (z : ℤ) → isNullList (some z) (z ∷ []) ≡ true
     one-null z = unfold isNullList in same-self z

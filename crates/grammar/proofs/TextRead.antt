@@ -76,8 +76,12 @@ character-read char-lt t = refl
 character-read char-gt t = refl
 character-read char-quot t = refl
 character-read char-apos t = refl
-character-read (char-decimal {s = s} {n = n} m h) t = ap (λ (u : List ℕ). characters plain (38 ∷ 35 ∷ u)) (append-assoc s (59 ∷ []) t) ∙ numeric-read s t n (numeral-all (λ (b : ℕ). b ≡ 59 → ⊥) digit-59 m) (expanded-decimal m h)
-character-read (char-hexadecimal {s = s} {n = n} m h) t = ap (λ (u : List ℕ). characters plain (38 ∷ 35 ∷ 120 ∷ u)) (append-assoc s (59 ∷ []) t) ∙ hex-read s t n (numeral-all (λ (b : ℕ). b ≡ 59 → ⊥) hexadigit-59 m) (expanded-hexadecimal m h)
+character-read (char-decimal {s = s} {n = n} m h) t =
+    ap (λ (u : List ℕ). characters plain (38 ∷ 35 ∷ u)) (append-assoc s (59 ∷ []) t)
+    ∙ numeric-read s t n (numeral-all (λ (b : ℕ). b ≡ 59 → ⊥) digit-59 m) (expanded-decimal m h)
+character-read (char-hexadecimal {s = s} {n = n} m h) t =
+    ap (λ (u : List ℕ). characters plain (38 ∷ 35 ∷ 120 ∷ u)) (append-assoc s (59 ∷ []) t)
+    ∙ hex-read s t n (numeral-all (λ (b : ℕ). b ≡ 59 → ⊥) hexadigit-59 m) (expanded-hexadecimal m h)
 
 tag-begins : (s : List ℕ) → characters plain (60 ∷ s) ≡ (tag 10 (bytes "</TD") (60 ∷ s) >>= λ rest. good ([], rest))
 unfolding characters step follow close-TD
@@ -95,7 +99,8 @@ characters-read {z = z} (chars-then {b = b} {s = s} c r) h rest = rw (append-ass
 expanded-is : (name : List ℕ) → Holds (Character (38 ∷ (name ++ (59 ∷ [])))) (expanded name)
 unfolding expanded numeric
 expanded-is name =
-    holds-else (holds-bind (after-is 10 (bytes "#x") name) (λ t e. holds-as (λ f. 10) (holds-weaken (sized-is hexadigit Hexadigit 16 hexadigit-read hexadigit-is 8 t) (λ n h. rw e (char-hexadecimal (h .0) (h .1))))))
+    holds-else (holds-bind (after-is 10 (bytes "#x") name) (λ t e.
+    holds-as (λ f. 10) (holds-weaken (sized-is hexadigit Hexadigit 16 hexadigit-read hexadigit-is 8 t) (λ n h. rw e (char-hexadecimal (h .0) (h .1))))))
     (holds-else (holds-bind (after-is 10 (bytes "#") name) (λ t e. holds-as (λ f. 10) (holds-weaken (sized-is digit Digit 10 digit-read digit-is 8 t) (λ n h. rw e (char-decimal (h .0) (h .1))))))
     named-is)
   where
@@ -335,12 +340,14 @@ unfolding textCell countFits
 text-shows-is c cs =
     holds-cond (allText cs) (λ a.
     holds-bind (elements-are (shape (c .kind)) cs) (λ es h.
-    holds-cond (eqb (length es) 0 || (roomFits (shape (c .kind)) (roomIn (c .len) (length es)) (length es) && leb (length es) (bound (c .len)))) (λ m. holds (texts-are cs a, go es h m)) (λ _. refuses))) (λ _. refuses)
+    holds-cond (eqb (length es) 0 || (roomFits (shape (c .kind)) (roomIn (c .len) (length es)) (length es) && leb (length es) (bound (c .len))))
+    (λ m. holds (texts-are cs a, go es h m)) (λ _. refuses))) (λ _. refuses)
   where
     go : (es : List ℤ) → TextElements (shape (c .kind)) cs es
         → (eqb (length es) 0 || (roomFits (shape (c .kind)) (roomIn (c .len) (length es)) (length es) && leb (length es) (bound (c .len)))) ≡ true → TextShows c cs (emptyIsNull (show c es))
     go [] h m = rw (nothing-left c) (shows-empty h)
-    go (e ∷ es) h m = rw (something-left c e es) (shows-elements h (or-either (eqb (suc (length es)) 0) _ m (λ z. absurd (omega (arith, eqb-true (suc (length es)) 0 z))) (λ z. many-is _ _ _ z)) (shows-is c (e ∷ es)))
+    go (e ∷ es) h m = rw (something-left c e es)
+        (shows-elements h (or-either (eqb (suc (length es)) 0) _ m (λ z. absurd (omega (arith, eqb-true (suc (length es)) 0 z))) (λ z. many-is _ _ _ z)) (shows-is c (e ∷ es)))
 
 nil-elements : (k : Shape) → TextElements k [] []
 nil-elements Truths = text-truths (words-none white-end)

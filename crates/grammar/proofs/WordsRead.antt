@@ -14,9 +14,11 @@ use borrow.Author.Tests.{eq-eqb, eqb-false, eqb-true, le-leb, le-ltb, lt-leb, lt
 use Rattle.grammar.proofs.Fronts.{digit-is, digit-read, hexadigit-is, hexadigit-read, numeral-all, numeral-some, sized-is, sized-read}
 use Rattle.grammar.specs.Words.{AnyCapitals, AnyCase, BitLetters, Digit, Hexadigit, IntegerWord, Numeral, Spaced, Stands, TruthLetter, TruthWord, White, as-capital, as-small, bits-0, bits-1, bits-end, capitals-end, capitals-then, figure, hex-capital, hex-figure, hex-small, letter-0, letter-1, letter-F, letter-T, letter-f, letter-t, one-digit, one-more, stands-negative, stands-positive, stands-unsigned, truth-false, truth-letter, truth-true, truth-unknown, white-end, white-then, word-hexadecimal, word-minus, word-plain, word-plus, words-last, words-none, words-then}
 use Rattle.number.specs.Number.{decimal, digit, hexadecimal, hexadigit, ofPattern, ranged, readInteger, withSign}
-use Rattle.table.proofs.Laws.{IsWord, NoWhite, and-both, between-is, cond-cases, holds-bind, holds-cond, no-white, not-empty, or-either, pieces-word}
+use Rattle.number.proofs.Laws.{pow-16}
+use Rattle.table.proofs.Words.{word-cut, words-one}
+use Rattle.table.proofs.Laws.{IsWord, NoWhite, and-both, between-is, cond-cases, holds-bind, holds-cond, no-white, or-either, pieces-word}
 use Rattle.table.specs.All.{All}
-use Rattle.table.specs.Bytes.{attach, between, bytes, isWhite, notEmpty, pieces, same, words}
+use Rattle.table.specs.Bytes.{between, bytes, isWhite, notEmpty, pieces, same, words}
 use Rattle.table.specs.Outcome.{at}
 use Rattle.table.specs.Result.{Holds, Result, bad, every, good, holds, refuses}
 use Rattle.table.specs.Shape.{half, inRange}
@@ -50,12 +52,6 @@ hexadigit-small : (b d : ℕ) → Hexadigit b d → d < 16
 hexadigit-small b n (hex-figure h) = omega arith
 hexadigit-small b n (hex-capital h) = omega arith
 hexadigit-small b n (hex-small h) = omega arith
-
-pow-16 : (w : ℕ) → 16 ^ (2 * w) ≡ 256 ^ w
-pow-16 zero = refl
-pow-16 (suc w) =
-    let e : 2 * suc w ≡ suc (suc (2 * w)) = omega arith in
-    rw e (omega (arith, pow-16 w))
 
 hex-lt : (w : ℕ) {s : List ℕ} {n : ℕ} → Numeral Hexadigit 16 s n → length s ≤ 2 * w → n < 256 ^ w
 hex-lt w {s} {n} m h =
@@ -248,19 +244,6 @@ unfolding words pieces notEmpty
 words-blank white-end = refl
 words-blank (white-then h w) = rw h (words-blank w)
 
-pieces-cut : (v : List ℕ) (b : ℕ) (s : List ℕ) → NoWhite v → isWhite b ≡ true → pieces (v ++ (b ∷ s)) ≡ v ∷ pieces s
-unfolding pieces attach
-pieces-cut [] b s a h = rw h
-pieces-cut (c ∷ v) b s a h = rw (a .0, pieces-cut v b s (a .1) h)
-
-pub words-cut : (v : List ℕ) (b : ℕ) (s : List ℕ) → IsWord v → isWhite b ≡ true → words (v ++ (b ∷ s)) ≡ v ∷ words s
-unfolding words
-words-cut v b s i h = rw (pieces-cut v b s (i .1) h) (not-empty v (pieces s) (i .0))
-
-pub words-one : (v : List ℕ) → IsWord v → words v ≡ v ∷ []
-unfolding words notEmpty
-words-one v i = rw (pieces-word v (i .1)) (not-empty v [] (i .0))
-
 -- a text up to its first white space
 data Cut (s : List ℕ) : Type 0 where
   uncut : NoWhite s → Cut s
@@ -294,7 +277,7 @@ unfolding words pieces notEmpty
 words-step s (uncut a) ih = words-whole s a
 words-step s (cut-at [] b t a h e l) ih = rw (e, h) (spaced-white b h (ih t l))
 words-step s (cut-at (c ∷ p) b t a h e l) ih =
-    rw (e, words-cut (c ∷ p) b t (omega arith, a) h) (words-then b white-end (same-word {v = c ∷ p} (omega arith, a)) h (ih t l))
+    rw (e, word-cut (c ∷ p) b t (omega arith, a) h) (words-then b white-end (same-word {v = c ∷ p} (omega arith, a)) h (ih t l))
 
 words-from : (n : ℕ) (s : List ℕ) → length s ≤ n → Spaced Same s (words s)
 words-from zero s l = words-step s (cut s) (λ t k. absurd (omega arith))
@@ -311,7 +294,7 @@ module _ {A : Type 0} (Word : List ℕ → A → Type 0) (f : List ℕ → Resul
   spaced-read (words-none w) = rw (words-blank w)
   spaced-read (words-last {v = v} {e = e} w h) = rw (words-white w v, words-one v (is-word v e h), complete v e h)
   spaced-read (words-then {v = v} {e = e} b {s = s} w h k r) =
-      rw (words-white w (v ++ (b ∷ s)), words-cut v b s (is-word v e h) k, complete v e h, spaced-read r)
+      rw (words-white w (v ++ (b ∷ s)), word-cut v b s (is-word v e h) k, complete v e h, spaced-read r)
 
   spaced-every : {s : List ℕ} {vs : List (List ℕ)} → Spaced Same s vs → Holds (Spaced Word s) (every f vs)
   unfolding every
@@ -344,7 +327,7 @@ one-word-of s = one-of (words-are s)
 -- one word between white space
 pub words-trimmed : {w v u : List ℕ} → White w → IsWord v → White u → words (w ++ (v ++ u)) ≡ v ∷ []
 words-trimmed {v = v} w i white-end = rw append-nil (words-white w v ∙ words-one v i)
-words-trimmed {v = v} w i (white-then {b = b} {w = u} h k) = words-white w (v ++ (b ∷ u)) ∙ words-cut v b u i h ∙ ap (λ (x : List (List ℕ)). v ∷ x) (words-blank k)
+words-trimmed {v = v} w i (white-then {b = b} {w = u} h k) = words-white w (v ++ (b ∷ u)) ∙ word-cut v b u i h ∙ ap (λ (x : List (List ℕ)). v ∷ x) (words-blank k)
 
 -- ---- words have no white space in them
 
