@@ -1,0 +1,126 @@
+-- `tabledata_reading::bits` meets its contract. The invariant: what was passed over has one word so far, of the bits in the scratch.
+use Prim.Native.Nat.{_-_}
+use native.Mathlib.Omega.{arith}
+use mathlib.Core.List.{[]}
+use mathlib.Core.Path.{_∙_, subst, sym}
+use lib.ListN.{drop, length}
+use borrow.Author.Needs.{needs}
+use denote.Ref.{now}
+use mir.Facts.{toZ-ofZ}
+use mir.Syntax.{w64}
+use Rattle.table.specs.Shape.{Bits}
+use Rattle.tabledata.specs.TableData.{characters, plain}
+use Rattle.tabledata_reading.proofs.bits.Laws.{BitsTo, bits-passed, bits-read, bits-spoilt, bits-start, bits-to-end}
+use Rattle.tabledata_reading.proofs.elements.Laws.{ReadTo, read-broken, read-end, read-none}
+use Rattle.tabledata_reading.specs.Characters.{ItemIs}
+use Rattle.tabledata_reading.specs.declared.characters.Item.the-variants.{Code}
+use Rattle.tabledata_reading.proofs.bits.bits.Statement.{statement}
+use Rattle.tabledata_reading.proofs.bits.bits.Tie as tie
+
+abbrev Inv-loop : tie.InvT-loop
+Inv-loop s from scratch₀ i₀ count₀ closed₀ scratch i count closed = ReadTo (BitsTo closed count) s from i count scratch₀ scratch
+
+abbrev μ-loop : tie.MeasureT-loop
+μ-loop s from scratch₀ i₀ count₀ closed₀ scratch i count closed = length s - i
+
+-- the next character
+item : (c : tie.After-known-told2 Inv-loop μ-loop) → let s = now (c .before .before .before .before .before .before .args .s) in let i = c .before .before .before .before .loop .i in
+    ItemIs (characters plain (drop i s)) s i (Code (c .before .c .given .0 .0) (c .before .c .given .0 .1 .0))
+item c = subst (ItemIs _ _ _) (c .before .c .given .1) (c .before .before .before .character-at .ensures)
+
+loop-holds : tie.Need-loop-holds Inv-loop μ-loop
+loop-holds c = read-none ([], bits-start) (search needs)
+
+character-at-requires : tie.Need-character-at-requires Inv-loop μ-loop
+character-at-requires c κs = c .loop .inv .high
+
+enum-told : tie.Need-enum-told Inv-loop μ-loop
+enum-told c = search needs
+
+same-length : tie.Need-same-length Inv-loop μ-loop
+same-length c = c .before .before .before .loop .inv .long
+
+returns : tie.Need-returns Inv-loop μ-loop
+returns c = read-broken (c .before .before .before .loop .inv) Bits (subst (ItemIs _ _ _) (c .enum-told .given .1) (c .before .before .character-at .ensures) .found)
+
+enum-known-next : tie.Need-enum-known-next Inv-loop μ-loop
+enum-known-next c = search needs
+
+same-length-2 : tie.Need-same-length-2 Inv-loop μ-loop
+same-length-2 c = c .before .before .before .before .loop .inv .long
+
+returns-2 : tie.Need-returns-2 Inv-loop μ-loop
+returns-2 c =
+    let r = c .before .before .before .before .loop .inv in
+    read-end r Bits (subst (ItemIs _ _ _) (c .before .next .given .1) (c .before .before .before .character-at .ensures)) (bits-to-end (r .means))
+
+enum-known-c : tie.Need-enum-known-c Inv-loop μ-loop
+enum-known-c c = search needs
+
+is-white-requires : tie.Need-is-white-requires Inv-loop μ-loop
+is-white-requires c κs = search needs
+
+loop-less : tie.Need-loop-less Inv-loop μ-loop
+loop-less c = let t = item (c .before .before) in omega (arith, t .within .0, t .within .1)
+
+loop-again : tie.Need-loop-again Inv-loop μ-loop
+loop-again c = bits-passed (c .before .before .before .before .before .before .loop .inv) (item (c .before .before)) (sym (c .before .is-white .ensures) ∙ c .if1 .taken)
+
+bit-of-requires : tie.Need-bit-of-requires Inv-loop μ-loop
+bit-of-requires c κs = search needs
+
+spoiled-requires : tie.Need-spoiled-requires Inv-loop μ-loop
+spoiled-requires c κs = item (c .before .before .before .before) .within .1
+
+same-length-3 : tie.Need-same-length-3 Inv-loop μ-loop
+same-length-3 c = c .before .before .before .before .before .before .before .before .before .loop .inv .long
+
+returns-3 : tie.Need-returns-3 Inv-loop μ-loop
+returns-3 c =
+    let not-white = sym (c .before .before .before .before .is-white .ensures) ∙ c .before .before .before .if1 .left in
+    bits-spoilt (c .before .before .before .before .before .before .before .before .before .loop .inv) (item (c .before .before .before .before .before)) not-white (c .before .before .bit-of .ensures) (c .before .if2 .taken) (c .spoiled .ensures)
+
+as-element-requires : tie.Need-as-element-requires Inv-loop μ-loop
+as-element-requires c κs = search needs
+
+put-requires : tie.Need-put-requires Inv-loop μ-loop
+put-requires c κs = search needs
+
+add-count : tie.Need-add-count Inv-loop μ-loop
+add-count c = let t = item (c .before .before .before .before .before .before .before .before) in omega (arith, t .within .0, t .within .1, c .before .before .before .before .before .before .before .before .before .before .before .before .loop .inv .few)
+
+loop-less-2 : tie.Need-loop-less-2 Inv-loop μ-loop
+loop-less-2 c = let t = item (c .before .before .before .before .before .before .before .before) in omega (arith, t .within .0, t .within .1)
+
+loop-again-2 : tie.Need-loop-again-2 Inv-loop μ-loop
+loop-again-2 c =
+    let stored = toZ-ofZ {w = w64} (record { sfits = c .before .before .as-element .ok }) ∙ c .before .before .as-element .ensures in
+    bits-read (c .before .before .before .before .before .before .before .before .before .before .before .before .loop .inv) (item (c .before .before .before .before .before .before .before .before)) (c .before .before .before .before .before .bit-of .ensures) (c .before .before .before .before .if2 .left) (c .before .put .ensures) stored
+
+pub bits-spec : {M : Type 1} → statement M
+bits-spec =
+    tie.close
+    (tie.spec
+    Inv-loop
+    μ-loop
+    loop-holds
+    character-at-requires
+    enum-told
+    same-length
+    returns
+    enum-known-next
+    same-length-2
+    returns-2
+    enum-known-c
+    is-white-requires
+    loop-less
+    loop-again
+    bit-of-requires
+    spoiled-requires
+    same-length-3
+    returns-3
+    as-element-requires
+    put-requires
+    add-count
+    loop-less-2
+    loop-again-2)

@@ -1,0 +1,77 @@
+-- `tabledata_reading::cell_shows` meets its contract: no elements, too many or too few, those that stand for null, or others.
+use Prim.Native.Nat.{_≤_}
+use native.Mathlib.Omega.{arith}
+use mathlib.Core.Bool.{true}
+use mathlib.Core.Option.{Option}
+use mathlib.Core.Path.{_∙_, _≡_, ap, refl, sym}
+use lib.IntN.{ℤ}
+use lib.ListN.{length, take}
+use borrow.Author.Needs.{needs}
+use borrow.Author.Tests.{not-false, not-true}
+use denote.Ref.{now}
+use Rattle.table.specs.Cell.{bound, isNullList, nullElement}
+use Rattle.tabledata_reading.proofs.cells.Laws.{room-few, shown-none, shown-not, shown-null, shown-some}
+use Rattle.tabledata_reading.specs.Cells.{roomAnd}
+use Rattle.tabledata_reading.proofs.cells.cell_shows.Statement.{statement}
+use Rattle.tabledata_reading.proofs.cells.cell_shows.Tie as tie
+
+-- the count fits the column
+fits : (c : tie.Else2) → let col = c .before .before .before .args .column in roomAnd (col .kind) (col .len) (c .before .before .before .args .count) ≡ true
+fits c = sym (c .before .count-fits .ensures) ∙ not-false _ (c .if2 .left)
+
+few : (c : tie.Else2) → c .before .before .before .args .count ≤ length (now (c .before .before .before .args .scratch))
+few c = omega (arith, room-few (c .before .before .before .args .column) (c .before .before .before .args .count) (fits c), c .before .before .before .pre .0, c .before .before .before .pre .1)
+
+room : (c : tie.Else2) → bound (c .before .before .before .args .column .len) ≤ length (now (c .before .before .before .args .scratch))
+room c = omega (arith, c .before .before .before .pre .0, c .before .before .before .pre .1)
+
+-- whether the elements stand for null
+null : (c : tie.After-is-null) → let a = c .before .before .before .before .before .args in isNullList (nullElement (a .column)) (take (a .count) (now (a .scratch))) ≡ c .is-null .result
+null c =
+    let a = c .before .before .before .before .before .args in
+    sym (ap (λ (o : Option ℤ). isNullList o (take (a .count) (now (a .scratch)))) (c .before .null-element .ensures)) ∙ sym (c .is-null .ensures)
+
+returns : tie.Need-returns
+returns c = record { found = λ s es p. shown-none (c .before .args .column) _ p (c .if1 .taken); few = tt; place = refl }
+
+count-fits-requires : tie.Need-count-fits-requires
+count-fits-requires c κs = search needs
+
+returns-2 : tie.Need-returns-2
+returns-2 c = record {
+  found = λ s es p. shown-not (c .before .before .before .args .column) _ p (c .before .before .if1 .left) (sym (c .before .count-fits .ensures) ∙ not-true _ (c .if2 .taken));
+  few = tt;
+  place = tt;
+}
+
+null-element-requires : tie.Need-null-element-requires
+null-element-requires c κs = search needs
+
+is-null-requires : tie.Need-is-null-requires
+is-null-requires c κs = few (c .before)
+
+returns-3 : tie.Need-returns-3
+returns-3 c = record {
+  found = λ s es p. shown-null (c .before .before .before .before .before .before .args .column) _ p (c .before .before .before .before .before .if1 .left) (fits (c .before .before .before)) (room (c .before .before .before)) (null (c .before) ∙ c .if3 .taken);
+  few = tt;
+  place = refl;
+}
+
+returns-4 : tie.Need-returns-4
+returns-4 c = record {
+  found = λ s es p. shown-some (c .before .before .before .before .before .before .args .column) _ p (c .before .before .before .before .before .if1 .left) (fits (c .before .before .before)) (room (c .before .before .before)) (null (c .before) ∙ c .if3 .left);
+  few = few (c .before .before .before);
+  place = refl;
+}
+
+pub cell-shows-spec : {M : Type 1} → statement M
+cell-shows-spec =
+    tie.close
+    (tie.spec
+    returns
+    count-fits-requires
+    returns-2
+    null-element-requires
+    is-null-requires
+    returns-3
+    returns-4)

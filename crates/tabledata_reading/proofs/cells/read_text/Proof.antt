@@ -1,0 +1,75 @@
+-- `tabledata_reading::read_text` meets its contract: how the cell begins, its elements, and what they come to in the column.
+use native.Mathlib.Omega.{arith}
+use mathlib.Core.Path.{subst}
+use borrow.Author.Needs.{needs}
+use denote.Ref.{now}
+use Rattle.tabledata_reading.proofs.cells.Laws.{text-broken, text-empty, text-refused, text-shows}
+use Rattle.tabledata_reading.specs.Characters.{OpeningIs}
+use Rattle.tabledata_reading.specs.Elements.{Takes}
+use Rattle.tabledata_reading.specs.declared.characters.Opening.the-variants.{Content}
+use Rattle.tabledata_reading.proofs.cells.read_text.Statement.{statement}
+use Rattle.tabledata_reading.proofs.cells.read_text.Tie as tie
+
+opening : (c : tie.After-elements-arg) → OpeningIs (now (c .before .before .before .before .before .before .args .s)) (c .before .before .before .before .before .before .args .at) (Content (c .before .before .from .given .0 .0))
+opening c = subst (OpeningIs _ _) (c .before .before .from .given .1) (c .before .before .before .before .open-cell .ensures)
+
+open-cell-requires : tie.Need-open-cell-requires
+open-cell-requires c κs = search needs
+
+enum-told : tie.Need-enum-told
+enum-told c = search needs
+
+enum-known-next : tie.Need-enum-known-next
+enum-known-next c = search needs
+
+enum-known-from : tie.Need-enum-known-from
+enum-known-from c = search needs
+
+elements-requires : tie.Need-elements-requires
+elements-requires c κs = opening c .within .1
+
+enum-known-n : tie.Need-enum-known-n
+enum-known-n c = search needs
+
+enum-known-count : tie.Need-enum-known-count
+enum-known-count c = search needs
+
+cell-shows-requires : tie.Need-cell-shows-requires
+cell-shows-requires c κs = (search needs, omega (arith, c .before .before .before .before .before .elements .ensures .long, c .before .before .before .before .before .before .before .before .before .before .before .before .pre .2))
+
+returns : tie.Need-returns
+returns c = text-broken _ (subst (OpeningIs _ _) (c .enum-told .given .1) (c .before .before .open-cell .ensures))
+
+returns-2 : tie.Need-returns-2
+returns-2 c = text-empty _ (subst (OpeningIs _ _) (c .before .next .given .1) (c .before .before .before .open-cell .ensures))
+
+same-length : tie.Need-same-length
+same-length c = c .before .before .before .before .elements .ensures .long
+
+returns-3 : tie.Need-returns-3
+returns-3 c = text-refused _ (opening (c .before .before .before .before .before)) (subst (Takes _ _ _ _ _) (c .before .n .given .1) (c .before .before .before .before .elements .ensures))
+
+same-length-2 : tie.Need-same-length-2
+same-length-2 c = c .before .before .before .before .before .before .elements .ensures .long
+
+returns-4 : tie.Need-returns-4
+returns-4 c = text-shows _ (opening (c .before .before .before .before .before .before .before)) _ (subst (Takes _ _ _ _ _) (c .before .before .before .count .given .1) (c .before .before .before .before .before .before .elements .ensures)) (c .cell-shows .ensures)
+
+pub read-text-spec : {M : Type 1} → statement M
+read-text-spec =
+    tie.close
+    (tie.spec
+    open-cell-requires
+    enum-told
+    enum-known-next
+    enum-known-from
+    elements-requires
+    enum-known-n
+    enum-known-count
+    cell-shows-requires
+    returns
+    returns-2
+    same-length
+    returns-3
+    same-length-2
+    returns-4)

@@ -1,0 +1,88 @@
+-- `tabledata_reading::careful_open` meets its contract: `<TD`, then `/>` or `>`, each after white space.
+use mathlib.Core.Path.{subst}
+use borrow.Author.Needs.{needs}
+use Rattle.tabledata_reading.proofs.characters.Laws.{cell-content, cell-empty, cell-no-end, cell-no-tag}
+use Rattle.text.specs.Contracts.{TagIs}
+use Rattle.tabledata_reading.proofs.characters.careful_open.Statement.{statement}
+use denote.Ref.{now}
+use lib.ListN.{drop}
+use Rattle.table.specs.Bytes.{bytes, ends}
+use Rattle.text.specs.declared.Tag.the-variants.{At}
+use Rattle.tabledata_reading.proofs.characters.careful_open.Tie as tie
+
+-- the tag begins
+begun : (c : tie.After-ends-arg2) → let a = c .before .before .before .before .before .before .before .args in TagIs (λ n. ends n (bytes "<TD") (drop (a .at) (now (a .s)))) (now (a .s)) (a .at) (At (c .before .before .i .given .0 .0))
+begun c = subst (TagIs _ _ _) (c .before .before .i .given .1) (c .before .before .before .before .ends .ensures)
+
+slice-aggregate-ends : tie.Need-slice-aggregate-ends
+slice-aggregate-ends c = search needs
+
+ends-requires : tie.Need-ends-requires
+ends-requires c κs = search needs
+
+enum-known-i : tie.Need-enum-known-i
+enum-known-i c = search needs
+
+enum-told : tie.Need-enum-told
+enum-told c = search needs
+
+returns : tie.Need-returns
+returns c = cell-no-tag (subst (TagIs _ _ _) (c .enum-told .given .1) (c .before .before .ends .ensures))
+
+slice-aggregate-ends-2 : tie.Need-slice-aggregate-ends-2
+slice-aggregate-ends-2 c = search needs
+
+ends-requires-2 : tie.Need-ends-requires-2
+ends-requires-2 c κs = begun c .within .1
+
+enum-known-next : tie.Need-enum-known-next
+enum-known-next c = search needs
+
+enum-told-2 : tie.Need-enum-told-2
+enum-told-2 c = search needs
+
+slice-aggregate-ends-3 : tie.Need-slice-aggregate-ends-3
+slice-aggregate-ends-3 c = search needs
+
+ends-requires-3 : tie.Need-ends-requires-3
+ends-requires-3 c κs = begun (c .before .before .before .before) .within .1
+
+enum-known-from : tie.Need-enum-known-from
+enum-known-from c = search needs
+
+enum-told-3 : tie.Need-enum-told-3
+enum-told-3 c = search needs
+
+returns-2 : tie.Need-returns-2
+returns-2 c =
+    let not-empty = subst (TagIs _ _ _) (c .before .before .before .before .enum-told2 .given .1) (c .before .before .before .before .before .before .ends2 .ensures) in
+    cell-no-end (begun (c .before .before .before .before .before .before .before)) not-empty (subst (TagIs _ _ _) (c .enum-told3 .given .1) (c .before .before .ends3 .ensures))
+
+returns-3 : tie.Need-returns-3
+returns-3 c = cell-empty (begun (c .before .before .before .before)) (subst (TagIs _ _ _) (c .before .next .given .1) (c .before .before .before .ends2 .ensures))
+
+returns-4 : tie.Need-returns-4
+returns-4 c =
+    let not-empty = subst (TagIs _ _ _) (c .before .before .before .before .before .enum-told2 .given .1) (c .before .before .before .before .before .before .before .ends2 .ensures) in
+    cell-content (begun (c .before .before .before .before .before .before .before .before)) not-empty (subst (TagIs _ _ _) (c .before .from .given .1) (c .before .before .before .ends3 .ensures))
+
+pub careful-open-spec : {M : Type 1} → statement M
+careful-open-spec =
+    tie.close
+    (tie.spec
+    slice-aggregate-ends
+    ends-requires
+    enum-known-i
+    enum-told
+    returns
+    slice-aggregate-ends-2
+    ends-requires-2
+    enum-known-next
+    enum-told-2
+    slice-aggregate-ends-3
+    ends-requires-3
+    enum-known-from
+    enum-told-3
+    returns-2
+    returns-3
+    returns-4)

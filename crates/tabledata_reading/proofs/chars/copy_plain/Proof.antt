@@ -1,0 +1,121 @@
+-- `tabledata_reading::copy_plain` meets its contract. The invariant: the text passed over is its own elements, which follow those there were.
+use Prim.Native.Nat.{_+_, _-_}
+use native.Mathlib.Omega.{arith}
+use mathlib.Core.Bool.{true}
+use mathlib.Core.List.{append-nil}
+use mathlib.Core.Path.{_∙_, _≡_, refl, sym}
+use lib.ListN.{drop, getD, length, length-set, take}
+use borrow.Author.Needs.{needs}
+use borrow.Author.Tests.{not-false}
+use denote.Ref.{now}
+use mir.Facts.{toZ-ofZ}
+use mir.Syntax.{w64}
+use Rattle.tabledata.specs.Contracts.{isPlain}
+use Rattle.tabledata_reading.proofs.characters.Laws.{take-more}
+use Rattle.tabledata_reading.proofs.characters.Passing.{passed-none, passed-plain, passed-then}
+use Rattle.tabledata_reading.proofs.chars.Laws.{counted-char}
+use Rattle.tabledata_reading.specs.Elements.{Copied}
+use Rattle.tabledata_reading.proofs.chars.copy_plain.Statement.{statement}
+use Rattle.tabledata_reading.proofs.chars.copy_plain.Tie as tie
+
+-- k counts with the characters: so far, what the function promises
+abbrev Inv-loop : tie.InvT-loop
+Inv-loop s from scratch₀ count i₀ k₀ scratch i k = (k ≡ count + (i - from)) × Copied s from count scratch₀ scratch i
+
+abbrev μ-loop : tie.MeasureT-loop
+μ-loop s from scratch₀ count i₀ k₀ scratch i k = length s - i
+
+loop-holds : tie.Need-loop-holds Inv-loop μ-loop
+loop-holds c =
+    let e : c .before .args .from - c .before .args .from ≡ 0 = omega arith in let n : c .before .args .count + 0 ≡ c .before .args .count = omega arith in
+    (omega arith, record { passed = rw e passed-none; counted = λ es p. rw (e, n, append-nil es) p; low = omega arith; high = c .before .pre; long = refl })
+
+same-length : tie.Need-same-length Inv-loop μ-loop
+same-length c = c .before .before .loop .inv .1 .long
+
+returns : tie.Need-returns Inv-loop μ-loop
+returns c = c .before .before .loop .inv .1
+
+shared-slice-read-c : tie.Need-shared-slice-read-c Inv-loop μ-loop
+shared-slice-read-c c = search needs
+
+cast-c : tie.Need-cast-c Inv-loop μ-loop
+cast-c c = omega (arith, c .shared-slice-known2 .given (c .before .before .before .loop .i))
+
+-- the byte at the place stands for itself
+is-plain : (c : tie.Else2 Inv-loop μ-loop) → isPlain (getD (now (c .before .before .before .before .before .before .before .args .s)) (c .before .before .before .before .before .loop .i) 0) ≡ true
+is-plain c = sym (c .before .is-plain .ensures) ∙ not-false _ (c .if2 .left)
+
+is-plain-requires : tie.Need-is-plain-requires Inv-loop μ-loop
+is-plain-requires c κs = search needs
+
+same-length-2 : tie.Need-same-length-2 Inv-loop μ-loop
+same-length-2 c = c .before .before .before .before .before .loop .inv .1 .long
+
+returns-2 : tie.Need-returns-2 Inv-loop μ-loop
+returns-2 c = c .before .before .before .before .before .loop .inv .1
+
+as-element-requires : tie.Need-as-element-requires Inv-loop μ-loop
+as-element-requires c κs = search needs
+
+mul-t8 : tie.Need-mul-t8 Inv-loop μ-loop
+mul-t8 c = search needs
+
+slice-set-from-scratch : tie.Need-slice-set-from-scratch Inv-loop μ-loop
+slice-set-from-scratch c = search needs
+
+add-k : tie.Need-add-k Inv-loop μ-loop
+add-k c = search needs
+
+add-i : tie.Need-add-i Inv-loop μ-loop
+add-i c = search needs
+
+loop-less : tie.Need-loop-less Inv-loop μ-loop
+loop-less c = search needs
+
+loop-again : tie.Need-loop-again Inv-loop μ-loop
+loop-again c =
+    let s = now (c .before .before .before .before .before .before .before .before .args .s) in let from = c .before .before .before .before .before .before .before .before .args .from in let i = c .before .before .before .before .before .before .loop .i in let p = c .before .before .before .before .before .before .loop .inv in
+    let more = take-more s from i (p .1 .low) (c .before .before .before .before .before .loop-test .taken) in
+    let n : c .before .before .before .before .before .before .before .before .args .count + (i + 1 - from) ≡ c .before .before .before .before .before .before .loop .k + 1 = omega (arith, p .0, p .1 .low) in (
+      sym n,
+      record {
+        passed = rw more (passed-then (p .1 .passed) (passed-plain s i (c .before .before .before .before .before .loop-test .taken) (is-plain (c .before))));
+        counted = λ es q.
+            rw (n, more, toZ-ofZ {w = w64} (record { sfits = c .as-element .ok }), c .as-element .ensures)
+            (counted-char es (take (i - from) (drop from s)) (getD s i 0) (c .before .before .before .before .before .before .loop .k) (c .before .before .before .before .before .before .loop .scratch) (rw (p .0) (p .1 .counted es q)));
+        low = omega (arith, p .1 .low);
+        high = omega arith;
+        long = simp length-set (p .1 .long);
+      },
+    )
+
+same-length-3 : tie.Need-same-length-3 Inv-loop μ-loop
+same-length-3 c = c .before .loop .inv .1 .long
+
+returns-3 : tie.Need-returns-3 Inv-loop μ-loop
+returns-3 c = c .before .loop .inv .1
+
+pub copy-plain-spec : {M : Type 1} → statement M
+copy-plain-spec =
+    tie.close
+    (tie.spec
+    Inv-loop
+    μ-loop
+    loop-holds
+    same-length
+    returns
+    shared-slice-read-c
+    cast-c
+    is-plain-requires
+    same-length-2
+    returns-2
+    as-element-requires
+    mul-t8
+    slice-set-from-scratch
+    add-k
+    add-i
+    loop-less
+    loop-again
+    same-length-3
+    returns-3)

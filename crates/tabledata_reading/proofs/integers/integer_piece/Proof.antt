@@ -1,0 +1,105 @@
+-- `tabledata_reading::integer_piece` meets its contract. The invariant: the letters passed over are a word so far, as the integers' reader has it.
+use Prim.Native.Nat.{_-_}
+use native.Mathlib.Omega.{arith}
+use mathlib.Core.Bool.{true}
+use mathlib.Core.Path.{_∙_, _≡_, subst, sym}
+use lib.ListN.{drop, length}
+use borrow.Author.Needs.{needs}
+use borrow.Author.Tests.{not-false, not-true}
+use denote.Ref.{now}
+use Rattle.words.specs.Words.{feed, fresh}
+use Rattle.tabledata.proofs.Laws.{text-lt}
+use Rattle.tabledata.specs.TableData.{characters, isText, plain}
+use Rattle.tabledata_reading.proofs.characters.Passing.{WordTo, word-broken, word-cuts, word-ends, word-more, word-no-text, word-none}
+use Rattle.tabledata_reading.proofs.integers.Laws.{fed-letter, feed-start}
+use Rattle.tabledata_reading.specs.Characters.{ItemIs}
+use Rattle.tabledata_reading.specs.declared.characters.Item.the-variants.{Code}
+use Rattle.tabledata_reading.proofs.integers.integer_piece.Statement.{statement}
+use Rattle.tabledata_reading.proofs.integers.integer_piece.Tie as tie
+
+abbrev Inv-loop : tie.InvT-loop
+Inv-loop s from i₀ word₀ i word = WordTo (λ w. word ≡ feed fresh w) s from i
+
+abbrev μ-loop : tie.MeasureT-loop
+μ-loop s from i₀ word₀ i word = length s - i
+
+-- the next character
+item : (c : tie.After-known-told2 Inv-loop μ-loop) → let s = now (c .before .before .before .before .before .before .before .args .s) in let i = c .before .before .before .before .loop .i in
+    ItemIs (characters plain (drop i s)) s i (Code (c .before .c .given .0 .0) (c .before .c .given .0 .1 .0))
+item c = subst (ItemIs _ _ _) (c .before .c .given .1) (c .before .before .before .character-at .ensures)
+
+is-text : (c : tie.Else1 Inv-loop μ-loop) → isText (c .before .before .before .c .given .0 .0) ≡ true
+is-text c = sym (c .before .is-text .ensures) ∙ not-false _ (c .if1 .left)
+
+new-requires : tie.Need-new-requires Inv-loop μ-loop
+new-requires c κs = search needs
+
+loop-holds : tie.Need-loop-holds Inv-loop μ-loop
+loop-holds c = word-none (c .new .ensures ∙ sym feed-start) (search needs)
+
+character-at-requires : tie.Need-character-at-requires Inv-loop μ-loop
+character-at-requires c κs = c .loop .inv .high
+
+enum-told : tie.Need-enum-told Inv-loop μ-loop
+enum-told c = search needs
+
+returns : tie.Need-returns Inv-loop μ-loop
+returns c = record { found = word-broken (c .before .before .before .loop .inv) (subst (ItemIs _ _ _) (c .enum-told .given .1) (c .before .before .character-at .ensures) .found) }
+
+enum-known-next : tie.Need-enum-known-next Inv-loop μ-loop
+enum-known-next c = search needs
+
+returns-2 : tie.Need-returns-2 Inv-loop μ-loop
+returns-2 c = record { found = word-ends (c .before .before .before .before .loop .inv) (subst (ItemIs _ _ _) (c .before .next .given .1) (c .before .before .before .character-at .ensures)) }
+
+enum-known-c : tie.Need-enum-known-c Inv-loop μ-loop
+enum-known-c c = search needs
+
+is-text-requires : tie.Need-is-text-requires Inv-loop μ-loop
+is-text-requires c κs = search needs
+
+returns-3 : tie.Need-returns-3 Inv-loop μ-loop
+returns-3 c = record { found = word-no-text (c .before .before .before .before .before .before .loop .inv) (item (c .before .before)) (sym (c .before .is-text .ensures) ∙ not-true _ (c .if1 .taken)) }
+
+is-white-requires : tie.Need-is-white-requires Inv-loop μ-loop
+is-white-requires c κs = search needs
+
+returns-4 : tie.Need-returns-4 Inv-loop μ-loop
+returns-4 c = record { found = word-cuts (c .before .before .before .before .before .before .before .before .loop .inv) (item (c .before .before .before .before)) (is-text (c .before .before)) (sym (c .before .is-white .ensures) ∙ c .if2 .taken) }
+
+cast-next : tie.Need-cast-next Inv-loop μ-loop
+cast-next c = omega (arith, text-lt _ (is-text (c .before .before)) .1)
+
+next-requires : tie.Need-next-requires Inv-loop μ-loop
+next-requires c κs = search needs
+
+loop-less : tie.Need-loop-less Inv-loop μ-loop
+loop-less c = let t = item (c .before .before .before .before .before) in omega (arith, t .within .0, t .within .1)
+
+loop-again : tie.Need-loop-again Inv-loop μ-loop
+loop-again c =
+    let p = c .before .before .before .before .before .before .before .before .before .loop .inv in
+    word-more p (item (c .before .before .before .before .before)) (is-text (c .before .before .before)) (sym (c .before .before .is-white .ensures) ∙ c .before .if2 .left) (c .next2 .ensures ∙ fed-letter _ (p .w) _ (p .stands))
+
+pub integer-piece-spec : {M : Type 1} → statement M
+integer-piece-spec =
+    tie.close
+    (tie.spec
+    Inv-loop
+    μ-loop
+    new-requires
+    loop-holds
+    character-at-requires
+    enum-told
+    returns
+    enum-known-next
+    returns-2
+    enum-known-c
+    is-text-requires
+    returns-3
+    is-white-requires
+    returns-4
+    cast-next
+    next-requires
+    loop-less
+    loop-again)

@@ -1,0 +1,96 @@
+-- `tabledata_reading::name_means` meets its contract: the names are tried in the definition's order.
+use mathlib.Core.Bool.{false}
+use mathlib.Core.Path.{_∙_, _≡_, sym}
+use borrow.Author.Needs.{needs}
+use denote.Ref.{now}
+use Rattle.table.specs.Bytes.{bytes, same}
+use Rattle.tabledata.specs.TableData.{named, names}
+use Rattle.tabledata_reading.proofs.references.name_means.Statement.{statement}
+use Rattle.tabledata_reading.proofs.references.name_means.Tie as tie
+
+not-amp : (c : tie.Else1) → same (bytes "amp") (now (c .before .before .before .before .args .name)) ≡ false
+not-amp c = sym (c .before .same-bytes .ensures) ∙ c .if1 .left
+
+not-lt : (c : tie.Else2) → same (bytes "lt") (now (c .before .before .before .before .before .before .before .args .name)) ≡ false
+not-lt c = sym (c .before .same-bytes2 .ensures) ∙ c .if2 .left
+
+not-gt : (c : tie.Else3) → same (bytes "gt") (now (c .before .before .before .before .before .before .before .before .before .before .args .name)) ≡ false
+not-gt c = sym (c .before .same-bytes3 .ensures) ∙ c .if3 .left
+
+not-quot : (c : tie.Else4) → same (bytes "quot") (now (c .before .before .before .before .before .before .before .before .before .before .before .before .before .args .name)) ≡ false
+not-quot c = sym (c .before .same-bytes4 .ensures) ∙ c .if4 .left
+
+slice-aggregate-same-bytes : tie.Need-slice-aggregate-same-bytes
+slice-aggregate-same-bytes c = search needs
+
+same-bytes-requires : tie.Need-same-bytes-requires
+same-bytes-requires c κs = search needs
+
+returns : tie.Need-returns
+unfolding named names
+returns c = rw (sym (c .before .same-bytes .ensures) ∙ c .if1 .taken)
+
+slice-aggregate-same-bytes-2 : tie.Need-slice-aggregate-same-bytes-2
+slice-aggregate-same-bytes-2 c = search needs
+
+same-bytes-requires-2 : tie.Need-same-bytes-requires-2
+same-bytes-requires-2 c κs = search needs
+
+returns-2 : tie.Need-returns-2
+unfolding named names
+returns-2 c = rw (not-amp (c .before .before .before), sym (c .before .same-bytes2 .ensures) ∙ c .if2 .taken)
+
+slice-aggregate-same-bytes-3 : tie.Need-slice-aggregate-same-bytes-3
+slice-aggregate-same-bytes-3 c = search needs
+
+same-bytes-requires-3 : tie.Need-same-bytes-requires-3
+same-bytes-requires-3 c κs = search needs
+
+returns-3 : tie.Need-returns-3
+unfolding named names
+returns-3 c = rw (not-amp (c .before .before .before .before .before .before), not-lt (c .before .before .before), sym (c .before .same-bytes3 .ensures) ∙ c .if3 .taken)
+
+slice-aggregate-same-bytes-4 : tie.Need-slice-aggregate-same-bytes-4
+slice-aggregate-same-bytes-4 c = search needs
+
+same-bytes-requires-4 : tie.Need-same-bytes-requires-4
+same-bytes-requires-4 c κs = search needs
+
+returns-4 : tie.Need-returns-4
+unfolding named names
+returns-4 c = rw (not-amp (c .before .before .before .before .before .before .before .before .before), not-lt (c .before .before .before .before .before .before), not-gt (c .before .before .before), sym (c .before .same-bytes4 .ensures) ∙ c .if4 .taken)
+
+slice-aggregate-same-bytes-5 : tie.Need-slice-aggregate-same-bytes-5
+slice-aggregate-same-bytes-5 c = search needs
+
+same-bytes-requires-5 : tie.Need-same-bytes-requires-5
+same-bytes-requires-5 c κs = search needs
+
+returns-5 : tie.Need-returns-5
+unfolding named names
+returns-5 c = rw (not-amp (c .before .before .before .before .before .before .before .before .before .before .before .before), not-lt (c .before .before .before .before .before .before .before .before .before), not-gt (c .before .before .before .before .before .before), not-quot (c .before .before .before), sym (c .before .same-bytes5 .ensures) ∙ c .if5 .taken)
+
+returns-6 : tie.Need-returns-6
+unfolding named names
+returns-6 c = rw (not-amp (c .before .before .before .before .before .before .before .before .before .before .before .before), not-lt (c .before .before .before .before .before .before .before .before .before), not-gt (c .before .before .before .before .before .before), not-quot (c .before .before .before), sym (c .before .same-bytes5 .ensures) ∙ c .if5 .left)
+
+pub name-means-spec : {M : Type 1} → statement M
+name-means-spec =
+    tie.close
+    (tie.spec
+    slice-aggregate-same-bytes
+    same-bytes-requires
+    returns
+    slice-aggregate-same-bytes-2
+    same-bytes-requires-2
+    returns-2
+    slice-aggregate-same-bytes-3
+    same-bytes-requires-3
+    returns-3
+    slice-aggregate-same-bytes-4
+    same-bytes-requires-4
+    returns-4
+    slice-aggregate-same-bytes-5
+    same-bytes-requires-5
+    returns-5
+    returns-6)

@@ -1,0 +1,33 @@
+-- `tabledata_reading::with_digit` meets its contract, by the base.
+use borrow.Author.Needs.{needs}
+use Rattle.tabledata_reading.proofs.references.with_digit.Statement.{statement}
+use Rattle.tabledata_reading.proofs.references.with_digit.Tie as tie
+
+mul-result : tie.Need-mul-result
+mul-result c = search needs
+
+add-result : tie.Need-add-result
+add-result c = search needs
+
+mul-result-2 : tie.Need-mul-result-2
+mul-result-2 c = search needs
+
+add-result-2 : tie.Need-add-result-2
+add-result-2 c = search needs
+
+returns : tie.Need-returns
+returns c = rw (c .if1 .taken)
+
+returns-2 : tie.Need-returns-2
+returns-2 c = rw (c .if1 .left)
+
+pub with-digit-spec : {M : Type 1} → statement M
+with-digit-spec =
+    tie.close
+    (tie.spec
+    mul-result
+    add-result
+    mul-result-2
+    add-result-2
+    returns
+    returns-2)
