@@ -1,5 +1,5 @@
 -- References: the number that digits spell, for `number_means`, and which of its ways `expand` goes.
-use Prim.Native.Nat.{_*_, _+_, _<_, _^_, _≤_, ℕ}
+use Prim.Native.Nat.{_*_, _+_, _-_, _<_, _^_, _≤_, ℕ}
 use native.Mathlib.Nat.{pow-le-pow-right, pow-succ'}
 use native.Mathlib.Numerals.{add-one}
 use native.Mathlib.Omega.{arith}
@@ -54,6 +54,9 @@ grows false n d k h e = rw (add-one, pow-succ') (omega arith)
 pub small-base : (hex : Bool) (d : ℕ) → d < baseIn hex → d < 16
 small-base true d h = h
 small-base false d h = omega arith
+
+pub one-later : {from i : ℕ} → from ≤ i → i + 1 - from ≡ i - from + 1
+one-later h = omega arith
 
 pub few-grow : (n k : ℕ) → n < 16 ^ k → k ≤ 7 → n < 268435456
 few-grow n k h e = omega (arith, h, pow-le-pow-right {n = 16} (lit≤ tt) e)

@@ -24,8 +24,9 @@ abbrev μ-loop : tie.MeasureT-loop
 μ-loop s from scratch₀ i₀ count₀ closed₀ scratch i count closed = length s - i
 
 -- the next character
-item : (c : tie.After-known-told2 Inv-loop μ-loop) → let s = now (c .before .before .before .before .before .before .args .s) in let i = c .before .before .before .before .loop .i in
-    ItemIs (characters plain (drop i s)) s i (Code (c .before .c .given .0 .0) (c .before .c .given .0 .1 .0))
+item : (c : tie.After-known-told2 Inv-loop μ-loop) →
+    let at-loop = c .before .before .before .before in let at-start = at-loop .before .before in
+    let s = now (at-start .args .s) in let i = at-loop .loop .i in ItemIs (characters plain (drop i s)) s i (Code (c .before .c .given .0 .0) (c .before .c .given .0 .1 .0))
 item c = subst (ItemIs _ _ _) (c .before .c .given .1) (c .before .before .before .character-at .ensures)
 
 loop-holds : tie.Need-loop-holds Inv-loop μ-loop
@@ -41,7 +42,9 @@ same-length : tie.Need-same-length Inv-loop μ-loop
 same-length c = c .before .before .before .loop .inv .long
 
 returns : tie.Need-returns Inv-loop μ-loop
-returns c = read-broken (c .before .before .before .loop .inv) Bits (subst (ItemIs _ _ _) (c .enum-told .given .1) (c .before .before .character-at .ensures) .found)
+returns c =
+    let at-loop = c .before .before .before in
+    read-broken (at-loop .loop .inv) Bits (subst (ItemIs _ _ _) (c .enum-told .given .1) (c .before .before .character-at .ensures) .found)
 
 enum-known-next : tie.Need-enum-known-next Inv-loop μ-loop
 enum-known-next c = search needs
@@ -64,7 +67,9 @@ loop-less : tie.Need-loop-less Inv-loop μ-loop
 loop-less c = let t = item (c .before .before) in omega (arith, t .within .0, t .within .1)
 
 loop-again : tie.Need-loop-again Inv-loop μ-loop
-loop-again c = bits-passed (c .before .before .before .before .before .before .loop .inv) (item (c .before .before)) (sym (c .before .is-white .ensures) ∙ c .if1 .taken)
+loop-again c =
+    let at-loop = c .before .before .before .before .before .before in
+    bits-passed (at-loop .loop .inv) (item (c .before .before)) (sym (c .before .is-white .ensures) ∙ c .if1 .taken)
 
 bit-of-requires : tie.Need-bit-of-requires Inv-loop μ-loop
 bit-of-requires c κs = search needs
@@ -77,8 +82,10 @@ same-length-3 c = c .before .before .before .before .before .before .before .bef
 
 returns-3 : tie.Need-returns-3 Inv-loop μ-loop
 returns-3 c =
-    let not-white = sym (c .before .before .before .before .is-white .ensures) ∙ c .before .before .before .if1 .left in
-    bits-spoilt (c .before .before .before .before .before .before .before .before .before .loop .inv) (item (c .before .before .before .before .before)) not-white (c .before .before .bit-of .ensures) (c .before .if2 .taken) (c .spoiled .ensures)
+    let at-if1 = c .before .before .before in let at-is-white = at-if1 .before in let at-known = at-is-white .before in
+    let at-loop = at-known .before .before .before .before in
+    let not-white = sym (at-is-white .is-white .ensures) ∙ at-if1 .if1 .left in
+    bits-spoilt (at-loop .loop .inv) (item at-known) not-white (c .before .before .bit-of .ensures) (c .before .if2 .taken) (c .spoiled .ensures)
 
 as-element-requires : tie.Need-as-element-requires Inv-loop μ-loop
 as-element-requires c κs = search needs
@@ -87,15 +94,19 @@ put-requires : tie.Need-put-requires Inv-loop μ-loop
 put-requires c κs = search needs
 
 add-count : tie.Need-add-count Inv-loop μ-loop
-add-count c = let t = item (c .before .before .before .before .before .before .before .before) in omega (arith, t .within .0, t .within .1, c .before .before .before .before .before .before .before .before .before .before .before .before .loop .inv .few)
+add-count c =
+    let at-known = c .before .before .before .before .before .before .before .before in let at-loop = at-known .before .before .before .before in
+    let t = item at-known in omega (arith, t .within .0, t .within .1, at-loop .loop .inv .few)
 
 loop-less-2 : tie.Need-loop-less-2 Inv-loop μ-loop
 loop-less-2 c = let t = item (c .before .before .before .before .before .before .before .before) in omega (arith, t .within .0, t .within .1)
 
 loop-again-2 : tie.Need-loop-again-2 Inv-loop μ-loop
 loop-again-2 c =
-    let stored = toZ-ofZ {w = w64} (record { sfits = c .before .before .as-element .ok }) ∙ c .before .before .as-element .ensures in
-    bits-read (c .before .before .before .before .before .before .before .before .before .before .before .before .loop .inv) (item (c .before .before .before .before .before .before .before .before)) (c .before .before .before .before .before .bit-of .ensures) (c .before .before .before .before .if2 .left) (c .before .put .ensures) stored
+    let at-as-element = c .before .before in let at-if2 = at-as-element .before .before in let at-bit-of = at-if2 .before in
+    let at-known = at-bit-of .before .before .before in let at-loop = at-known .before .before .before .before in
+    let stored = toZ-ofZ {w = w64} (record { sfits = at-as-element .as-element .ok }) ∙ at-as-element .as-element .ensures in
+    bits-read (at-loop .loop .inv) (item at-known) (at-bit-of .bit-of .ensures) (at-if2 .if2 .left) (c .before .put .ensures) stored
 
 pub bits-spec : {M : Type 1} → statement M
 bits-spec =

@@ -10,7 +10,9 @@ use Rattle.tabledata_reading.specs.declared.characters.Opening.the-varia
 use Rattle.tabledata_reading.proofs.cells.read_text.Statement.{statement}
 use Rattle.tabledata_reading.proofs.cells.read_text.Tie as tie
 
-opening : (c : tie.After-elements-arg) → OpeningIs (now (c .before .before .before .before .before .before .args .s)) (c .before .before .before .before .before .before .args .at) (Content (c .before .before .from .given .0 .0))
+opening : (c : tie.After-elements-arg) →
+    let at-start = c .before .before .before .before .before .before in
+    OpeningIs (now (at-start .args .s)) (at-start .args .at) (Content (c .before .before .from .given .0 .0))
 opening c = subst (OpeningIs _ _) (c .before .before .from .given .1) (c .before .before .before .before .open-cell .ensures)
 
 open-cell-requires : tie.Need-open-cell-requires
@@ -35,7 +37,10 @@ enum-known-count : tie.Need-enum-known-count
 enum-known-count c = search needs
 
 cell-shows-requires : tie.Need-cell-shows-requires
-cell-shows-requires c κs = (search needs, omega (arith, c .before .before .before .before .before .elements .ensures .long, c .before .before .before .before .before .before .before .before .before .before .before .before .pre .2))
+cell-shows-requires c κs =
+    let at-elements = c .before .before .before .before .before in
+    let at-start = at-elements .before .before .before .before .before .before .before in
+    (search needs, omega (arith, at-elements .elements .ensures .long, at-start .pre .2))
 
 returns : tie.Need-returns
 returns c = text-broken _ (subst (OpeningIs _ _) (c .enum-told .given .1) (c .before .before .open-cell .ensures))
@@ -47,13 +52,17 @@ same-length : tie.Need-same-length
 same-length c = c .before .before .before .before .elements .ensures .long
 
 returns-3 : tie.Need-returns-3
-returns-3 c = text-refused _ (opening (c .before .before .before .before .before)) (subst (Takes _ _ _ _ _) (c .before .n .given .1) (c .before .before .before .before .elements .ensures))
+returns-3 c =
+    let at-elements = c .before .before .before .before in let at-elements-lent = at-elements .before in
+    text-refused _ (opening at-elements-lent) (subst (Takes _ _ _ _ _) (c .before .n .given .1) (at-elements .elements .ensures))
 
 same-length-2 : tie.Need-same-length-2
 same-length-2 c = c .before .before .before .before .before .before .elements .ensures .long
 
 returns-4 : tie.Need-returns-4
-returns-4 c = text-shows _ (opening (c .before .before .before .before .before .before .before)) _ (subst (Takes _ _ _ _ _) (c .before .before .before .count .given .1) (c .before .before .before .before .before .before .elements .ensures)) (c .cell-shows .ensures)
+returns-4 c =
+    let at-count = c .before .before .before in let at-elements = at-count .before .before .before in let at-elements-lent = at-elements .before in
+    text-shows _ (opening at-elements-lent) _ (subst (Takes _ _ _ _ _) (at-count .count .given .1) (at-elements .elements .ensures)) (c .cell-shows .ensures)
 
 pub read-text-spec : {M : Type 1} → statement M
 read-text-spec =

@@ -16,7 +16,9 @@ end-tag-requires : tie.Need-end-tag-requires
 end-tag-requires c κs = search needs
 
 returns-2 : tie.Need-returns-2
-returns-2 c = item-from _ (omega arith) (text-tag (now (c .before .before .before .before .before .args .s)) (c .before .before .before .before .before .args .at) (omega arith) (c .before .if2 .taken)) (c .end-tag .ensures)
+returns-2 c =
+    let at-start = c .before .before .before .before .before in
+    item-from _ (omega arith) (text-tag (now (at-start .args .s)) (at-start .args .at) (omega arith) (c .before .if2 .taken)) (c .end-tag .ensures)
 
 add-refer : tie.Need-add-refer
 add-refer c = search needs
@@ -26,7 +28,8 @@ refer-requires c κs = search needs
 
 returns-3 : tie.Need-returns-3
 returns-3 c =
-    let a = c .before .before .before .before .before .before .args in
+    let at-start = c .before .before .before .before .before .before in
+    let a = at-start .args in
     item-from _ (omega arith) (text-reference (now (a .s)) (a .at) (omega arith) (c .before .before .if2 .left) (c .before .if3 .taken)) (c .refer .ensures)
 
 cast-t9 : tie.Need-cast-t9
@@ -36,7 +39,9 @@ add-t4 : tie.Need-add-t4
 add-t4 c = search needs
 
 returns-4 : tie.Need-returns-4
-returns-4 c = record { found = text-plain (now (c .before .before .before .before .before .args .s)) (c .before .before .before .before .before .args .at) (omega arith) (c .before .if2 .left) (c .if3 .left); within = (omega arith, omega arith) }
+returns-4 c =
+    let at-start = c .before .before .before .before .before in
+    record { found = text-plain (now (at-start .args .s)) (at-start .args .at) (omega arith) (c .before .if2 .left) (c .if3 .left); within = (omega arith, omega arith) }
 
 pub character-at-spec : {M : Type 1} → statement M
 character-at-spec =

@@ -11,7 +11,9 @@ use Rattle.tabledata_reading.proofs.characters.refer.Statement.{stateme
 use Rattle.tabledata_reading.proofs.characters.refer.Tie as tie
 
 -- where the name ends
-name : (c : tie.After-known-told) → NameIs (now (c .before .before .before .before .before .args .s)) (c .before .before .before .before .before .args .from) (At (c .before .end .given .0 .0))
+name : (c : tie.After-known-told) →
+    let at-start = c .before .before .before .before .before in
+    NameIs (now (at-start .args .s)) (at-start .args .from) (At (c .before .end .given .0 .0))
 name c = subst (NameIs _ _) (c .before .end .given .1) (c .before .before .before .semicolon .ensures)
 
 semicolon-requires : tie.Need-semicolon-requires
@@ -51,7 +53,9 @@ add-t8 : tie.Need-add-t8
 add-t8 c = omega (arith, name (c .before .before .before .before .before) .within .1)
 
 returns-3 : tie.Need-returns-3
-returns-3 c = name-known (name (c .before .before .before .before .before)) (c .before .before .before .expand .ensures ∙ ap referenceAs (c .before .code .given .1))
+returns-3 c =
+    let at-expand = c .before .before .before in let at-known = at-expand .before .before in
+    name-known (name at-known) (at-expand .expand .ensures ∙ ap referenceAs (c .before .code .given .1))
 
 pub refer-spec : {M : Type 1} → statement M
 refer-spec =

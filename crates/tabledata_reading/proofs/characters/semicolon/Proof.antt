@@ -26,8 +26,9 @@ shared-slice-read-if1 c = search needs
 
 returns : tie.Need-returns Inv-loop μ-loop
 returns c =
-    let p = c .before .before .before .loop .inv in
-    record { found = p .2 ∙ name-done _ _ _ (c .before .before .loop-test .taken) (c .if1 .taken); within = (p .0, c .before .before .loop-test .taken) }
+    let at-loop-test = c .before .before in let at-loop = at-loop-test .before in
+    let p = at-loop .loop .inv in
+    record { found = p .2 ∙ name-done _ _ _ (at-loop-test .loop-test .taken) (c .if1 .taken); within = (p .0, at-loop-test .loop-test .taken) }
 
 add-i : tie.Need-add-i Inv-loop μ-loop
 add-i c = search needs
@@ -37,8 +38,9 @@ loop-less c = search needs
 
 loop-again : tie.Need-loop-again Inv-loop μ-loop
 loop-again c =
-    let s = now (c .before .before .before .before .args .s) in let i = c .before .before .before .loop .i in let p = c .before .before .before .loop .inv in let here = c .before .before .loop-test .taken in
-    let longer = ap (λ (n : List ℕ). characters (reference n) (drop (i + 1) s)) (sym (take-more s (c .before .before .before .before .args .from) i (p .0) here)) in
+    let at-loop = c .before .before .before in let at-start = at-loop .before in
+    let s = now (at-start .args .s) in let i = at-loop .loop .i in let p = at-loop .loop .inv in let here = c .before .before .loop-test .taken in
+    let longer = ap (λ (n : List ℕ). characters (reference n) (drop (i + 1) s)) (sym (take-more s (at-start .args .from) i (p .0) here)) in
     (search needs, search needs, p .2 ∙ name-more _ s i here (c .if1 .left) ∙ longer)
 
 returns-2 : tie.Need-returns-2 Inv-loop μ-loop

@@ -1,9 +1,10 @@
 -- `tabledata_reading::spoiled` meets its contract. The invariant: the number is that of what is left.
-use Prim.Native.Nat.{_-_, _≤_}
+use Prim.Native.Nat.{_-_, _≤_, ℕ}
 use native.Mathlib.Omega.{arith}
 use mathlib.Core.Path.{_∙_, _≡_, ap, refl, subst, sym}
 use lib.ListN.{drop, length}
 use borrow.Author.Needs.{needs}
+use denote.Ref.{now}
 use Rattle.tabledata.specs.TableData.{characters, plain}
 use Rattle.tabledata_reading.proofs.characters.Laws.{spoiled-broken, spoiled-code, spoiled-end}
 use Rattle.tabledata_reading.specs.Characters.{ItemIs, spoiledNumber}
@@ -42,7 +43,9 @@ enum-known-next : tie.Need-enum-known-next Inv-loop μ-loop
 enum-known-next c = search needs
 
 loop-less : tie.Need-loop-less Inv-loop μ-loop
-loop-less c = let t = subst (ItemIs _ _ _) (c .before .next .given .1) (c .before .before .before .character-at .ensures) in omega (arith, t .within .0, t .within .1)
+loop-less c =
+    let at-character-at = c .before .before .before in
+    let t = subst (ItemIs _ _ _) (c .before .next .given .1) (at-character-at .character-at .ensures) in omega (arith, t .within .0, t .within .1)
 
 loop-again : tie.Need-loop-again Inv-loop μ-loop
 loop-again c =

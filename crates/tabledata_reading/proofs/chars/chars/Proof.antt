@@ -26,12 +26,16 @@ abbrev μ-loop : tie.MeasureT-loop
 μ-loop s from scratch₀ i₀ count₀ scratch i count = length s - i
 
 -- with the plain characters
-copied : (c : tie.After-scratch Inv-loop μ-loop) → let a = c .before .before .before .before .before .args in let l = c .before .before .before .loop in let j = c .before .copy-plain .result in
+copied : (c : tie.After-scratch Inv-loop μ-loop) →
+    let at-loop = c .before .before .before in let at-start = at-loop .before .before in
+    let a = at-start .args in let l = at-loop .loop in let j = c .before .copy-plain .result in
     ReadTo CharsAre (now (a .s)) (a .from) j (l .count + (j - l .i)) (now (a .scratch)) (c .before .copy-plain .last .1 .1 .0)
 copied c = chars-copied (c .before .before .before .loop .inv) (c .before .copy-plain .ensures)
 
 -- the character behind them
-item : (c : tie.After-known-told2 Inv-loop μ-loop) → let s = now (c .before .before .before .before .before .before .before .before .before .args .s) in let j = c .before .before .before .before .before .copy-plain .result in
+item : (c : tie.After-known-told2 Inv-loop μ-loop) →
+    let at-copy-plain = c .before .before .before .before .before in let at-start = at-copy-plain .before .before .before .before in
+    let s = now (at-start .args .s) in let j = at-copy-plain .copy-plain .result in
     ItemIs (characters plain (drop j s)) s j (Code (c .before .c .given .0 .0) (c .before .c .given .0 .1 .0))
 item c = subst (ItemIs _ _ _) (c .before .c .given .1) (c .before .before .before .character-at .ensures)
 
@@ -57,7 +61,9 @@ same-length : tie.Need-same-length Inv-loop μ-loop
 same-length c = copied (c .before .before .before) .long
 
 returns : tie.Need-returns Inv-loop μ-loop
-returns c = read-broken (copied (c .before .before .before)) Text (subst (ItemIs _ _ _) (c .enum-told .given .1) (c .before .before .character-at .ensures) .found)
+returns c =
+    let at-scratch = c .before .before .before in
+    read-broken (copied at-scratch) Text (subst (ItemIs _ _ _) (c .enum-told .given .1) (c .before .before .character-at .ensures) .found)
 
 enum-known-next : tie.Need-enum-known-next Inv-loop μ-loop
 enum-known-next c = search needs
@@ -67,8 +73,9 @@ same-length-2 c = copied (c .before .before .before .before) .long
 
 returns-2 : tie.Need-returns-2 Inv-loop μ-loop
 returns-2 c =
-    let r = copied (c .before .before .before .before) in
-    read-end r Text (subst (ItemIs _ _ _) (c .before .next .given .1) (c .before .before .before .character-at .ensures)) (chars-are (r .w) (r .es) (r .means))
+    let at-character-at = c .before .before .before in let at-scratch = at-character-at .before in
+    let r = copied at-scratch in
+    read-end r Text (subst (ItemIs _ _ _) (c .before .next .given .1) (at-character-at .character-at .ensures)) (chars-are (r .w) (r .es) (r .means))
 
 enum-known-c : tie.Need-enum-known-c Inv-loop μ-loop
 enum-known-c c = search needs
@@ -83,7 +90,9 @@ same-length-3 : tie.Need-same-length-3 Inv-loop μ-loop
 same-length-3 c = copied (c .before .before .before .before .before .before .before) .long
 
 returns-3 : tie.Need-returns-3 Inv-loop μ-loop
-returns-3 c = read-no-text (copied (c .before .before .before .before .before .before .before)) Text (no-text (item (c .before .before .before)) (sym (c .before .before .is-text .ensures) ∙ not-true _ (c .before .if1 .taken))) (c .spoiled .ensures)
+returns-3 c =
+    let at-known = c .before .before .before in let at-scratch = at-known .before .before .before .before in
+    read-no-text (copied at-scratch) Text (no-text (item at-known) (sym (c .before .before .is-text .ensures) ∙ not-true _ (c .before .if1 .taken))) (c .spoiled .ensures)
 
 as-element-requires : tie.Need-as-element-requires Inv-loop μ-loop
 as-element-requires c κs = search needs
@@ -92,16 +101,23 @@ put-requires : tie.Need-put-requires Inv-loop μ-loop
 put-requires c κs = search needs
 
 add-count-2 : tie.Need-add-count-2 Inv-loop μ-loop
-add-count-2 c = let t = item (c .before .before .before .before .before .before) in omega (arith, t .within .0, t .within .1, copied (c .before .before .before .before .before .before .before .before .before .before) .few)
+add-count-2 c =
+    let at-known = c .before .before .before .before .before .before in let at-scratch = at-known .before .before .before .before in
+    let t = item at-known in omega (arith, t .within .0, t .within .1, copied at-scratch .few)
 
 loop-less : tie.Need-loop-less Inv-loop μ-loop
-loop-less c = let t = item (c .before .before .before .before .before .before) in omega (arith, t .within .0, t .within .1, c .before .before .before .before .before .before .before .before .before .before .before .copy-plain .ensures .low)
+loop-less c =
+    let at-known = c .before .before .before .before .before .before in let at-copy-plain = at-known .before .before .before .before .before in
+    let t = item at-known in omega (arith, t .within .0, t .within .1, at-copy-plain .copy-plain .ensures .low)
 
 loop-again : tie.Need-loop-again Inv-loop μ-loop
 loop-again c =
-    let r = copied (c .before .before .before .before .before .before .before .before .before .before) in
-    let stored = toZ-ofZ {w = w64} (record { sfits = c .before .before .as-element .ok }) ∙ c .before .before .as-element .ensures in
-    read-more r (item (c .before .before .before .before .before .before)) (sym (c .before .before .before .before .before .is-text .ensures) ∙ not-false _ (c .before .before .before .before .if1 .left)) (c .before .put .ensures) stored (chars-more (r .w) (_ ∷ []) (r .es) (r .means))
+    let at-as-element = c .before .before in let at-if1 = at-as-element .before .before in let at-is-text = at-if1 .before in
+    let at-known = at-is-text .before in let at-scratch = at-known .before .before .before .before in
+    let r = copied at-scratch in
+    let stored = toZ-ofZ {w = w64} (record { sfits = at-as-element .as-element .ok }) ∙ at-as-element .as-element .ensures in
+    read-more r (item at-known) (sym (at-is-text .is-text .ensures) ∙ not-false _ (at-if1 .if1 .left)) (c .before .put .ensures) stored
+    (chars-more (r .w) (_ ∷ []) (r .es) (r .means))
 
 pub chars-spec : {M : Type 1} → statement M
 chars-spec =

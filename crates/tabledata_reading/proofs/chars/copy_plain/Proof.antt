@@ -1,9 +1,10 @@
 -- `tabledata_reading::copy_plain` meets its contract. The invariant: the text passed over is its own elements, which follow those there were.
-use Prim.Native.Nat.{_+_, _-_}
+use Prim.Native.Nat.{_+_, _-_, _≤_, ℕ}
 use native.Mathlib.Omega.{arith}
 use mathlib.Core.Bool.{true}
-use mathlib.Core.List.{append-nil}
+use mathlib.Core.List.{List, _++_, append-nil, map}
 use mathlib.Core.Path.{_∙_, _≡_, refl, sym}
+use lib.IntN.{pos, ℤ}
 use lib.ListN.{drop, getD, length, length-set, take}
 use borrow.Author.Needs.{needs}
 use borrow.Author.Tests.{not-false}
@@ -14,7 +15,7 @@ use Rattle.tabledata.specs.Contracts.{isPlain}
 use Rattle.tabledata_reading.proofs.characters.Laws.{take-more}
 use Rattle.tabledata_reading.proofs.characters.Passing.{passed-none, passed-plain, passed-then}
 use Rattle.tabledata_reading.proofs.chars.Laws.{counted-char}
-use Rattle.tabledata_reading.specs.Elements.{Copied}
+use Rattle.tabledata_reading.specs.Elements.{Copied, Counted, Passed}
 use Rattle.tabledata_reading.proofs.chars.copy_plain.Statement.{statement}
 use Rattle.tabledata_reading.proofs.chars.copy_plain.Tie as tie
 
@@ -41,10 +42,6 @@ shared-slice-read-c c = search needs
 
 cast-c : tie.Need-cast-c Inv-loop μ-loop
 cast-c c = omega (arith, c .shared-slice-known2 .given (c .before .before .before .loop .i))
-
--- the byte at the place stands for itself
-is-plain : (c : tie.Else2 Inv-loop μ-loop) → isPlain (getD (now (c .before .before .before .before .before .before .before .args .s)) (c .before .before .before .before .before .loop .i) 0) ≡ true
-is-plain c = sym (c .before .is-plain .ensures) ∙ not-false _ (c .if2 .left)
 
 is-plain-requires : tie.Need-is-plain-requires Inv-loop μ-loop
 is-plain-requires c κs = search needs
@@ -73,17 +70,24 @@ add-i c = search needs
 loop-less : tie.Need-loop-less Inv-loop μ-loop
 loop-less c = search needs
 
+-- the byte at the place stands for itself
+is-plain : (c : tie.Else2 Inv-loop μ-loop) →
+    let at-loop = c .before .before .before .before .before in let at-start = at-loop .before .before in
+    isPlain (getD (now (at-start .args .s)) (at-loop .loop .i) 0) ≡ true
+is-plain c = sym (c .before .is-plain .ensures) ∙ not-false _ (c .if2 .left)
+
 loop-again : tie.Need-loop-again Inv-loop μ-loop
 loop-again c =
-    let s = now (c .before .before .before .before .before .before .before .before .args .s) in let from = c .before .before .before .before .before .before .before .before .args .from in let i = c .before .before .before .before .before .before .loop .i in let p = c .before .before .before .before .before .before .loop .inv in
-    let more = take-more s from i (p .1 .low) (c .before .before .before .before .before .loop-test .taken) in
-    let n : c .before .before .before .before .before .before .before .before .args .count + (i + 1 - from) ≡ c .before .before .before .before .before .before .loop .k + 1 = omega (arith, p .0, p .1 .low) in (
+    let at-loop-test = c .before .before .before .before .before in let at-loop = at-loop-test .before in let at-start = at-loop .before .before in
+    let s = now (at-start .args .s) in let from = at-start .args .from in let i = at-loop .loop .i in let p = at-loop .loop .inv in
+    let more = take-more s from i (p .1 .low) (at-loop-test .loop-test .taken) in
+    let n : at-start .args .count + (i + 1 - from) ≡ at-loop .loop .k + 1 = omega (arith, p .0, p .1 .low) in (
       sym n,
       record {
-        passed = rw more (passed-then (p .1 .passed) (passed-plain s i (c .before .before .before .before .before .loop-test .taken) (is-plain (c .before))));
+        passed = rw more (passed-then (p .1 .passed) (passed-plain s i (at-loop-test .loop-test .taken) (is-plain (c .before))));
         counted = λ es q.
             rw (n, more, toZ-ofZ {w = w64} (record { sfits = c .as-element .ok }), c .as-element .ensures)
-            (counted-char es (take (i - from) (drop from s)) (getD s i 0) (c .before .before .before .before .before .before .loop .k) (c .before .before .before .before .before .before .loop .scratch) (rw (p .0) (p .1 .counted es q)));
+            (counted-char es (take (i - from) (drop from s)) (getD s i 0) (at-loop .loop .k) (at-loop .loop .scratch) (rw (p .0) (p .1 .counted es q)));
         low = omega (arith, p .1 .low);
         high = omega arith;
         long = simp length-set (p .1 .long);

@@ -1,6 +1,7 @@
 -- `tabledata_reading::add_integer` meets its contract: a word that was not begun adds nothing, another what it reads as.
 use Prim.Native.Nat.{ℕ}
 use native.Mathlib.Omega.{arith}
+use mathlib.Core.Bool.{Bool}
 use mathlib.Core.List.{List, [], _∷_, append-nil}
 use mathlib.Core.Path.{_∙_, _≡_, ap, refl, sym}
 use lib.IntN.{ℤ}
@@ -27,8 +28,10 @@ begun : (c : tie.After-is-begun) (w : List ℕ) → c .before .args .word ≡ fe
 begun c w e = ap (λ (x : Word). begunForm (x .form)) (sym e) ∙ sym (c .is-begun .ensures)
 
 -- a word that has: its element is what it reads as
-read-word : (c : tie.After-read) (w : List ℕ) (r : Result Fault ℤ) → c .before .before .before .args .word ≡ feed fresh w → readingOf (c .read .result) ≡ r
-    → let k = c .before .before .before .args .kind in every (integerWord (isSigned k) (size k)) (notEmpty (w ∷ [])) ≡ (refusedAs (λ f. 11) r >>= λ e. good (e ∷ []))
+read-word : (c : tie.After-read) (w : List ℕ) (r : Result Fault ℤ) →
+    let at-start = c .before .before .before in
+    at-start .args .word ≡ feed fresh w → readingOf (c .read .result) ≡ r → let k = at-start .args .kind in
+    every (integerWord (isSigned k) (size k)) (notEmpty (w ∷ [])) ≡ (refusedAs (λ f. 11) r >>= λ e. good (e ∷ []))
 read-word c w r e q =
     let k = c .before .before .before .args .kind in
     let some = fed-some w (begun (c .before .before) w e ∙ not-false _ (c .before .if1 .left)) in
@@ -79,11 +82,13 @@ same-length : tie.Need-same-length
 same-length c = search needs
 
 returns-4 : tie.Need-returns-4
-returns-4 c = record {
-  found = λ w t e. (_, read-word (c .before .before .before .before .before .before) w _ e (ap readingOf (c .before .before .before .before .z .given .1)), λ es p. put-more p (c .before .put .ensures) (search needs));
-  most = omega arith;
-  long = ap length (c .before .put .ensures) ∙ simp length-set;
-}
+returns-4 c =
+    let at-z = c .before .before .before .before in let at-read = at-z .before .before in
+    record {
+      found = λ w t e. (_, read-word at-read w _ e (ap readingOf (at-z .z .given .1)), λ es p. put-more p (c .before .put .ensures) (search needs));
+      most = omega arith;
+      long = ap length (c .before .put .ensures) ∙ simp length-set;
+    }
 
 pub add-integer-spec : {M : Type 1} → statement M
 add-integer-spec =

@@ -1,8 +1,8 @@
 -- `tabledata_reading::integer_piece` meets its contract. The invariant: the letters passed over are a word so far, as the integers' reader has it.
-use Prim.Native.Nat.{_-_}
+use Prim.Native.Nat.{_-_, ℕ}
 use native.Mathlib.Omega.{arith}
 use mathlib.Core.Bool.{true}
-use mathlib.Core.Path.{_∙_, _≡_, subst, sym}
+use mathlib.Core.Path.{_∙_, _≡_, refl, subst, sym}
 use lib.ListN.{drop, length}
 use borrow.Author.Needs.{needs}
 use borrow.Author.Tests.{not-false, not-true}
@@ -24,8 +24,9 @@ abbrev μ-loop : tie.MeasureT-loop
 μ-loop s from i₀ word₀ i word = length s - i
 
 -- the next character
-item : (c : tie.After-known-told2 Inv-loop μ-loop) → let s = now (c .before .before .before .before .before .before .before .args .s) in let i = c .before .before .before .before .loop .i in
-    ItemIs (characters plain (drop i s)) s i (Code (c .before .c .given .0 .0) (c .before .c .given .0 .1 .0))
+item : (c : tie.After-known-told2 Inv-loop μ-loop) →
+    let at-loop = c .before .before .before .before in let at-start = at-loop .before .before .before in
+    let s = now (at-start .args .s) in let i = at-loop .loop .i in ItemIs (characters plain (drop i s)) s i (Code (c .before .c .given .0 .0) (c .before .c .given .0 .1 .0))
 item c = subst (ItemIs _ _ _) (c .before .c .given .1) (c .before .before .before .character-at .ensures)
 
 is-text : (c : tie.Else1 Inv-loop μ-loop) → isText (c .before .before .before .c .given .0 .0) ≡ true
@@ -44,13 +45,17 @@ enum-told : tie.Need-enum-told Inv-loop μ-loop
 enum-told c = search needs
 
 returns : tie.Need-returns Inv-loop μ-loop
-returns c = record { found = word-broken (c .before .before .before .loop .inv) (subst (ItemIs _ _ _) (c .enum-told .given .1) (c .before .before .character-at .ensures) .found) }
+returns c =
+    let at-loop = c .before .before .before in
+    record { found = word-broken (at-loop .loop .inv) (subst (ItemIs _ _ _) (c .enum-told .given .1) (c .before .before .character-at .ensures) .found) }
 
 enum-known-next : tie.Need-enum-known-next Inv-loop μ-loop
 enum-known-next c = search needs
 
 returns-2 : tie.Need-returns-2 Inv-loop μ-loop
-returns-2 c = record { found = word-ends (c .before .before .before .before .loop .inv) (subst (ItemIs _ _ _) (c .before .next .given .1) (c .before .before .before .character-at .ensures)) }
+returns-2 c =
+    let at-character-at = c .before .before .before in let at-loop = at-character-at .before in
+    record { found = word-ends (at-loop .loop .inv) (subst (ItemIs _ _ _) (c .before .next .given .1) (at-character-at .character-at .ensures)) }
 
 enum-known-c : tie.Need-enum-known-c Inv-loop μ-loop
 enum-known-c c = search needs
@@ -59,13 +64,17 @@ is-text-requires : tie.Need-is-text-requires Inv-loop μ-loop
 is-text-requires c κs = search needs
 
 returns-3 : tie.Need-returns-3 Inv-loop μ-loop
-returns-3 c = record { found = word-no-text (c .before .before .before .before .before .before .loop .inv) (item (c .before .before)) (sym (c .before .is-text .ensures) ∙ not-true _ (c .if1 .taken)) }
+returns-3 c =
+    let at-loop = c .before .before .before .before .before .before in
+    record { found = word-no-text (at-loop .loop .inv) (item (c .before .before)) (sym (c .before .is-text .ensures) ∙ not-true _ (c .if1 .taken)) }
 
 is-white-requires : tie.Need-is-white-requires Inv-loop μ-loop
 is-white-requires c κs = search needs
 
 returns-4 : tie.Need-returns-4 Inv-loop μ-loop
-returns-4 c = record { found = word-cuts (c .before .before .before .before .before .before .before .before .loop .inv) (item (c .before .before .before .before)) (is-text (c .before .before)) (sym (c .before .is-white .ensures) ∙ c .if2 .taken) }
+returns-4 c =
+    let at-known = c .before .before .before .before in let at-loop = at-known .before .before .before .before in
+    record { found = word-cuts (at-loop .loop .inv) (item at-known) (is-text (c .before .before)) (sym (c .before .is-white .ensures) ∙ c .if2 .taken) }
 
 cast-next : tie.Need-cast-next Inv-loop μ-loop
 cast-next c = omega (arith, text-lt _ (is-text (c .before .before)) .1)
@@ -78,8 +87,9 @@ loop-less c = let t = item (c .before .before .before .before .before) in omega 
 
 loop-again : tie.Need-loop-again Inv-loop μ-loop
 loop-again c =
-    let p = c .before .before .before .before .before .before .before .before .before .loop .inv in
-    word-more p (item (c .before .before .before .before .before)) (is-text (c .before .before .before)) (sym (c .before .before .is-white .ensures) ∙ c .before .if2 .left) (c .next2 .ensures ∙ fed-letter _ (p .w) _ (p .stands))
+    let at-if1 = c .before .before .before in let at-known = at-if1 .before .before in let at-loop = at-known .before .before .before .before in
+    let p = at-loop .loop .inv in
+    word-more p (item at-known) (is-text at-if1) (sym (c .before .before .is-white .ensures) ∙ c .before .if2 .left) (c .next2 .ensures ∙ fed-letter _ (p .w) _ (p .stands))
 
 pub integer-piece-spec : {M : Type 1} → statement M
 integer-piece-spec =

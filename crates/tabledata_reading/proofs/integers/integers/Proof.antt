@@ -22,21 +22,25 @@ abbrev μ-loop : tie.MeasureT-loop
 μ-loop s from kind scratch₀ i₀ count₀ scratch i count = length s - i
 
 -- a word that was read at once
-quick-cut : (c : tie.After-put-arg Inv-loop μ-loop) → let x = c .before .before .z .given .0 in let a = c .before .before .before .before .before .before .before .args in
-    CutAt (Means (a .kind) (x .0)) (now (a .s)) (c .before .before .before .before .before .loop .i) (x .1 .0)
+quick-cut : (c : tie.After-put-arg Inv-loop μ-loop) →
+    let at-loop = c .before .before .before .before .before in let at-start = at-loop .before .before in
+    let x = c .before .before .z .given .0 in let a = at-start .args in CutAt (Means (a .kind) (x .0)) (now (a .s)) (at-loop .loop .i) (x .1 .0)
 quick-cut c = subst (QuickWordIs _ _ _) (c .before .before .z .given .1) (c .before .before .before .before .quick-word .ensures) .found
 
-quick-last : (c : tie.After-put-arg2 Inv-loop μ-loop) → let x = c .before .before .z2 .given .0 in let a = c .before .before .before .before .before .before .before .args in
-    LastAt (Means (a .kind) (x .0)) (now (a .s)) (c .before .before .before .before .before .loop .i) (x .1 .0)
+quick-last : (c : tie.After-put-arg2 Inv-loop μ-loop) →
+    let at-loop = c .before .before .before .before .before in let at-start = at-loop .before .before in
+    let x = c .before .before .z2 .given .0 in let a = at-start .args in LastAt (Means (a .kind) (x .0)) (now (a .s)) (at-loop .loop .i) (x .1 .0)
 quick-last c = subst (QuickWordIs _ _ _) (c .before .before .z2 .given .1) (c .before .before .before .before .quick-word .ensures) .found
 
 -- a word read letter by letter
-last : (c : tie.After-add-integer-arg Inv-loop μ-loop) → let x = c .before .before .word .given .0 in
-    LastAt (λ w. x .0 ≡ feed fresh w) (now (c .before .before .before .before .before .before .before .before .before .before .args .s)) (c .before .before .before .before .before .before .before .before .loop .i) (x .1 .0)
+last : (c : tie.After-add-integer-arg Inv-loop μ-loop) →
+    let at-loop = c .before .before .before .before .before .before .before .before in let at-start = at-loop .before .before in
+    let x = c .before .before .word .given .0 in LastAt (λ w. x .0 ≡ feed fresh w) (now (at-start .args .s)) (at-loop .loop .i) (x .1 .0)
 last c = subst (NumeralIs _ _) (c .before .before .word .given .1) (c .before .before .before .before .integer-piece .ensures) .found
 
-cut : (c : tie.After-add-integer-arg2 Inv-loop μ-loop) → let x = c .before .before .word2 .given .0 in
-    CutAt (λ w. x .0 ≡ feed fresh w) (now (c .before .before .before .before .before .before .before .before .before .before .args .s)) (c .before .before .before .before .before .before .before .before .loop .i) (x .1 .0)
+cut : (c : tie.After-add-integer-arg2 Inv-loop μ-loop) →
+    let at-loop = c .before .before .before .before .before .before .before .before in let at-start = at-loop .before .before in
+    let x = c .before .before .word2 .given .0 in CutAt (λ w. x .0 ≡ feed fresh w) (now (at-start .args .s)) (at-loop .loop .i) (x .1 .0)
 cut c = subst (NumeralIs _ _) (c .before .before .word2 .given .1) (c .before .before .before .before .integer-piece .ensures) .found
 
 loop-holds : tie.Need-loop-holds Inv-loop μ-loop
@@ -59,8 +63,9 @@ loop-less c = let u = quick-cut (c .before .before) in omega (arith, u .low, u .
 
 loop-again : tie.Need-loop-again Inv-loop μ-loop
 loop-again c =
-    let kind = c .before .before .before .before .before .before .before .before .before .args .kind in
-    word-cut (whole kind) (integers-are kind) (c .before .before .before .before .before .before .before .loop .inv) (quick-cut (c .before .before)) (quick-adds kind (c .before .put .ensures) (search needs))
+    let at-loop = c .before .before .before .before .before .before .before in let at-start = at-loop .before .before in
+    let kind = at-start .args .kind in
+    word-cut (whole kind) (integers-are kind) (at-loop .loop .inv) (quick-cut (c .before .before)) (quick-adds kind (c .before .put .ensures) (search needs))
 
 enum-known-z-2 : tie.Need-enum-known-z-2 Inv-loop μ-loop
 enum-known-z-2 c = search needs
@@ -76,8 +81,9 @@ same-length c = ap length (c .before .put2 .ensures) ∙ simp length-set (c .bef
 
 returns : tie.Need-returns Inv-loop μ-loop
 returns c =
-    let kind = c .before .before .before .before .before .before .before .before .before .args .kind in
-    word-last (whole kind) (integers-are kind) (c .before .before .before .before .before .before .before .loop .inv) (quick-last (c .before .before)) (quick-adds kind (c .before .put2 .ensures) (search needs))
+    let at-loop = c .before .before .before .before .before .before .before in let at-start = at-loop .before .before in
+    let kind = at-start .args .kind in
+    word-last (whole kind) (integers-are kind) (at-loop .loop .inv) (quick-last (c .before .before)) (quick-adds kind (c .before .put2 .ensures) (search needs))
 
 enum-told : tie.Need-enum-told Inv-loop μ-loop
 enum-told c = search needs
@@ -92,7 +98,9 @@ same-length-2 : tie.Need-same-length-2 Inv-loop μ-loop
 same-length-2 c = c .before .before .before .before .before .before .loop .inv .long
 
 returns-2 : tie.Need-returns-2 Inv-loop μ-loop
-returns-2 c = read-broken (c .before .before .before .before .before .before .loop .inv) _ (subst (NumeralIs _ _) (c .enum-told2 .given .1) (c .before .before .integer-piece .ensures) .found)
+returns-2 c =
+    let at-loop = c .before .before .before .before .before .before in
+    read-broken (at-loop .loop .inv) _ (subst (NumeralIs _ _) (c .enum-told2 .given .1) (c .before .before .integer-piece .ensures) .found)
 
 enum-known-next : tie.Need-enum-known-next Inv-loop μ-loop
 enum-known-next c = search needs
@@ -104,7 +112,9 @@ same-length-3 : tie.Need-same-length-3 Inv-loop μ-loop
 same-length-3 c = c .before .before .before .before .before .before .before .before .loop .inv .long
 
 returns-3 : tie.Need-returns-3 Inv-loop μ-loop
-returns-3 c = read-no-text (c .before .before .before .before .before .before .before .before .loop .inv) _ (subst (NumeralIs _ _) (c .before .before .next .given .1) (c .before .before .before .before .integer-piece .ensures) .found) (c .spoiled .ensures)
+returns-3 c =
+    let at-integer-piece = c .before .before .before .before in let at-loop = at-integer-piece .before .before .before .before in
+    read-no-text (at-loop .loop .inv) _ (subst (NumeralIs _ _) (c .before .before .next .given .1) (at-integer-piece .integer-piece .ensures) .found) (c .spoiled .ensures)
 
 enum-known-word : tie.Need-enum-known-word Inv-loop μ-loop
 enum-known-word c = search needs
@@ -119,20 +129,30 @@ enum-told-3 : tie.Need-enum-told-3 Inv-loop μ-loop
 enum-told-3 c = search needs
 
 same-length-4 : tie.Need-same-length-4 Inv-loop μ-loop
-same-length-4 c = c .before .before .before .add-integer .ensures .long ∙ c .before .before .before .before .before .before .before .before .before .before .before .before .loop .inv .long
+same-length-4 c =
+    let at-add-integer = c .before .before .before in
+    let at-loop = at-add-integer .before .before .before .before .before .before .before .before .before in
+    at-add-integer .add-integer .ensures .long ∙ at-loop .loop .inv .long
 
 returns-4 : tie.Need-returns-4 Inv-loop μ-loop
 returns-4 c =
-    let none = subst (Adds _ _ _ _ _) (c .enum-told3 .given .1) (c .before .before .before .add-integer .ensures) in
-    word-last-none _ (integers-are (c .before .before .before .before .before .before .before .before .before .before .before .before .before .before .args .kind)) (c .before .before .before .before .before .before .before .before .before .before .before .before .loop .inv) (last (c .before .before .before .before)) none
+    let at-add-integer = c .before .before .before in let at-add-integer-lent = at-add-integer .before in
+    let at-loop = at-add-integer-lent .before .before .before .before .before .before .before .before in let at-start = at-loop .before .before in
+    let none = subst (Adds _ _ _ _ _) (c .enum-told3 .given .1) (at-add-integer .add-integer .ensures) in
+    word-last-none _ (integers-are (at-start .args .kind)) (at-loop .loop .inv) (last at-add-integer-lent) none
 
 same-length-5 : tie.Need-same-length-5 Inv-loop μ-loop
-same-length-5 c = c .before .before .before .before .add-integer .ensures .long ∙ c .before .before .before .before .before .before .before .before .before .before .before .before .before .loop .inv .long
+same-length-5 c =
+    let at-add-integer = c .before .before .before .before in
+    let at-loop = at-add-integer .before .before .before .before .before .before .before .before .before in
+    at-add-integer .add-integer .ensures .long ∙ at-loop .loop .inv .long
 
 returns-5 : tie.Need-returns-5 Inv-loop μ-loop
 returns-5 c =
-    let added = subst (Adds _ _ _ _ _) (c .before .all .given .1) (c .before .before .before .before .add-integer .ensures) in
-    word-last _ (integers-are (c .before .before .before .before .before .before .before .before .before .before .before .before .before .before .before .args .kind)) (c .before .before .before .before .before .before .before .before .before .before .before .before .before .loop .inv) (last (c .before .before .before .before .before)) added
+    let at-add-integer = c .before .before .before .before in let at-add-integer-lent = at-add-integer .before in
+    let at-loop = at-add-integer-lent .before .before .before .before .before .before .before .before in let at-start = at-loop .before .before in
+    let added = subst (Adds _ _ _ _ _) (c .before .all .given .1) (at-add-integer .add-integer .ensures) in
+    word-last _ (integers-are (at-start .args .kind)) (at-loop .loop .inv) (last at-add-integer-lent) added
 
 enum-known-word-2 : tie.Need-enum-known-word-2 Inv-loop μ-loop
 enum-known-word-2 c = search needs
@@ -150,20 +170,27 @@ spoiled-requires-2 : tie.Need-spoiled-requires-2 Inv-loop μ-loop
 spoiled-requires-2 c κs = cut (c .before .before .before .before) .high
 
 same-length-6 : tie.Need-same-length-6 Inv-loop μ-loop
-same-length-6 c = c .before .before .before .before .add-integer2 .ensures .long ∙ c .before .before .before .before .before .before .before .before .before .before .before .before .before .loop .inv .long
+same-length-6 c =
+    let at-add-integer2 = c .before .before .before .before in
+    let at-loop = at-add-integer2 .before .before .before .before .before .before .before .before .before in
+    at-add-integer2 .add-integer2 .ensures .long ∙ at-loop .loop .inv .long
 
 returns-6 : tie.Need-returns-6 Inv-loop μ-loop
 returns-6 c =
-    let none = subst (Adds _ _ _ _ _) (c .before .enum-told4 .given .1) (c .before .before .before .before .add-integer2 .ensures) in
-    word-cut-none _ (integers-are (c .before .before .before .before .before .before .before .before .before .before .before .before .before .before .before .args .kind)) (c .before .before .before .before .before .before .before .before .before .before .before .before .before .loop .inv) (cut (c .before .before .before .before .before)) none (c .spoiled2 .ensures)
+    let at-add-integer2 = c .before .before .before .before in let at-add-integer2-lent = at-add-integer2 .before in
+    let at-loop = at-add-integer2-lent .before .before .before .before .before .before .before .before in let at-start = at-loop .before .before in
+    let none = subst (Adds _ _ _ _ _) (c .before .enum-told4 .given .1) (at-add-integer2 .add-integer2 .ensures) in
+    word-cut-none _ (integers-are (at-start .args .kind)) (at-loop .loop .inv) (cut at-add-integer2-lent) none (c .spoiled2 .ensures)
 
 loop-less-2 : tie.Need-loop-less-2 Inv-loop μ-loop
 loop-less-2 c = let u = cut (c .before .before .before .before .before) in omega (arith, u .low, u .high)
 
 loop-again-2 : tie.Need-loop-again-2 Inv-loop μ-loop
 loop-again-2 c =
-    let added = subst (Adds _ _ _ _ _) (c .before .more .given .1) (c .before .before .before .before .add-integer2 .ensures) in
-    word-cut _ (integers-are (c .before .before .before .before .before .before .before .before .before .before .before .before .before .before .before .args .kind)) (c .before .before .before .before .before .before .before .before .before .before .before .before .before .loop .inv) (cut (c .before .before .before .before .before)) added
+    let at-add-integer2 = c .before .before .before .before in let at-add-integer2-lent = at-add-integer2 .before in
+    let at-loop = at-add-integer2-lent .before .before .before .before .before .before .before .before in let at-start = at-loop .before .before in
+    let added = subst (Adds _ _ _ _ _) (c .before .more .given .1) (at-add-integer2 .add-integer2 .ensures) in
+    word-cut _ (integers-are (at-start .args .kind)) (at-loop .loop .inv) (cut at-add-integer2-lent) added
 
 pub integers-spec : {M : Type 1} → statement M
 integers-spec =

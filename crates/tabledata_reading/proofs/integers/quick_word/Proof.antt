@@ -16,8 +16,12 @@ use Rattle.tabledata_reading.proofs.integers.quick_word.Statement.{stat
 use Rattle.tabledata_reading.proofs.integers.quick_word.Tie as tie
 
 -- the digits, and their integer
-digits : (c : tie.After-shared-slice-known2) → let a = c .before .before .before .before .before .before .before .before .args in let x = c .before .before .before .z .given .0 in QuickAt (a .kind) (now (a .s)) (a .from) (x .0) (x .1 .0)
-digits c = let a = c .before .before .before .before .before .before .before .before .args in subst (QuickIs (a .kind) (now (a .s)) (a .from)) (c .before .before .before .z .given .1) (c .before .before .before .before .before .quick-integer .ensures)
+digits : (c : tie.After-shared-slice-known2) →
+    let at-z = c .before .before .before in let at-start = at-z .before .before .before .before .before in
+    let a = at-start .args in let x = at-z .z .given .0 in QuickAt (a .kind) (now (a .s)) (a .from) (x .0) (x .1 .0)
+digits c =
+    let at-z = c .before .before .before in let at-quick-integer = at-z .before .before in let at-start = at-quick-integer .before .before .before in
+    let a = at-start .args in subst (QuickIs (a .kind) (now (a .s)) (a .from)) (at-z .z .given .1) (at-quick-integer .quick-integer .ensures)
 
 integer : (c : tie.After-shared-slice-known2) → let z = c .before .before .before .z .given .0 .0 in z ≡ toZ w64 (ofZ w64 z)
 integer c = let z = c .before .before .before .z .given .0 .0 in let e : toZ w64 (ofZ w64 z) ≡ z = search needs in sym e
@@ -45,8 +49,10 @@ add-t16 c = search needs
 
 returns-3 : tie.Need-returns-3
 returns-3 c =
-    let a = c .before .before .before .before .before .before .before .before .before .args in
-    subst (λ (z : ℤ). QuickWordIs (a .kind) (now (a .s)) (a .from) (QuickWord.Cut z (c .before .before .before .before .z .given .0 .1 .0 + 1))) (integer (c .before)) (record { found = quick-cut (digits (c .before)) (omega arith) (c .if3 .taken) })
+    let at-z = c .before .before .before .before in let at-start = at-z .before .before .before .before .before in
+    let a = at-start .args in
+    subst (λ (z : ℤ). QuickWordIs (a .kind) (now (a .s)) (a .from) (QuickWord.Cut z (at-z .z .given .0 .1 .0 + 1))) (integer (c .before))
+    (record { found = quick-cut (digits (c .before)) (omega arith) (c .if3 .taken) })
 
 slice-aggregate-goes-on : tie.Need-slice-aggregate-goes-on
 slice-aggregate-goes-on c = search needs
@@ -68,9 +74,12 @@ returns-5 c = search needs
 
 returns-6 : tie.Need-returns-6
 returns-6 c =
-    let a = c .before .before .before .before .before .before .before .before .before .before .before .before .before .before .args in
-    let t = subst (TagIs _ _ _) (c .before .next .given .1) (c .before .before .before .goes-on .ensures) in
-    subst (λ (z : ℤ). QuickWordIs (a .kind) (now (a .s)) (a .from) (QuickWord.Last z (c .before .next .given .0 .0))) (integer (c .before .before .before .before .before .before)) (record { found = quick-last (digits (c .before .before .before .before .before .before)) t })
+    let at-goes-on = c .before .before .before in let at-byte = at-goes-on .before .before .before in
+    let at-start = at-byte .before .before .before .before .before .before .before .before in
+    let a = at-start .args in
+    let t = subst (TagIs _ _ _) (c .before .next .given .1) (at-goes-on .goes-on .ensures) in
+    subst (λ (z : ℤ). QuickWordIs (a .kind) (now (a .s)) (a .from) (QuickWord.Last z (c .before .next .given .0 .0))) (integer at-byte)
+    (record { found = quick-last (digits at-byte) t })
 
 pub quick-word-spec : {M : Type 1} → statement M
 quick-word-spec =

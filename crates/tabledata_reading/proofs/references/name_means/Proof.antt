@@ -14,10 +14,14 @@ not-amp c = sym (c .before .same-bytes .ensures) ∙ c .if1 .left
 not-lt : (c : tie.Else2) → same (bytes "lt") (now (c .before .before .before .before .before .before .before .args .name)) ≡ false
 not-lt c = sym (c .before .same-bytes2 .ensures) ∙ c .if2 .left
 
-not-gt : (c : tie.Else3) → same (bytes "gt") (now (c .before .before .before .before .before .before .before .before .before .before .args .name)) ≡ false
+not-gt : (c : tie.Else3) →
+    let at-start = c .before .before .before .before .before .before .before .before .before .before in
+    same (bytes "gt") (now (at-start .args .name)) ≡ false
 not-gt c = sym (c .before .same-bytes3 .ensures) ∙ c .if3 .left
 
-not-quot : (c : tie.Else4) → same (bytes "quot") (now (c .before .before .before .before .before .before .before .before .before .before .before .before .before .args .name)) ≡ false
+not-quot : (c : tie.Else4) →
+    let at-start = c .before .before .before .before .before .before .before .before .before .before .before .before .before in
+    same (bytes "quot") (now (at-start .args .name)) ≡ false
 not-quot c = sym (c .before .same-bytes4 .ensures) ∙ c .if4 .left
 
 slice-aggregate-same-bytes : tie.Need-slice-aggregate-same-bytes
@@ -48,7 +52,9 @@ same-bytes-requires-3 c κs = search needs
 
 returns-3 : tie.Need-returns-3
 unfolding named names
-returns-3 c = rw (not-amp (c .before .before .before .before .before .before), not-lt (c .before .before .before), sym (c .before .same-bytes3 .ensures) ∙ c .if3 .taken)
+returns-3 c =
+    let at-if2 = c .before .before .before in let at-if1 = at-if2 .before .before .before in
+    rw (not-amp at-if1, not-lt at-if2, sym (c .before .same-bytes3 .ensures) ∙ c .if3 .taken)
 
 slice-aggregate-same-bytes-4 : tie.Need-slice-aggregate-same-bytes-4
 slice-aggregate-same-bytes-4 c = search needs
@@ -58,7 +64,9 @@ same-bytes-requires-4 c κs = search needs
 
 returns-4 : tie.Need-returns-4
 unfolding named names
-returns-4 c = rw (not-amp (c .before .before .before .before .before .before .before .before .before), not-lt (c .before .before .before .before .before .before), not-gt (c .before .before .before), sym (c .before .same-bytes4 .ensures) ∙ c .if4 .taken)
+returns-4 c =
+    let at-if3 = c .before .before .before in let at-if2 = at-if3 .before .before .before in let at-if1 = at-if2 .before .before .before in
+    rw (not-amp at-if1, not-lt at-if2, not-gt at-if3, sym (c .before .same-bytes4 .ensures) ∙ c .if4 .taken)
 
 slice-aggregate-same-bytes-5 : tie.Need-slice-aggregate-same-bytes-5
 slice-aggregate-same-bytes-5 c = search needs
@@ -68,11 +76,17 @@ same-bytes-requires-5 c κs = search needs
 
 returns-5 : tie.Need-returns-5
 unfolding named names
-returns-5 c = rw (not-amp (c .before .before .before .before .before .before .before .before .before .before .before .before), not-lt (c .before .before .before .before .before .before .before .before .before), not-gt (c .before .before .before .before .before .before), not-quot (c .before .before .before), sym (c .before .same-bytes5 .ensures) ∙ c .if5 .taken)
+returns-5 c =
+    let at-if4 = c .before .before .before in let at-if3 = at-if4 .before .before .before in let at-if2 = at-if3 .before .before .before in
+    let at-if1 = at-if2 .before .before .before in
+    rw (not-amp at-if1, not-lt at-if2, not-gt at-if3, not-quot at-if4, sym (c .before .same-bytes5 .ensures) ∙ c .if5 .taken)
 
 returns-6 : tie.Need-returns-6
 unfolding named names
-returns-6 c = rw (not-amp (c .before .before .before .before .before .before .before .before .before .before .before .before), not-lt (c .before .before .before .before .before .before .before .before .before), not-gt (c .before .before .before .before .before .before), not-quot (c .before .before .before), sym (c .before .same-bytes5 .ensures) ∙ c .if5 .left)
+returns-6 c =
+    let at-if4 = c .before .before .before in let at-if3 = at-if4 .before .before .before in let at-if2 = at-if3 .before .before .before in
+    let at-if1 = at-if2 .before .before .before in
+    rw (not-amp at-if1, not-lt at-if2, not-gt at-if3, not-quot at-if4, sym (c .before .same-bytes5 .ensures) ∙ c .if5 .left)
 
 pub name-means-spec : {M : Type 1} → statement M
 name-means-spec =

@@ -22,4 +22,9 @@ returns c = let w = c .before .before .skip-white .ensures in tag-from _ (w .low
 
 pub row-begins-spec : {M : Type 1} → statement M
 row-begins-spec =
-    tie.close (tie.spec skip-white-requires slice-aggregate-whole-tag whole-tag-requires returns)
+    tie.close
+    (tie.spec
+    skip-white-requires
+    slice-aggregate-whole-tag
+    whole-tag-requires
+    returns)

@@ -38,11 +38,12 @@ truth-of-requires : tie.Need-truth-of-requires
 truth-of-requires c κs = search needs
 
 returns-2 : tie.Need-returns-2
-returns-2 c = record {
-  found = λ w t e. added-word truthWord w _ (spelling-some w (λ n. c .before .before .if1 .left (e ∙ n))) (some-word (c .before) w t e ∙ truth-none _ (c .if2 .taken));
-  most = tt;
-  long = refl;
-}
+returns-2 c =
+    record {
+      found = λ w t e. added-word truthWord w _ (spelling-some w (λ n. c .before .before .if1 .left (e ∙ n))) (some-word (c .before) w t e ∙ truth-none _ (c .if2 .taken));
+      most = tt;
+      long = refl;
+    }
 
 as-element-requires : tie.Need-as-element-requires
 as-element-requires c κs = search needs
@@ -58,11 +59,13 @@ same-length c = search needs
 
 returns-3 : tie.Need-returns-3
 returns-3 c =
-    let stored = toZ-ofZ {w = w64} (record { sfits = c .before .before .as-element .ok }) ∙ c .before .before .as-element .ensures in
+    let at-as-element = c .before .before in let at-if2 = at-as-element .before .before in let at-truth-of = at-if2 .before in
+    let at-if1 = at-truth-of .before in
+    let stored = toZ-ofZ {w = w64} (record { sfits = at-as-element .as-element .ok }) ∙ at-as-element .as-element .ensures in
     record {
       found = λ w t e. (
         _,
-        added-word truthWord w _ (spelling-some w (λ n. c .before .before .before .before .before .before .if1 .left (e ∙ n))) (some-word (c .before .before .before .before .before) w t e ∙ truth-some _ (c .before .before .before .before .if2 .left)),
+        added-word truthWord w _ (spelling-some w (λ n. at-if1 .if1 .left (e ∙ n))) (some-word at-truth-of w t e ∙ truth-some _ (at-if2 .if2 .left)),
         λ es p. put-more p (c .before .put .ensures) stored,
       );
       most = omega arith;

@@ -21,13 +21,15 @@ abbrev μ-loop : tie.MeasureT-loop
 μ-loop s from scratch₀ i₀ count₀ scratch i count = length s - i
 
 -- the last word
-last : (c : tie.After-add-truth-arg Inv-loop μ-loop) → let x = c .before .before .word .given .0 in
-    LastAt (λ w. x .0 ≡ spelling w) (now (c .before .before .before .before .before .before .before .args .s)) (c .before .before .before .before .before .loop .i) (x .1 .0)
+last : (c : tie.After-add-truth-arg Inv-loop μ-loop) →
+    let at-loop = c .before .before .before .before .before in let at-start = at-loop .before .before in
+    let x = c .before .before .word .given .0 in LastAt (λ w. x .0 ≡ spelling w) (now (at-start .args .s)) (at-loop .loop .i) (x .1 .0)
 last c = subst (PieceIs _ _) (c .before .before .word .given .1) (c .before .before .before .before .truth-piece .ensures) .found
 
 -- a word before white space
-cut : (c : tie.After-add-truth-arg2 Inv-loop μ-loop) → let x = c .before .before .word2 .given .0 in
-    CutAt (λ w. x .0 ≡ spelling w) (now (c .before .before .before .before .before .before .before .args .s)) (c .before .before .before .before .before .loop .i) (x .1 .0)
+cut : (c : tie.After-add-truth-arg2 Inv-loop μ-loop) →
+    let at-loop = c .before .before .before .before .before in let at-start = at-loop .before .before in
+    let x = c .before .before .word2 .given .0 in CutAt (λ w. x .0 ≡ spelling w) (now (at-start .args .s)) (at-loop .loop .i) (x .1 .0)
 cut c = subst (PieceIs _ _) (c .before .before .word2 .given .1) (c .before .before .before .before .truth-piece .ensures) .found
 
 loop-holds : tie.Need-loop-holds Inv-loop μ-loop
@@ -43,7 +45,9 @@ same-length : tie.Need-same-length Inv-loop μ-loop
 same-length c = c .before .before .before .loop .inv .long
 
 returns : tie.Need-returns Inv-loop μ-loop
-returns c = read-broken (c .before .before .before .loop .inv) Truths (subst (PieceIs _ _) (c .enum-told .given .1) (c .before .before .truth-piece .ensures) .found)
+returns c =
+    let at-loop = c .before .before .before in
+    read-broken (at-loop .loop .inv) Truths (subst (PieceIs _ _) (c .enum-told .given .1) (c .before .before .truth-piece .ensures) .found)
 
 enum-known-next : tie.Need-enum-known-next Inv-loop μ-loop
 enum-known-next c = search needs
@@ -55,7 +59,9 @@ same-length-2 : tie.Need-same-length-2 Inv-loop μ-loop
 same-length-2 c = c .before .before .before .before .before .loop .inv .long
 
 returns-2 : tie.Need-returns-2 Inv-loop μ-loop
-returns-2 c = read-no-text (c .before .before .before .before .before .loop .inv) Truths (subst (PieceIs _ _) (c .before .before .next .given .1) (c .before .before .before .before .truth-piece .ensures) .found) (c .spoiled .ensures)
+returns-2 c =
+    let at-truth-piece = c .before .before .before .before in let at-loop = at-truth-piece .before in
+    read-no-text (at-loop .loop .inv) Truths (subst (PieceIs _ _) (c .before .before .next .given .1) (at-truth-piece .truth-piece .ensures) .found) (c .spoiled .ensures)
 
 enum-known-word : tie.Need-enum-known-word Inv-loop μ-loop
 enum-known-word c = search needs
@@ -70,16 +76,26 @@ enum-told-2 : tie.Need-enum-told-2 Inv-loop μ-loop
 enum-told-2 c = search needs
 
 same-length-3 : tie.Need-same-length-3 Inv-loop μ-loop
-same-length-3 c = c .before .before .before .add-truth .ensures .long ∙ c .before .before .before .before .before .before .before .before .before .loop .inv .long
+same-length-3 c =
+    let at-add-truth = c .before .before .before in let at-loop = at-add-truth .before .before .before .before .before .before in
+    at-add-truth .add-truth .ensures .long ∙ at-loop .loop .inv .long
 
 returns-3 : tie.Need-returns-3 Inv-loop μ-loop
-returns-3 c = word-last-none Truths truths-are (c .before .before .before .before .before .before .before .before .before .loop .inv) (last (c .before .before .before .before)) (subst (Adds _ _ _ _ _) (c .enum-told2 .given .1) (c .before .before .before .add-truth .ensures))
+returns-3 c =
+    let at-add-truth = c .before .before .before in let at-add-truth-lent = at-add-truth .before in
+    let at-loop = at-add-truth-lent .before .before .before .before .before in
+    word-last-none Truths truths-are (at-loop .loop .inv) (last at-add-truth-lent) (subst (Adds _ _ _ _ _) (c .enum-told2 .given .1) (at-add-truth .add-truth .ensures))
 
 same-length-4 : tie.Need-same-length-4 Inv-loop μ-loop
-same-length-4 c = c .before .before .before .before .add-truth .ensures .long ∙ c .before .before .before .before .before .before .before .before .before .before .loop .inv .long
+same-length-4 c =
+    let at-add-truth = c .before .before .before .before in let at-loop = at-add-truth .before .before .before .before .before .before in
+    at-add-truth .add-truth .ensures .long ∙ at-loop .loop .inv .long
 
 returns-4 : tie.Need-returns-4 Inv-loop μ-loop
-returns-4 c = word-last Truths truths-are (c .before .before .before .before .before .before .before .before .before .before .loop .inv) (last (c .before .before .before .before .before)) (subst (Adds _ _ _ _ _) (c .before .all .given .1) (c .before .before .before .before .add-truth .ensures))
+returns-4 c =
+    let at-add-truth = c .before .before .before .before in let at-add-truth-lent = at-add-truth .before in
+    let at-loop = at-add-truth-lent .before .before .before .before .before in
+    word-last Truths truths-are (at-loop .loop .inv) (last at-add-truth-lent) (subst (Adds _ _ _ _ _) (c .before .all .given .1) (at-add-truth .add-truth .ensures))
 
 enum-known-word-2 : tie.Need-enum-known-word-2 Inv-loop μ-loop
 enum-known-word-2 c = search needs
@@ -97,18 +113,25 @@ spoiled-requires-2 : tie.Need-spoiled-requires-2 Inv-loop μ-loop
 spoiled-requires-2 c κs = cut (c .before .before .before .before) .high
 
 same-length-5 : tie.Need-same-length-5 Inv-loop μ-loop
-same-length-5 c = c .before .before .before .before .add-truth2 .ensures .long ∙ c .before .before .before .before .before .before .before .before .before .before .loop .inv .long
+same-length-5 c =
+    let at-add-truth2 = c .before .before .before .before in let at-loop = at-add-truth2 .before .before .before .before .before .before in
+    at-add-truth2 .add-truth2 .ensures .long ∙ at-loop .loop .inv .long
 
 returns-5 : tie.Need-returns-5 Inv-loop μ-loop
 returns-5 c =
-    let none = subst (Adds _ _ _ _ _) (c .before .enum-told3 .given .1) (c .before .before .before .before .add-truth2 .ensures) in
-    word-cut-none Truths truths-are (c .before .before .before .before .before .before .before .before .before .before .loop .inv) (cut (c .before .before .before .before .before)) none (c .spoiled2 .ensures)
+    let at-add-truth2 = c .before .before .before .before in let at-add-truth2-lent = at-add-truth2 .before in
+    let at-loop = at-add-truth2-lent .before .before .before .before .before in
+    let none = subst (Adds _ _ _ _ _) (c .before .enum-told3 .given .1) (at-add-truth2 .add-truth2 .ensures) in
+    word-cut-none Truths truths-are (at-loop .loop .inv) (cut at-add-truth2-lent) none (c .spoiled2 .ensures)
 
 loop-less : tie.Need-loop-less Inv-loop μ-loop
 loop-less c = let u = cut (c .before .before .before .before .before) in omega (arith, u .low, u .high)
 
 loop-again : tie.Need-loop-again Inv-loop μ-loop
-loop-again c = word-cut Truths truths-are (c .before .before .before .before .before .before .before .before .before .before .loop .inv) (cut (c .before .before .before .before .before)) (subst (Adds _ _ _ _ _) (c .before .more .given .1) (c .before .before .before .before .add-truth2 .ensures))
+loop-again c =
+    let at-add-truth2 = c .before .before .before .before in let at-add-truth2-lent = at-add-truth2 .before in
+    let at-loop = at-add-truth2-lent .before .before .before .before .before in
+    word-cut Truths truths-are (at-loop .loop .inv) (cut at-add-truth2-lent) (subst (Adds _ _ _ _ _) (c .before .more .given .1) (at-add-truth2 .add-truth2 .ensures))
 
 pub truths-spec : {M : Type 1} → statement M
 truths-spec =
