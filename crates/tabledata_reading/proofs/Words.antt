@@ -7,7 +7,7 @@ use mathlib.Core.List.{List, [], _++_, _∷_, append-assoc, append-nil}
 use mathlib.Core.Path.{_∙_, _≡_, ap, refl, sym}
 use lib.IntN.{ℤ}
 use lib.ListN.{drop, length}
-use Rattle.table.proofs.Laws.{NoWhite, bad-good}
+use Rattle.table.proofs.Laws.{NoWhite}
 use Rattle.table.proofs.Words.{words-cut, words-last, words-none}
 use Rattle.table.specs.Bytes.{isWhite, notEmpty, words}
 use Rattle.table.specs.Result.{Result, _>>=_, bad, every, good}
@@ -46,37 +46,21 @@ clean-cut w u c p a h v =
 -- ---- each in turn, in two parts
 
 module _ {A B : Type 0} (f : A → Result ℕ B) where
-  pub every-both : (a b : List A) (x y : List B) → every f a ≡ good x → every f b ≡ good y → every f (a ++ b) ≡ good (x ++ y)
-  unfolding every
-  every-both [] b x y e g = let n : x ≡ [] = cc in rw (n, g)
-  every-both (c ∷ a) b x y e g = go (f c) refl (every f a) refl (λ z h. every-both a b z y h g)
-    where
-      go : (r : Result ℕ B) → f c ≡ r → (q : Result ℕ (List B)) → every f a ≡ q → ((z : List B) → every f a ≡ good z → every f (a ++ b) ≡ good (z ++ y)) → every f (c ∷ a ++ b) ≡ good (x ++ y)
-      go (good d) p (good z) q ih =
-          let n : x ≡ d ∷ z = let m : _≡_ {A = Result ℕ (List B)} (good (d ∷ z)) (good x) = rw (p, q) at e in cc in
-          rw (p, ih z q, n)
-      go (good d) p (bad m) q ih = absurd (bad-good (rw (p, q) at e))
-      go (bad m) p q h ih = absurd (bad-good (rw p at e))
+  none-more : (r : Result ℕ (List B)) → r ≡ (r >>= λ y. good y)
+  none-more (good y) = refl
+  none-more (bad n) = refl
 
-  pub every-first : (a b : List A) (n : ℕ) → every f a ≡ bad n → every f (a ++ b) ≡ bad n
-  unfolding every
-  every-first [] b n e = absurd (bad-good (sym e))
-  every-first (c ∷ a) b n e = go (f c) refl (every f a) refl (λ m h. every-first a b m h)
-    where
-      go : (r : Result ℕ B) → f c ≡ r → (q : Result ℕ (List B)) → every f a ≡ q → ((m : ℕ) → every f a ≡ bad m → every f (a ++ b) ≡ bad m) → every f (c ∷ a ++ b) ≡ bad n
-      go (good d) p (good z) q ih = absurd (bad-good (sym (rw (p, q) at e)))
-      go (good d) p (bad m) q ih = let k : m ≡ n = (let j : _≡_ {A = Result ℕ (List B)} (bad m) (bad n) = rw (p, q) at e in cc) in rw (p, ih m q) (ap bad k)
-      go (bad m) p q h ih = rw p (rw p at e)
+  one-more : (r : Result ℕ B) (s t : Result ℕ (List B))
+      → (r >>= λ d. s >>= (λ x. t >>= λ y. good (x ++ y)) >>= λ ds. good (d ∷ ds)) ≡ (r >>= (λ d. s >>= λ ds. good (d ∷ ds)) >>= λ x. t >>= λ y. good (x ++ y))
+  one-more (bad n) s t = refl
+  one-more (good d) (bad n) t = refl
+  one-more (good d) (good x) (bad n) = refl
+  one-more (good d) (good x) (good y) = refl
 
-  pub every-then : (a b : List A) (x : List B) (n : ℕ) → every f a ≡ good x → every f b ≡ bad n → every f (a ++ b) ≡ bad n
+  pub every-append : (a b : List A) → every f (a ++ b) ≡ (every f a >>= λ x. every f b >>= λ y. good (x ++ y))
   unfolding every
-  every-then [] b x n e g = g
-  every-then (c ∷ a) b x n e g = go (f c) refl (every f a) refl (λ z h. every-then a b z n h g)
-    where
-      go : (r : Result ℕ B) → f c ≡ r → (q : Result ℕ (List B)) → every f a ≡ q → ((z : List B) → every f a ≡ good z → every f (a ++ b) ≡ bad n) → every f (c ∷ a ++ b) ≡ bad n
-      go (good d) p (good z) q ih = rw (p, ih z q)
-      go (good d) p (bad m) q ih = absurd (bad-good (rw (p, q) at e))
-      go (bad m) p q h ih = absurd (bad-good (rw p at e))
+  every-append [] b = none-more (every f b)
+  every-append (c ∷ a) b = rw (every-append a b) (one-more (f c) (every f a) (every f b))
 
 -- ---- a turn of the loop over words: w was passed over with the elements es, then comes the word u
 
@@ -88,25 +72,20 @@ pub words-start : (f : List ℕ → Result ℕ ℤ) → WordsAt f [] []
 unfolding every
 words-start f = record { clean = clean-none; elements = rw words-none }
 
-module _ (f : List ℕ → Result ℕ ℤ) (w : List ℕ) (es : List ℤ) (p : WordsAt f w es) (u : List ℕ) (a : NoWhite u) where
-  pub words-turn : (c : ℕ) (fs : List ℤ) → isWhite c ≡ true → every f (notEmpty (u ∷ [])) ≡ good fs → WordsAt f (w ++ (u ++ (c ∷ []))) (es ++ fs)
-  words-turn c fs h e = record {
-    clean = clean-cut w u c (p .clean) a h;
-    elements = ap (every f) (words-to w u c (p .clean) a h) ∙ every-both f (words w) (notEmpty (u ∷ [])) es fs (p .elements) e;
-  }
+module _ {f : List ℕ → Result ℕ ℤ} {w : List ℕ} {es : List ℤ} (p : WordsAt f w es) (u : List ℕ) (a : NoWhite u) where
+  words-end : {r : Result ℕ (List ℤ)} → every f (notEmpty (u ∷ [])) ≡ r → every f (words (w ++ u)) ≡ (r >>= λ fs. good (es ++ fs))
+  words-end e = rw (p .clean u, words-last u a, every-append f (words w) (notEmpty (u ∷ [])), p .elements, e)
 
-  pub words-bad : (c : ℕ) (v : List ℕ) → isWhite c ≡ true → every f (notEmpty (u ∷ [])) ≡ bad 11 → every f (words (w ++ (u ++ (c ∷ [])) ++ v)) ≡ bad 11
-  words-bad c v h e =
-      ap (every f) (words-more w u c v (p .clean) a h)
-      ∙ every-then f (words w) (notEmpty (u ∷ []) ++ words v) es 11 (p .elements) (every-first f (notEmpty (u ∷ [])) (words v) 11 e)
+  module _ (c : ℕ) (h : isWhite c ≡ true) where
+    words-turn : {fs : List ℤ} → every f (notEmpty (u ∷ [])) ≡ good fs → WordsAt f (w ++ (u ++ (c ∷ []))) (es ++ fs)
+    words-turn e = record {
+      clean = clean-cut w u c (p .clean) a h;
+      elements = rw (words-to w u c (p .clean) a h, every-append f (words w) (notEmpty (u ∷ [])), p .elements, e);
+    }
 
-  pub words-end : (fs : List ℤ) → every f (notEmpty (u ∷ [])) ≡ good fs → every f (words (w ++ u)) ≡ good (es ++ fs)
-  words-end fs e =
-      ap (every f) (p .clean u ∙ ap (λ (t : List (List ℕ)). words w ++ t) (words-last u a)) ∙ every-both f (words w) (notEmpty (u ∷ [])) es fs (p .elements) e
-
-  pub words-end-bad : every f (notEmpty (u ∷ [])) ≡ bad 11 → every f (words (w ++ u)) ≡ bad 11
-  words-end-bad e =
-      ap (every f) (p .clean u ∙ ap (λ (t : List (List ℕ)). words w ++ t) (words-last u a)) ∙ every-then f (words w) (notEmpty (u ∷ [])) es 11 (p .elements) e
+    words-bad : (v : List ℕ) → every f (notEmpty (u ∷ [])) ≡ bad 11 → every f (words (w ++ (u ++ (c ∷ [])) ++ v)) ≡ bad 11
+    words-bad v e =
+        rw (words-more w u c v (p .clean) a h, every-append f (words w) (notEmpty (u ∷ []) ++ words v), p .elements, every-append f (notEmpty (u ∷ [])) (words v), e)
 
 pub added-none : (f : List ℕ → Result ℕ ℤ) → every f (notEmpty ([] ∷ [])) ≡ good []
 unfolding every notEmpty
@@ -132,7 +111,7 @@ module _ (k : Shape) {f : List ℕ → Result ℕ ℤ} (q : (w : List ℕ) → t
         record {
           found = (
             r .es ++ x .0,
-            last-is (q (r .w ++ u .w) ∙ words-end f (r .w) (r .es) (r .means) (u .w) (u .word) (x .0) (x .1)),
+            last-is (q (r .w ++ u .w) ∙ words-end (r .means) (u .w) (u .word) (x .1)),
             x .2 (r .es) (r .counted),
             omega (arith, r .low, u .low),
             u .high,
@@ -142,7 +121,7 @@ module _ (k : Shape) {f : List ℕ → Result ℕ ℤ} (q : (w : List ℕ) → t
 
     pub word-last-none : {m : List ℤ} → Adds f Stands n l m NoWord → Takes (cellElements k (drop from s)) s from entry m (Taken.Refused 11)
     word-last-none d = record {
-      found = last-is (q (r .w ++ u .w) ∙ words-end-bad f (r .w) (r .es) (r .means) (u .w) (u .word) (d .found (u .w) (u .text) (u .stands)));
+      found = last-is (q (r .w ++ u .w) ∙ words-end (r .means) (u .w) (u .word) (d .found (u .w) (u .text) (u .stands)));
       long = d .long ∙ r .long;
     }
 
@@ -153,7 +132,7 @@ module _ (k : Shape) {f : List ℕ → Result ℕ ℤ} (q : (w : List ℕ) → t
         record {
           w = _;
           es = _;
-          means = words-turn f (r .w) (r .es) (r .means) (u .w) (u .word) (u .white) (x .0) (u .is-white) (x .1);
+          means = words-turn (r .means) (u .w) (u .word) (u .white) (u .is-white) (x .1);
           passed = passed-then (r .passed) (u .passed);
           counted = x .2 (r .es) (r .counted);
           long = d .long ∙ r .long;
@@ -166,8 +145,7 @@ module _ (k : Shape) {f : List ℕ → Result ℕ ℤ} (q : (w : List ℕ) → t
     word-cut-none d e = record {
       found =
           spoilt k (passed-then (r .passed) (u .passed)) (λ v.
-          q (r .w ++ (u .w ++ (u .white ∷ [])) ++ v)
-          ∙ words-bad f (r .w) (r .es) (r .means) (u .w) (u .word) (u .white) v (u .is-white) (d .found (u .w) (u .text) (u .stands)))
+          q (r .w ++ (u .w ++ (u .white ∷ [])) ++ v) ∙ words-bad (r .means) (u .w) (u .word) (u .white) (u .is-white) v (d .found (u .w) (u .text) (u .stands)))
           ∙ ap bad (sym e);
       long = d .long ∙ r .long;
     }

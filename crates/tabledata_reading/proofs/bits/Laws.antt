@@ -17,7 +17,7 @@ use Rattle.table.specs.Shape.{Bits}
 use Rattle.table.proofs.Bytes.{between-no}
 use Rattle.tabledata.proofs.Characters.{text-yes, white-text}
 use Rattle.tabledata.specs.TableData.{bitLetter, bitWords, characters, isText, plain, textElements}
-use Rattle.tabledata_reading.proofs.Words.{every-both, every-then}
+use Rattle.tabledata_reading.proofs.Words.{every-append}
 use Rattle.tabledata_reading.proofs.characters.Passing.{no-text, passed-code, passed-then}
 use Rattle.tabledata_reading.proofs.elements.Laws.{ReadTo, read-more, read-no-text, spoilt}
 use Rattle.tabledata_reading.specs.Characters.{ItemIs, spoiledNumber}
@@ -87,12 +87,13 @@ every-one : (c : ℕ) (e : ℤ) → bitLetter c ≡ good e → every bitLetter (
 unfolding every
 every-one c e h = rw h
 
-bits-more : (w u : List ℕ) (es : List ℤ) (closed : Bool) (n c : ℕ) (e : ℤ) → BitsAt w u es closed n → closed ≡ false → bitLetter c ≡ good e → BitsAt (w ++ (c ∷ [])) (u ++ (c ∷ [])) (es ++ (e ∷ [])) closed (n + 1)
+bits-more : (w u : List ℕ) (es : List ℤ) (closed : Bool) (n c : ℕ) (e : ℤ) → BitsAt w u es closed n → closed ≡ false → bitLetter c ≡ good e
+    → BitsAt (w ++ (c ∷ [])) (u ++ (c ∷ [])) (es ++ (e ∷ [])) closed (n + 1)
 bits-more w u es true n c e p q h = absurd (false≢true (sym q))
 bits-more w u es false n c e p q h = record {
   shape-is = λ v. ap words (append-assoc w (c ∷ []) v) ∙ p .shape-is (c ∷ v) ∙ ap words (sym (append-assoc u (c ∷ []) v));
   word = no-white-more u c (p .word) (no-white c (omega (arith, bit-white c e h)));
-  elements = every-both bitLetter u (c ∷ []) es (e ∷ []) (p .elements) (every-one c e h);
+  elements = rw (every-append bitLetter u (c ∷ []), p .elements, every-one c e h);
   some = λ t. absurd (false≢true t);
   count = omega (arith, length-append u (c ∷ []), p .count);
 }
@@ -144,7 +145,8 @@ bad-letter : (c : ℕ) (x : List ℕ) → bitLetter c ≡ bad 11 → every bitLe
 unfolding every
 bad-letter c x e = rw e
 
-bits-bad : (w u : List ℕ) (es : List ℤ) (closed : Bool) (n c r : ℕ) → BitsAt w u es closed n → isWhite c ≡ false → BitIs closed c r → r ≡ 2 → (v : List ℕ) → textElements Bits (w ++ (c ∷ []) ++ v) ≡ bad 11
+bits-bad : (w u : List ℕ) (es : List ℤ) (closed : Bool) (n c r : ℕ) → BitsAt w u es closed n → isWhite c ≡ false → BitIs closed c r → r ≡ 2
+    → (v : List ℕ) → textElements Bits (w ++ (c ∷ []) ++ v) ≡ bad 11
 unfolding bitAs
 bits-bad w u es true n c r p h b e v =
     let f : (x : List ℕ) × (ws : List (List ℕ)) × (words (c ∷ v) ≡ (c ∷ x) ∷ ws) = words-first [] c v tt h in
@@ -152,7 +154,8 @@ bits-bad w u es true n c r p h b e v =
 bits-bad w u es false n c r p h b e v =
     let f : (x : List ℕ) × (ws : List (List ℕ)) × (words (u ++ (c ∷ v)) ≡ (u ++ (c ∷ x)) ∷ ws) = words-first u c v (p .word) h in
     let k : bitLetter c ≡ bad 11 = sym b ∙ rw (eq-eqb r 2 e) in
-    bits-are (w ++ (c ∷ []) ++ v) ∙ ap bitWords (ap words (append-assoc w (c ∷ []) v) ∙ p .shape-is (c ∷ v) ∙ f .2) ∙ bad-word (u ++ (c ∷ f .0)) (f .1) (every-then bitLetter u (c ∷ f .0) es 11 (p .elements) (bad-letter c (f .0) k))
+    bits-are (w ++ (c ∷ []) ++ v) ∙ ap bitWords (ap words (append-assoc w (c ∷ []) v) ∙ p .shape-is (c ∷ v) ∙ f .2)
+    ∙ bad-word (u ++ (c ∷ f .0)) (f .1) (rw (every-append bitLetter u (c ∷ f .0), p .elements, bad-letter c (f .0) k))
 
 -- what was read up to a place of a bit cell
 abbrev pub BitsTo : Bool → ℕ → List ℕ → List ℤ → Type 0
@@ -180,7 +183,8 @@ module _ {s : List ℕ} {from i n : ℕ} {closed : Bool} {entry l : List ℤ} (r
       go : (b : Bool) → isText c ≡ b → Takes (cellElements Bits (drop from s)) s from entry l (Taken.Refused m)
       go true q = record {
         found =
-            spoilt Bits {s = s} {from = from} {i = next} (passed-then (r .passed) (passed-code {s = s} {i = i} {j = next} {c = c} (t .found) q)) (bits-bad (r .w) (r .means .0) (r .es) closed n c x (r .means .1) h b k)
+            spoilt Bits {s = s} {from = from} {i = next} (passed-then (r .passed) (passed-code {s = s} {i = i} {j = next} {c = c} (t .found) q))
+            (bits-bad (r .w) (r .means .0) (r .es) closed n c x (r .means .1) h b k)
             ∙ ap bad (sym e);
         long = r .long;
       }

@@ -115,7 +115,8 @@ module _ (c : Column) {s : List ℕ} {place from : ℕ} (o : OpeningIs s place (
   unfolding readText cellElements
   text-content e = rw (o .found) (text-go c (characters plain (drop from s)) ∙ ap (λ (r : Result ℕ (List ℤ × List ℕ)). r >>= showing c) e)
 
-  pub text-refused : {n : ℕ} {entry exit : List ℤ} → Takes (cellElements (shape (c .kind)) (drop from s)) s from entry exit (Taken.Refused n) → Reads (readText c (drop place s)) s place entry exit (Refused n)
+  pub text-refused : {n : ℕ} {entry exit : List ℤ} → Takes (cellElements (shape (c .kind)) (drop from s)) s from entry exit (Taken.Refused n)
+      → Reads (readText c (drop place s)) s place entry exit (Refused n)
   text-refused t = record { found = text-content (t .found); within = tt; long = t .long }
 
   pub text-shows : {n next : ℕ} {entry exit : List ℤ} (r : Found) → Takes (cellElements (shape (c .kind)) (drop from s)) s from entry exit (Held n next) → CellShows c n next exit r

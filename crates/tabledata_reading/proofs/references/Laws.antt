@@ -38,7 +38,8 @@ module _ (hex : Bool) (n : ℕ) (s : List ℕ) (i : ℕ) where
   unfolding numeral
   numeral-end h = rw (done s i h)
 
-  pub numeral-more : (d : ℕ) → i < length s → DigitIs (getD s i 0) d → d < baseIn hex → numeral (valueIn hex) (baseIn hex) n (drop i s) ≡ numeral (valueIn hex) (baseIn hex) (n * baseIn hex + d) (drop (i + 1) s)
+  pub numeral-more : (d : ℕ) → i < length s → DigitIs (getD s i 0) d → d < baseIn hex
+      → numeral (valueIn hex) (baseIn hex) n (drop i s) ≡ numeral (valueIn hex) (baseIn hex) (n * baseIn hex + d) (drop (i + 1) s)
   unfolding numeral digitIn
   numeral-more d h e k = rw (next1 s i h) (rw (value-in hex (getD s i 0) d e, lt-ltb d (baseIn hex) k))
 

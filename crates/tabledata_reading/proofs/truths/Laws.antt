@@ -1,22 +1,21 @@
 -- A word of a boolean cell, spelled as a number: the number tells which word it is.
 use Prim.Native.Nat.{_*_, _+_, _<_, _≤_, ℕ}
+use native.Mathlib.Nat.{le-refl}
 use native.Mathlib.Omega.{arith}
-use mathlib.Core.Bool.{Bool, _&&_, _||_, cond, false, false≢true, true}
+use mathlib.Core.Bool.{Bool, _&&_, _||_, and-assoc, and-false, and-true, cond, false, true}
 use mathlib.Core.List.{List, [], _++_, _∷_, map}
-use mathlib.Core.Path.{_∙_, _≡_, ap, refl, subst, sym}
+use mathlib.Core.Path.{_∙_, _≡_, ap, refl, sym}
 use lib.Dec.{eqb, leb, lit≤}
-use lib.ListN.{length, length-map}
-use borrow.Author.Tests.{eq-eqb, eqb-true, le-leb, lt-leb, ne-eqb}
+use lib.IntN.{negsuc, pos, ℤ}
+use lib.ListN.{length}
+use borrow.Author.Tests.{eq-eqb, eqb-false, eqb-true, le-leb, lt-leb, ne-eqb}
+use Rattle.table.proofs.Bytes.{between-no}
 use Rattle.table.proofs.Laws.{allBelow, and-both, between-is, between-yes, cond-cases, each-below}
 use Rattle.table.specs.Bytes.{between, bytes, same, words}
 use Rattle.table.specs.Result.{Result, bad, every, good}
-use Rattle.table.proofs.Bytes.{between-no}
-use Rattle.tabledata.specs.TableData.{allText, isText, lower, textElements, truthLetter, truthWord}
-use lib.IntN.{negsuc, pos, ℤ}
-use native.Mathlib.Nat.{le-refl}
 use Rattle.table.specs.Shape.{Truths}
 use Rattle.tabledata.proofs.Laws.{text-lt}
-use Rattle.text.proofs.Scan.{same-short}
+use Rattle.tabledata.specs.TableData.{allText, isText, lower, textElements, truthLetter, truthWord}
 use Rattle.tabledata_reading.specs.Words.{spell, spelled, spelling, truthNumber}
 
 -- ---- a word as a number
@@ -51,24 +50,58 @@ pub spell-high : (q c : ℕ) → 281474976710656 ≤ q → spell q c ≡ 2814749
 unfolding spell
 spell-high q c h = rw (le-leb 281474976710656 q h)
 
-spelled-high : (q : ℕ) (w : List ℕ) → 281474976710656 ≤ q → 281474976710656 ≤ spelled q w
-unfolding spelled spell
-spelled-high q [] h = h
-spelled-high q (c ∷ w) h = rw (le-leb 281474976710656 q h) (spelled-high 281474976710656 w (le-refl _))
+spell-least : (n q c : ℕ) → n ≤ 281474976710656 → n ≤ q * 256 → n ≤ spell q c
+unfolding spell
+spell-least n q c h k =
+    cond-cases (λ (m : ℕ). n ≤ m) (leb 281474976710656 q) 281474976710656 (q * 256 + lower c) (λ _. h) (λ _. omega arith)
 
--- numbers that no word has
-value-mid : (q : ℕ) → 512 ≤ q → (q ≡ 0x174727565 → ⊥) → (q ≡ 0x166616c7365 → ⊥) → truthNumber q ≡ 3
-unfolding truthNumber
-value-mid q h x y =
-    rw (
-      ne-eqb q 0x174 (λ e. omega arith),
-      ne-eqb q 0x131 (λ e. omega arith),
-      ne-eqb q 0x174727565 x,
-      ne-eqb q 0x166 (λ e. omega arith),
-      ne-eqb q 0x130 (λ e. omega arith),
-      ne-eqb q 0x166616c7365 y,
-      ne-eqb q 0x13f (λ e. omega arith),
-    )
+spelled-least : (n q : ℕ) (w : List ℕ) → n ≤ 281474976710656 → n ≤ q → n ≤ spelled q w
+unfolding spelled
+spelled-least n q [] h k = k
+spelled-least n q (c ∷ w) h k = spelled-least n (spell q c) w h (spell-least n q c h (omega arith))
+
+-- ---- two words have one number where they are the same
+
+-- letters that are lower case already, with no bound
+unfoldable numberFrom : ℕ → List ℕ → ℕ
+numberFrom p [] = p
+numberFrom p (b ∷ v) = numberFrom (p * 256 + b) v
+
+number-least : (p : ℕ) (v : List ℕ) → p ≤ numberFrom p v
+unfolding numberFrom
+number-least p [] = le-refl p
+number-least p (b ∷ v) = omega (arith, number-least (p * 256 + b) v)
+
+same-letter : (q p a b : ℕ) → a < 256 → b < 256 → eqb (q * 256 + a) (p * 256 + b) ≡ (eqb q p && eqb a b)
+same-letter q p a b h k = go (eqb q p) refl (eqb a b) refl
+  where
+    go : (x : Bool) → eqb q p ≡ x → (y : Bool) → eqb a b ≡ y → eqb (q * 256 + a) (p * 256 + b) ≡ (eqb q p && eqb a b)
+    go true e true f = rw (e, f) (eq-eqb (q * 256 + a) (p * 256 + b) (omega (arith, eqb-true q p e, eqb-true a b f)))
+    go true e false f = rw (e, f) (ne-eqb (q * 256 + a) (p * 256 + b) (λ g. eqb-false a b f (omega (arith, eqb-true q p e))))
+    go false e y f = rw e (ne-eqb (q * 256 + a) (p * 256 + b) (λ g. eqb-false q p e (omega arith)))
+
+-- from two numbers of as many digits (between x and 2 * x), however the words go on
+same-number : (x q p : ℕ) (w v : List ℕ) → (1 ≤ x) × (x ≤ q) × (q < 2 * x) × (x ≤ p) × (p < 2 * x) → allText w ≡ true → allText v ≡ true
+    → numberFrom p v < 281474976710656 → eqb (spelled q w) (numberFrom p v) ≡ (eqb q p && same (map lower w) v)
+unfolding spelled numberFrom same allText
+same-number x q p [] [] s t a h = rw and-true
+same-number x q p [] (b ∷ v) s t a h = rw and-false (ne-eqb q (numberFrom (p * 256 + b) v) (λ e. omega (arith, s, number-least (p * 256 + b) v)))
+same-number x q p (c ∷ w) [] s t a h =
+    let more = spelled-least (p + 1) (spell q c) w (omega arith) (spell-least (p + 1) q c (omega arith) (omega (arith, s))) in
+    rw and-false (ne-eqb (spelled (spell q c) w) p (λ e. omega (arith, more)))
+same-number x q p (c ∷ w) (b ∷ v) s t a h =
+    let k = and-both (isText c) (allText w) t in let l = and-both (isText b) (allText v) a in let small = lower-lt c (k .0) in let low = text-lt b (l .0) .1 in
+    let least = number-least (p * 256 + b) v in
+    let next : (1 ≤ x * 256) × (x * 256 ≤ q * 256 + lower c) × (q * 256 + lower c < 2 * (x * 256)) × (x * 256 ≤ p * 256 + b) × (p * 256 + b < 2 * (x * 256)) =
+    (omega (arith, s), omega (arith, s), omega (arith, s), omega (arith, s), omega (arith, s)) in
+    rw (spell-low q c (omega (arith, s))) (
+    same-number (x * 256) (q * 256 + lower c) (p * 256 + b) w v next (k .1) (l .1) h
+    ∙ ap (λ (y : Bool). y && same (map lower w) v) (same-letter q p (lower c) b (omega arith) (omega arith))
+    ∙ and-assoc (eqb q p) (eqb (lower c) b) (same (map lower w) v))
+
+-- a word has the number of one that is written in small letters where it is that word
+same-word : (w v : List ℕ) → allText w ≡ true → allText v ≡ true → numberFrom 1 v < 281474976710656 → eqb (spelling w) (numberFrom 1 v) ≡ same (map lower w) v
+same-word w v t a h = same-number 1 1 1 w v (lit≤ tt, lit≤ tt, lit≤ tt, lit≤ tt, lit≤ tt) t a h
 
 -- what a value stands for
 unfoldable pub truthAs : ℕ → Result ℕ ℤ
@@ -89,153 +122,64 @@ letter-as a =
     P : Result ℕ ℤ → Type 0
     P r = r ≡ truthAs (codeOf r)
 
-letters-same : allBelow (λ (a : ℕ). eqb (codeOf (truthLetter a)) (truthNumber (spelling (a ∷ [])))) 128 ≡ true
+-- the number of one letter stands for what the letter does
+abbrev one-same : ℕ → Bool
+one-same a = eqb (codeOf (truthLetter a)) (truthNumber (spelling (a ∷ [])))
+
+letters-same : allBelow one-same 128 ≡ true
 unfolding truthLetter truthNumber spelled spell lower between
 letters-same = refl
 
 value-one : (a : ℕ) → isText a ≡ true → truthWord (a ∷ []) ≡ truthAs (truthNumber (spelling (a ∷ [])))
 unfolding truthWord
 value-one a t =
-    letter-as a ∙ ap truthAs (eqb-true (codeOf (truthLetter a)) (truthNumber (spelling (a ∷ []))) (each-below (λ (a : ℕ). eqb (codeOf (truthLetter a)) (truthNumber (spelling (a ∷ [])))) 128 letters-same a (text-lt a t .1)))
+    letter-as a ∙ ap truthAs (eqb-true (codeOf (truthLetter a)) (truthNumber (spelling (a ∷ []))) (each-below one-same 128 letters-same a (text-lt a t .1)))
 
--- a word that has not four or five letters is none
-no-word : (a b : ℕ) (w : List ℕ) → (length w ≡ 2 → ⊥) → (length w ≡ 3 → ⊥) → truthWord (a ∷ b ∷ w) ≡ bad 11
-unfolding truthWord
-no-word a b w x y =
+-- the number of a word, by the words that it may be
+number-is : (w : List ℕ) → allText w ≡ true → let small = map lower w in
+    truthNumber (spelling w)
+    ≡ cond (same small (bytes "t")) 1 (cond (same small (bytes "1")) 1 (cond (same small (bytes "true")) 1
+    (cond (same small (bytes "f")) 0 (cond (same small (bytes "0")) 0 (cond (same small (bytes "false")) 0 (cond (same small (bytes "?")) 2 3))))))
+unfolding truthNumber numberFrom allText isText between
+number-is w t =
     rw (
-      same-short (map lower (a ∷ b ∷ w)) (bytes "true") (λ e. x (omega (arith, length-map w lower, e))),
-      same-short (map lower (a ∷ b ∷ w)) (bytes "false") (λ e. y (omega (arith, length-map w lower, e))),
+      same-word w (bytes "t") t refl (lit≤ tt),
+      same-word w (bytes "1") t refl (lit≤ tt),
+      same-word w (bytes "true") t refl (lit≤ tt),
+      same-word w (bytes "f") t refl (lit≤ tt),
+      same-word w (bytes "0") t refl (lit≤ tt),
+      same-word w (bytes "false") t refl (lit≤ tt),
+      same-word w (bytes "?") t refl (lit≤ tt),
     )
 
-same-four : (a b c d : ℕ) → same (a ∷ b ∷ c ∷ d ∷ []) (bytes "true") ≡ true → (a ≡ 116) × (b ≡ 114) × (c ≡ 117) × (d ≡ 101)
+longer : (a b c : ℕ) (w : List ℕ) → same (a ∷ b ∷ w) (c ∷ []) ≡ false
 unfolding same
-same-four a b c d h =
-    let x : (eqb a 116 ≡ true) × ((eqb b 114 && (eqb c 117 && (eqb d 101 && true))) ≡ true) = and-both _ _ h in
-    let y : (eqb b 114 ≡ true) × ((eqb c 117 && (eqb d 101 && true)) ≡ true) = and-both _ _ (x .1) in
-    let z : (eqb c 117 ≡ true) × ((eqb d 101 && true) ≡ true) = and-both _ _ (y .1) in
-    (eqb-true a 116 (x .0), eqb-true b 114 (y .0), eqb-true c 117 (z .0), eqb-true d 101 (and-both (eqb d 101) true (z .1) .0))
+longer a b c w = rw and-false
 
-same-five : (a b c d e : ℕ) → same (a ∷ b ∷ c ∷ d ∷ e ∷ []) (bytes "false") ≡ true → (a ≡ 102) × (b ≡ 97) × (c ≡ 108) × (d ≡ 115) × (e ≡ 101)
-unfolding same
-same-five a b c d e h =
-    let x : (eqb a 102 ≡ true) × ((eqb b 97 && (eqb c 108 && (eqb d 115 && (eqb e 101 && true)))) ≡ true) = and-both _ _ h in
-    let y : (eqb b 97 ≡ true) × ((eqb c 108 && (eqb d 115 && (eqb e 101 && true))) ≡ true) = and-both _ _ (x .1) in
-    let z : (eqb c 108 ≡ true) × ((eqb d 115 && (eqb e 101 && true)) ≡ true) = and-both _ _ (y .1) in
-    let u : (eqb d 115 ≡ true) × ((eqb e 101 && true) ≡ true) = and-both _ _ (z .1) in
-    (eqb-true a 102 (x .0), eqb-true b 97 (y .0), eqb-true c 108 (z .0), eqb-true d 115 (u .0), eqb-true e 101 (and-both (eqb e 101) true (u .1) .0))
-
--- four letters, each below 128, as a number
-value-four : (a b c d : ℕ) → a < 128 → b < 128 → c < 128 → d < 128 → truthNumber ((((1 * 256 + a) * 256 + b) * 256 + c) * 256 + d) ≡ cond (same (a ∷ b ∷ c ∷ d ∷ []) (bytes "true")) 1 3
-value-four a b c d h₁ h₂ h₃ h₄ = go (same (a ∷ b ∷ c ∷ d ∷ []) (bytes "true")) refl
-  where
-    it : same (a ∷ b ∷ c ∷ d ∷ []) (bytes "true") ≡ true → truthNumber ((((1 * 256 + a) * 256 + b) * 256 + c) * 256 + d) ≡ 1
-    it e = let f : (a ≡ 116) × (b ≡ 114) × (c ≡ 117) × (d ≡ 101) = same-four a b c d e in rw (f .0, f .1, f .2, f .3) (unfold truthNumber in refl)
-
-    other : same (a ∷ b ∷ c ∷ d ∷ []) (bytes "true") ≡ false → ((((1 * 256 + a) * 256 + b) * 256 + c) * 256 + d) ≡ 0x174727565 → ⊥
-    other e n =
-        let p : a ≡ 116 = omega arith in let q : b ≡ 114 = omega arith in let r : c ≡ 117 = omega arith in let s : d ≡ 101 = omega arith in
-        false≢true (sym e ∙ rw (p, q, r, s) (unfold same in refl))
-
-    go : (t : Bool) → same (a ∷ b ∷ c ∷ d ∷ []) (bytes "true") ≡ t → truthNumber ((((1 * 256 + a) * 256 + b) * 256 + c) * 256 + d) ≡ cond (same (a ∷ b ∷ c ∷ d ∷ []) (bytes "true")) 1 3
-    go true e = it e ∙ rw e
-    go false e = value-mid _ (omega arith) (other e) (λ n. omega arith) ∙ rw e
-
-value-five : (a b c d e : ℕ) → a < 128 → b < 128 → c < 128 → d < 128 → e < 128 → truthNumber (((((1 * 256 + a) * 256 + b) * 256 + c) * 256 + d) * 256 + e) ≡ cond (same (a ∷ b ∷ c ∷ d ∷ e ∷ []) (bytes "false")) 0 3
-value-five a b c d e h₁ h₂ h₃ h₄ h₅ = go (same (a ∷ b ∷ c ∷ d ∷ e ∷ []) (bytes "false")) refl
-  where
-    it : same (a ∷ b ∷ c ∷ d ∷ e ∷ []) (bytes "false") ≡ true → truthNumber (((((1 * 256 + a) * 256 + b) * 256 + c) * 256 + d) * 256 + e) ≡ 0
-    it x = let f : (a ≡ 102) × (b ≡ 97) × (c ≡ 108) × (d ≡ 115) × (e ≡ 101) = same-five a b c d e x in rw (f .0, f .1, f .2, f .3, f .4) (unfold truthNumber in refl)
-
-    other : same (a ∷ b ∷ c ∷ d ∷ e ∷ []) (bytes "false") ≡ false → (((((1 * 256 + a) * 256 + b) * 256 + c) * 256 + d) * 256 + e) ≡ 0x166616c7365 → ⊥
-    other x n =
-        let p : a ≡ 102 = omega arith in let q : b ≡ 97 = omega arith in let r : c ≡ 108 = omega arith in let s : d ≡ 115 = omega arith in let t : e ≡ 101 = omega arith in
-        false≢true (sym x ∙ rw (p, q, r, s, t) (unfold same in refl))
-
-    go : (t : Bool) → same (a ∷ b ∷ c ∷ d ∷ e ∷ []) (bytes "false") ≡ t → truthNumber (((((1 * 256 + a) * 256 + b) * 256 + c) * 256 + d) * 256 + e) ≡ cond (same (a ∷ b ∷ c ∷ d ∷ e ∷ []) (bytes "false")) 0 3
-    go true x = it x ∙ rw x
-    go false x = value-mid _ (omega arith) (λ n. omega arith) (other x) ∙ rw x
-
-true-as : (t : Bool) → _≡_ {A = Result ℕ ℤ} (cond t (good (pos 1)) (bad 11)) (truthAs (cond t 1 3))
+decided : (x y : Bool) → _≡_ {A = Result ℕ ℤ} (cond x (good (pos 1)) (cond y (good (pos 0)) (bad 11))) (truthAs (cond x 1 (cond y 0 3)))
 unfolding truthAs
-true-as true = refl
-true-as false = refl
+decided true y = refl
+decided false true = refl
+decided false false = refl
 
-false-as : (t : Bool) → _≡_ {A = Result ℕ ℤ} (cond t (good (pos 0)) (bad 11)) (truthAs (cond t 0 3))
-unfolding truthAs
-false-as true = refl
-false-as false = refl
-
--- the number of at most five letters, and that more have too great a one
-module _ (a b : ℕ) (ha : isText a ≡ true) (hb : isText b ≡ true) where
-  two : spelled 1 (a ∷ b ∷ []) ≡ (1 * 256 + lower a) * 256 + lower b
-  unfolding spelled
-  two = rw (spell-low 1 a (lit≤ tt), spell-low (1 * 256 + lower a) b (omega (arith, lower-lt a ha)))
-
-  module _ (c : ℕ) (hc : isText c ≡ true) where
-    three : spelled 1 (a ∷ b ∷ c ∷ []) ≡ ((1 * 256 + lower a) * 256 + lower b) * 256 + lower c
-    three = spelled-more 1 (a ∷ b ∷ []) c ∙ rw two (spell-low ((1 * 256 + lower a) * 256 + lower b) c (omega (arith, lower-lt a ha, lower-lt b hb)))
-
-    module _ (d : ℕ) (hd : isText d ≡ true) where
-      four : spelled 1 (a ∷ b ∷ c ∷ d ∷ []) ≡ (((1 * 256 + lower a) * 256 + lower b) * 256 + lower c) * 256 + lower d
-      four = spelled-more 1 (a ∷ b ∷ c ∷ []) d ∙ rw three (spell-low (((1 * 256 + lower a) * 256 + lower b) * 256 + lower c) d (omega (arith, lower-lt a ha, lower-lt b hb, lower-lt c hc)))
-
-      module _ (e : ℕ) (he : isText e ≡ true) where
-        five : spelled 1 (a ∷ b ∷ c ∷ d ∷ e ∷ []) ≡ ((((1 * 256 + lower a) * 256 + lower b) * 256 + lower c) * 256 + lower d) * 256 + lower e
-        five = spelled-more 1 (a ∷ b ∷ c ∷ d ∷ []) e ∙ rw four (spell-low ((((1 * 256 + lower a) * 256 + lower b) * 256 + lower c) * 256 + lower d) e (omega (arith, lower-lt a ha, lower-lt b hb, lower-lt c hc, lower-lt d hd)))
-
-        six : (f : ℕ) (w : List ℕ) → 281474976710656 ≤ spelled 1 (a ∷ b ∷ c ∷ d ∷ e ∷ f ∷ w)
-        unfolding spelled
-        six f w = subst (λ (q : ℕ). 281474976710656 ≤ spelled q w) (sym (spelled-more 1 (a ∷ b ∷ c ∷ d ∷ e ∷ []) f))
-            (spelled-high (spell (spelled 1 (a ∷ b ∷ c ∷ d ∷ e ∷ [])) f) w (rw five (rw (spell-low (((((1 * 256 + lower a) * 256 + lower b) * 256 + lower c) * 256 + lower d) * 256 + lower e) f (omega (arith, lower-lt a ha, lower-lt b hb, lower-lt c hc, lower-lt d hd, lower-lt e he))) (omega arith))))
-
--- a word of text is the word that its number stands for
-texts : (c : ℕ) (w : List ℕ) → allText (c ∷ w) ≡ true → (isText c ≡ true) × (allText w ≡ true)
-unfolding allText
-texts c w h = and-both (isText c) (allText w) h
-
-word-four : (a b c d : ℕ) → truthWord (a ∷ b ∷ c ∷ d ∷ []) ≡ cond (same (map lower (a ∷ b ∷ c ∷ d ∷ [])) (bytes "true")) (good (pos 1)) (bad 11)
+-- two letters or more: `true`, `false`, or no word
+value-more : (a b : ℕ) (w : List ℕ) → allText (a ∷ b ∷ w) ≡ true → truthWord (a ∷ b ∷ w) ≡ truthAs (truthNumber (spelling (a ∷ b ∷ w)))
 unfolding truthWord
-word-four a b c d = rw (same-short (map lower (a ∷ b ∷ c ∷ d ∷ [])) (bytes "false") (λ e. omega arith))
-
-word-five : (a b c d e : ℕ) → truthWord (a ∷ b ∷ c ∷ d ∷ e ∷ []) ≡ cond (same (map lower (a ∷ b ∷ c ∷ d ∷ e ∷ [])) (bytes "false")) (good (pos 0)) (bad 11)
-unfolding truthWord
-word-five a b c d e = rw (same-short (map lower (a ∷ b ∷ c ∷ d ∷ e ∷ [])) (bytes "true") (λ e. omega arith))
+value-more a b w t =
+    let small = map lower (a ∷ b ∷ w) in
+    decided (same small (bytes "true")) (same small (bytes "false")) ∙ ap truthAs (sym (number-is (a ∷ b ∷ w) t ∙ simp longer))
 
 pub truth-value : (w : List ℕ) → 1 ≤ length w → allText w ≡ true → truthWord w ≡ truthAs (truthNumber (spelling w))
+unfolding allText
 truth-value [] h t = absurd (omega arith)
-truth-value (a ∷ []) h t = value-one a (texts a [] t .0)
-truth-value (a ∷ b ∷ []) h t =
-    let u = texts a (b ∷ []) t in let v = texts b [] (u .1) in
-    no-word a b [] (λ e. omega arith) (λ e. omega arith) ∙ sym (ap truthAs (ap truthNumber (two a b (u .0) (v .0)) ∙ value-mid ((1 * 256 + lower a) * 256 + lower b) (omega arith) (λ e. omega (arith, lower-lt a (u .0), lower-lt b (v .0))) (λ e. omega (arith, lower-lt a (u .0), lower-lt b (v .0)))) ∙ unfold truthAs in refl)
-truth-value (a ∷ b ∷ c ∷ []) h t =
-    let u = texts a (b ∷ c ∷ []) t in let v = texts b (c ∷ []) (u .1) in let x = texts c [] (v .1) in
-    no-word a b (c ∷ []) (λ e. omega arith) (λ e. omega arith) ∙ sym (ap truthAs (ap truthNumber (three a b (u .0) (v .0) c (x .0)) ∙ value-mid (((1 * 256 + lower a) * 256 + lower b) * 256 + lower c) (omega arith) (λ e. omega (arith, lower-lt a (u .0), lower-lt b (v .0), lower-lt c (x .0))) (λ e. omega (arith, lower-lt a (u .0), lower-lt b (v .0), lower-lt c (x .0)))) ∙ unfold truthAs in refl)
-truth-value (a ∷ b ∷ c ∷ d ∷ []) h t =
-    let u = texts a (b ∷ c ∷ d ∷ []) t in let v = texts b (c ∷ d ∷ []) (u .1) in let x = texts c (d ∷ []) (v .1) in let y = texts d [] (x .1) in
-    word-four a b c d ∙ true-as (same (map lower (a ∷ b ∷ c ∷ d ∷ [])) (bytes "true")) ∙ sym (ap truthAs (ap truthNumber (four a b (u .0) (v .0) c (x .0) d (y .0)) ∙ value-four (lower a) (lower b) (lower c) (lower d) (lower-lt a (u .0)) (lower-lt b (v .0)) (lower-lt c (x .0)) (lower-lt d (y .0))))
-truth-value (a ∷ b ∷ c ∷ d ∷ e ∷ []) h t =
-    let u = texts a (b ∷ c ∷ d ∷ e ∷ []) t in let v = texts b (c ∷ d ∷ e ∷ []) (u .1) in let x = texts c (d ∷ e ∷ []) (v .1) in let y = texts d (e ∷ []) (x .1) in let z = texts e [] (y .1) in
-    word-five a b c d e ∙ false-as (same (map lower (a ∷ b ∷ c ∷ d ∷ e ∷ [])) (bytes "false"))
-    ∙ sym (ap truthAs (ap truthNumber (five a b (u .0) (v .0) c (x .0) d (y .0) e (z .0)) ∙ value-five (lower a) (lower b) (lower c) (lower d) (lower e) (lower-lt a (u .0)) (lower-lt b (v .0)) (lower-lt c (x .0)) (lower-lt d (y .0)) (lower-lt e (z .0))))
-truth-value (a ∷ b ∷ c ∷ d ∷ e ∷ f ∷ w) h t =
-    let u = texts a (b ∷ c ∷ d ∷ e ∷ f ∷ w) t in let v = texts b (c ∷ d ∷ e ∷ f ∷ w) (u .1) in let x = texts c (d ∷ e ∷ f ∷ w) (v .1) in let y = texts d (e ∷ f ∷ w) (x .1) in let z = texts e (f ∷ w) (y .1) in
-    let big = six a b (u .0) (v .0) c (x .0) d (y .0) e (z .0) f w in
-    no-word a b (c ∷ d ∷ e ∷ f ∷ w) (λ e. omega arith) (λ e. omega arith) ∙ sym (ap truthAs (value-mid (spelling (a ∷ b ∷ c ∷ d ∷ e ∷ f ∷ w)) (omega (arith, big)) (λ q. omega (arith, big, q)) (λ q. omega (arith, big, q))) ∙ unfold truthAs in refl)
+truth-value (a ∷ []) h t = value-one a (and-both (isText a) true t .0)
+truth-value (a ∷ b ∷ w) h t = value-more a b w t
 
 -- the number of no letter at all
-spell-two : (q c : ℕ) → 1 ≤ q → 2 ≤ spell q c
-unfolding spell
-spell-two q c h = cond-cases (λ (n : ℕ). 2 ≤ n) (leb 281474976710656 q) 281474976710656 (q * 256 + lower c) (λ _. lit≤ tt) (λ _. omega arith)
-
-spelled-two : (q : ℕ) (w : List ℕ) → 2 ≤ q → 2 ≤ spelled q w
-unfolding spelled
-spelled-two q [] h = h
-spelled-two q (c ∷ w) h = spelled-two (spell q c) w (spell-two q c (omega arith))
-
 pub spelling-none : (w : List ℕ) → spelling w ≡ 1 → w ≡ []
 unfolding spelled
 spelling-none [] e = refl
-spelling-none (c ∷ w) e = absurd (omega (arith, e, spelled-two (spell 1 c) w (spell-two 1 c (lit≤ tt))))
+spelling-none (c ∷ w) e = absurd (omega (arith, e, spelled-least 2 (spell 1 c) w (lit≤ tt) (spell-least 2 1 c (lit≤ tt) (lit≤ tt))))
 
 pub spelling-some : (w : List ℕ) → (spelling w ≡ 1 → ⊥) → 1 ≤ length w
 unfolding spelled

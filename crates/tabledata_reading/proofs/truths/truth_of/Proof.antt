@@ -35,7 +35,17 @@ returns-7 c = sym (ap truthNumber ((c .match) .keys7))
 
 returns-8 : tie.Need-returns-8
 unfolding truthNumber
-returns-8 c = simp (ne-eqb _ 0x174 ((c .match) .rest .0 .0 .0 .0 .0 .0 .1), ne-eqb _ 0x131 ((c .match) .rest .0 .0 .0 .0 .0 .1), ne-eqb _ 0x174727565 ((c .match) .rest .0 .0 .0 .0 .1), ne-eqb _ 0x166 ((c .match) .rest .0 .0 .0 .1), ne-eqb _ 0x130 ((c .match) .rest .0 .0 .1), ne-eqb _ 0x166616c7365 ((c .match) .rest .0 .1), ne-eqb _ 0x13f ((c .match) .rest .1))
+returns-8 c =
+    let r = c .match .rest in
+    simp (
+      ne-eqb _ 0x174 (r .0 .0 .0 .0 .0 .0 .1),
+      ne-eqb _ 0x131 (r .0 .0 .0 .0 .0 .1),
+      ne-eqb _ 0x174727565 (r .0 .0 .0 .0 .1),
+      ne-eqb _ 0x166 (r .0 .0 .0 .1),
+      ne-eqb _ 0x130 (r .0 .0 .1),
+      ne-eqb _ 0x166616c7365 (r .0 .1),
+      ne-eqb _ 0x13f (r .1),
+    )
 
 pub truth-of-spec : {M : Type 1} → statement M
 truth-of-spec =
