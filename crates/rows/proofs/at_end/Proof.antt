@@ -10,7 +10,6 @@ use Rattle.rows.proofs.at_end.Statement.{statement}
 use Rattle.rows.proofs.at_end.Tie as tie
 use Rattle.rows.proofs.at_end.Reads as reads
 use Rattle.rows.proofs.at_end.Lts as lts
-use Rattle.tabledata_reading.proofs.skip_white.Reads as skip-white-reads
 
 enum-told : tie.Need-enum-told
 enum-told c = search needs

@@ -7,7 +7,6 @@ use Rattle.rows.proofs.begin_row.Tie as tie
 use Rattle.rows.proofs.begin_row.Reads as reads
 use Rattle.rows.proofs.begin_row.Lts as lts
 use Rattle.flags.proofs.read_flags.Reads as read-flags-reads
-use Rattle.tabledata_reading.proofs.row_begins.Reads as row-begins-reads
 
 enum-told : tie.Need-enum-told
 enum-told c = search needs

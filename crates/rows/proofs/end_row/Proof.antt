@@ -8,7 +8,6 @@ use Rattle.rows.proofs.end_row.Statement.{statement}
 use Rattle.rows.proofs.end_row.Tie as tie
 use Rattle.rows.proofs.end_row.Reads as reads
 use Rattle.rows.proofs.end_row.Lts as lts
-use Rattle.tabledata_reading.proofs.row_ends.Reads as row-ends-reads
 
 enum-told : tie.Need-enum-told
 enum-told c = search needs

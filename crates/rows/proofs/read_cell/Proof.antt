@@ -7,7 +7,6 @@ use Rattle.rows.proofs.read_cell.Reads as reads
 use Rattle.rows.proofs.read_cell.Lts as lts
 use Rattle.binary_reading.proofs.read_binary.Reads as read-binary-reads
 use Rattle.binary_reading.proofs.read_binary2.Reads as read-binary2-reads
-use Rattle.tabledata_reading.proofs.read_text.Reads as read-text-reads
 
 enum-told : tie.Need-enum-told
 enum-told c = search needs

@@ -5,7 +5,7 @@ use mathlib.Core.Path.{_∙_, _≡_, refl, subst}
 use lib.ListN.{length}
 use borrow.Author.Needs.{needs}
 use Rattle.table.specs.Contracts.{Reads}
-use Rattle.tabledata_reading.specs.Tags.{TagIs}
+use Rattle.text.specs.Contracts.{TagIs}
 use Rattle.tabledata_vectors.proofs.row.Statement.{statement}
 use Rattle.tabledata_vectors.proofs.row.Tie as tie
 
