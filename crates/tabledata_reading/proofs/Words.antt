@@ -1,5 +1,5 @@
--- Words of a cell that is read a character at a time, for `truths` and `integers`. `Clean w` says that w ends between words, so that its words
--- and those of what follows stand apart; `WordsAt` has the elements so far.
+-- Words of a cell that is read a character at a time, for `truths` and `integers`. `Clean w` says that w ends between words, so that its
+-- words and those of what follows stand apart; `WordsAt` has the elements so far.
 use Prim.Native.Nat.{_≤_, ℕ}
 use native.Mathlib.Omega.{arith}
 use mathlib.Core.Bool.{true}

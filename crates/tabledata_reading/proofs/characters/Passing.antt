@@ -1,6 +1,6 @@
--- What the text passed over comes to. `Passed s from i w` says that the characters from one place to another are w, so that the whole cell is
--- judged by w and what is left; each loop of the code keeps such a w, of which it holds only what it needs: `WordTo` for the loops that read
--- one word (`truth_piece`, `integer_piece`), `ReadTo` (elements.Laws) for those that read a cell.
+-- What the text passed over comes to. `Passed s from i w` says that the characters from one place to another are w, so that the whole cell
+-- is judged by w and what is left; each loop of the code keeps such a w, of which it holds only what it needs: `WordTo` for the loops that
+-- read one word (`truth_piece`, `integer_piece`), `ReadTo` (elements.Laws) for those that read a cell.
 use Prim.Native.Nat.{_+_, _<_, _≤_, ℕ}
 use native.Mathlib.Nat.{le-refl}
 use native.Mathlib.Omega.{arith}

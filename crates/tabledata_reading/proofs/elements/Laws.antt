@@ -1,5 +1,5 @@
--- Elements in the scratch, counted on where it has no room, and a cell that was read up to a place (`ReadTo`): what the loops of `chars`, `bits`,
--- `truths` and `integers` keep, and each of their ways out.
+-- Elements in the scratch, counted on where it has no room, and a cell that was read up to a place (`ReadTo`): what the loops of `chars`,
+-- `bits`, `truths` and `integers` keep, and each of their ways out.
 use Prim.Native.Nat.{_+_, _<_, _≤_, ℕ}
 use native.Mathlib.Nat.{le-refl}
 use native.Mathlib.Numerals.{add-one}

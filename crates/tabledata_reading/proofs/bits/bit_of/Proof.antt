@@ -1,4 +1,5 @@
--- `tabledata_reading::bit_of` meets its contract.
+-- `tabledata_reading::bits::bit_of` meets its contract: behind the end of the word nothing is a bit, before it each key of `match` is a
+-- case.
 use Rattle.table.specs.Bytes.{between}
 use Rattle.tabledata_reading.proofs.bits.Laws.{bit-none}
 use Rattle.tabledata_reading.specs.Elements.{bitAs}

@@ -1,4 +1,4 @@
--- `tabledata_reading::bits` meets its contract. The invariant: what was passed over has one word so far, of the bits in the scratch.
+-- `tabledata_reading::bits::bits` meets its contract. The invariant: what was passed over has one word so far, of the bits in the scratch.
 use Prim.Native.Nat.{_-_}
 use native.Mathlib.Omega.{arith}
 use mathlib.Core.List.{[]}

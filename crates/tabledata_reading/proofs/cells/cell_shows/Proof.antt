@@ -1,4 +1,4 @@
--- `tabledata_reading::cell_shows` meets its contract: no elements, too many or too few, those that stand for null, or others.
+-- `tabledata_reading::cells::cell_shows` meets its contract: no elements, too many or too few, those that stand for null, or others.
 use Prim.Native.Nat.{_≤_}
 use native.Mathlib.Omega.{arith}
 use mathlib.Core.Bool.{true}

@@ -1,4 +1,4 @@
--- `tabledata_reading::count_fits` meets its contract, by the shape of the length.
+-- `tabledata_reading::cells::count_fits` meets its contract, by the shape of the length.
 use mathlib.Core.Path.{_∙_, sym}
 use borrow.Author.Needs.{needs}
 use Rattle.table.specs.Cell.{bound, roomIn}

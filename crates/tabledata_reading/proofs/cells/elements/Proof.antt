@@ -1,4 +1,4 @@
--- `tabledata_reading::elements` meets its contract, kind by kind.
+-- `tabledata_reading::cells::elements` meets its contract, kind by kind.
 use borrow.Author.Needs.{needs}
 use Rattle.table.specs.Shape.{shape}
 use Rattle.tabledata_reading.proofs.cells.elements.Statement.{statement}

@@ -1,4 +1,4 @@
--- `tabledata_reading::fills` meets its contract, kind by kind.
+-- `tabledata_reading::cells::fills` meets its contract, kind by kind.
 use borrow.Author.Needs.{needs}
 use Rattle.table.specs.Cell.{isChar, roomFits}
 use Rattle.table.specs.Shape.{shape}

@@ -1,4 +1,4 @@
--- `tabledata_reading::read_text` meets its contract: how the cell begins, its elements, and what they come to in the column.
+-- `tabledata_reading::cells::read_text` meets its contract: how the cell begins, its elements, and what they come to in the column.
 use native.Mathlib.Omega.{arith}
 use mathlib.Core.Path.{subst}
 use borrow.Author.Needs.{needs}

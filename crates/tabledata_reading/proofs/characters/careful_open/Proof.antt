@@ -1,4 +1,4 @@
--- `tabledata_reading::careful_open` meets its contract: `<TD`, then `/>` or `>`, each after white space.
+-- `tabledata_reading::characters::careful_open` meets its contract: `<TD`, then `/>` or `>`, each after white space.
 use mathlib.Core.Path.{subst}
 use borrow.Author.Needs.{needs}
 use Rattle.tabledata_reading.proofs.characters.Laws.{cell-content, cell-empty, cell-no-end, cell-no-tag}

@@ -1,4 +1,4 @@
--- `tabledata_reading::character_at` meets its contract: the byte at the place decides.
+-- `tabledata_reading::characters::character_at` meets its contract: the byte at the place decides.
 use native.Mathlib.Omega.{arith}
 use borrow.Author.Needs.{needs}
 use denote.Ref.{now}

@@ -1,4 +1,4 @@
--- `tabledata_reading::end_tag` meets its contract: a whole `</TD>`, or the text is broken.
+-- `tabledata_reading::characters::end_tag` meets its contract: a whole `</TD>`, or the text is broken.
 use mathlib.Core.Path.{subst}
 use borrow.Author.Needs.{needs}
 use Rattle.tabledata_reading.proofs.characters.Laws.{ended-by, ended-not}

@@ -1,4 +1,4 @@
--- `tabledata_reading::open_cell` meets its contract: a bare `<TD>`, or the careful way.
+-- `tabledata_reading::characters::open_cell` meets its contract: a bare `<TD>`, or the careful way.
 use mathlib.Core.Path.{subst}
 use borrow.Author.Needs.{needs}
 use Rattle.tabledata_reading.proofs.characters.Laws.{quick-start}

@@ -1,4 +1,4 @@
--- `tabledata_reading::refer` meets its contract: the name up to its `;`, and what it means.
+-- `tabledata_reading::characters::refer` meets its contract: the name up to its `;`, and what it means.
 use native.Mathlib.Omega.{arith}
 use mathlib.Core.Path.{_∙_, ap, subst}
 use borrow.Author.Needs.{needs}

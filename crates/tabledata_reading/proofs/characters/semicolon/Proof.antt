@@ -1,4 +1,4 @@
--- `tabledata_reading::semicolon` meets its contract. The invariant: the text from here on is read with the name so far.
+-- `tabledata_reading::characters::semicolon` meets its contract. The invariant: the text from here on is read with the name so far.
 use Prim.Native.Nat.{_+_, _-_, _≤_, ℕ}
 use native.Mathlib.Omega.{arith}
 use mathlib.Core.List.{List, []}

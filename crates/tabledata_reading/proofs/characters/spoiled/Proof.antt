@@ -1,4 +1,4 @@
--- `tabledata_reading::spoiled` meets its contract. The invariant: the number is that of what is left.
+-- `tabledata_reading::characters::spoiled` meets its contract. The invariant: the number is that of what is left.
 use Prim.Native.Nat.{_-_, _≤_, ℕ}
 use native.Mathlib.Omega.{arith}
 use mathlib.Core.Path.{_∙_, _≡_, ap, refl, subst, sym}

@@ -1,4 +1,4 @@
--- `tabledata_reading::chars` meets its contract. The invariant: the characters passed over are the elements so far.
+-- `tabledata_reading::chars::chars` meets its contract. The invariant: the characters passed over are the elements so far.
 use Prim.Native.Nat.{_+_, _-_}
 use native.Mathlib.Omega.{arith}
 use mathlib.Core.List.{[], _∷_}

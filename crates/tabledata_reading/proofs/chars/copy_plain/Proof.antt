@@ -1,4 +1,5 @@
--- `tabledata_reading::copy_plain` meets its contract. The invariant: the text passed over is its own elements, which follow those there were.
+-- `tabledata_reading::chars::copy_plain` meets its contract. The invariant: the text passed over is its own elements, which follow those
+-- there were.
 use Prim.Native.Nat.{_+_, _-_, _≤_, ℕ}
 use native.Mathlib.Omega.{arith}
 use mathlib.Core.Bool.{true}

@@ -1,4 +1,4 @@
--- `tabledata_reading::as_element` meets its contract.
+-- `tabledata_reading::elements::as_element` meets its contract: the cast of a code keeps it.
 use native.Mathlib.Omega.{arith}
 use borrow.Author.Needs.{needs}
 use mir.Facts.{toZ-pos}

@@ -1,4 +1,4 @@
--- `tabledata_reading::put` meets its contract: a place beyond the scratch sets nothing.
+-- `tabledata_reading::elements::put` meets its contract: a place beyond the scratch sets nothing.
 use mathlib.Core.Path.{sym}
 use lib.Seq.{set-out}
 use borrow.Author.Needs.{needs}

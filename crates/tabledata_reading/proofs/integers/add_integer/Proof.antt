@@ -1,4 +1,4 @@
--- `tabledata_reading::add_integer` meets its contract: a word that was not begun adds nothing, another what it reads as.
+-- `tabledata_reading::integers::add_integer` meets its contract: a word that was not begun adds nothing, another what it reads as.
 use Prim.Native.Nat.{ℕ}
 use native.Mathlib.Omega.{arith}
 use mathlib.Core.Bool.{Bool}

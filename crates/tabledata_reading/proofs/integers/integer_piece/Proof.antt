@@ -1,4 +1,5 @@
--- `tabledata_reading::integer_piece` meets its contract. The invariant: the letters passed over are a word so far, as the integers' reader has it.
+-- `tabledata_reading::integers::integer_piece` meets its contract. The invariant: the letters passed over are a word so far, as the
+-- integers' reader has it.
 use Prim.Native.Nat.{_-_, ℕ}
 use native.Mathlib.Omega.{arith}
 use mathlib.Core.Bool.{true}

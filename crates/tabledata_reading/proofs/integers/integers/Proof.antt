@@ -1,4 +1,5 @@
--- `tabledata_reading::integers` meets its contract. The invariant: the words passed over are the elements so far; a word read at once adds its one element.
+-- `tabledata_reading::integers::integers` meets its contract. The invariant: the words passed over are the elements so far; a word read at
+-- once adds its one element.
 use Prim.Native.Nat.{_-_}
 use native.Mathlib.Omega.{arith}
 use mathlib.Core.Path.{_∙_, _≡_, ap, subst}

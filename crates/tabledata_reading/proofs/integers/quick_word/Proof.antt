@@ -1,4 +1,4 @@
--- `tabledata_reading::quick_word` meets its contract: plain digits, then a space or a bare `</TD>`.
+-- `tabledata_reading::integers::quick_word` meets its contract: plain digits, then a space or a bare `</TD>`.
 use Prim.Native.Nat.{_+_}
 use native.Mathlib.Omega.{arith}
 use mathlib.Core.Path.{_≡_, subst, sym}

@@ -1,4 +1,4 @@
--- `tabledata_reading::expand` meets its contract: a name, or `#x` and hexadigits, or `#` and digits.
+-- `tabledata_reading::references::expand` meets its contract: a name, or `#x` and hexadigits, or `#` and digits.
 use native.Mathlib.Omega.{arith}
 use mathlib.Core.Path.{_∙_}
 use borrow.Author.Needs.{needs}

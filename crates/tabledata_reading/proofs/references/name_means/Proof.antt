@@ -1,4 +1,4 @@
--- `tabledata_reading::name_means` meets its contract: the names are tried in the definition's order.
+-- `tabledata_reading::references::name_means` meets its contract: the names are tried in the definition's order.
 use mathlib.Core.Bool.{false}
 use mathlib.Core.Path.{_∙_, _≡_, sym}
 use borrow.Author.Needs.{needs}

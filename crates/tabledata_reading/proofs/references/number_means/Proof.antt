@@ -1,5 +1,5 @@
--- `tabledata_reading::number_means` meets its contract. The invariant: the numeral is what its rest gives with the value so far, which n digits
--- keep below 16 ^ n.
+-- `tabledata_reading::references::number_means` meets its contract. The invariant: the numeral is what its rest gives with the value so
+-- far, which n digits keep below 16 ^ n.
 use Prim.Native.Nat.{_+_, _-_, _<_, _^_, _≤_, ℕ}
 use native.Mathlib.Omega.{arith}
 use mathlib.Core.Path.{_∙_, _≡_, ap, refl, sym}

@@ -1,4 +1,4 @@
--- `tabledata_reading::with_digit` meets its contract, by the base.
+-- `tabledata_reading::references::with_digit` meets its contract, by the base.
 use borrow.Author.Needs.{needs}
 use Rattle.tabledata_reading.proofs.references.with_digit.Statement.{statement}
 use Rattle.tabledata_reading.proofs.references.with_digit.Tie as tie

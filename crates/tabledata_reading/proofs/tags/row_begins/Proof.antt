@@ -1,4 +1,4 @@
--- `tabledata_reading::row_begins` meets its contract: white space, then the whole tag.
+-- `tabledata_reading::tags::row_begins` meets its contract: white space, then the whole tag.
 use mathlib.Core.Path.{ap}
 use borrow.Author.Needs.{needs}
 use Rattle.table.specs.Bytes.{bytes, tag}

@@ -1,4 +1,4 @@
--- `tabledata_reading::add_truth` meets its contract: no letters add nothing; the number of a word tells its element.
+-- `tabledata_reading::truths::add_truth` meets its contract: no letters add nothing; the number of a word tells its element.
 use Prim.Native.Nat.{ℕ}
 use native.Mathlib.Omega.{arith}
 use mathlib.Core.Bool.{true}

@@ -1,4 +1,4 @@
--- `tabledata_reading::lower_case` meets its contract.
+-- `tabledata_reading::truths::lower_case` meets its contract: the two sides of the capitals, and between them 32 more.
 use native.Mathlib.Omega.{arith}
 use mathlib.Core.Path.{sym}
 use borrow.Author.Needs.{needs}

@@ -1,4 +1,4 @@
--- `tabledata_reading::truth_of` meets its contract: each key of `match` is a case of the definition.
+-- `tabledata_reading::truths::truth_of` meets its contract: each key of `match` is a case of the definition.
 use mathlib.Core.Path.{ap, sym}
 use borrow.Author.Tests.{ne-eqb}
 use Rattle.tabledata_reading.specs.Words.{truthNumber}

@@ -1,4 +1,5 @@
--- `tabledata_reading::truth_piece` meets its contract. The invariant: the letters passed over are a word so far, spelled as the number that is held.
+-- `tabledata_reading::truths::truth_piece` meets its contract. The invariant: the letters passed over are a word so far, spelled as the
+-- number that is held.
 use Prim.Native.Nat.{_-_, ℕ}
 use native.Mathlib.Omega.{arith}
 use mathlib.Core.Bool.{true}

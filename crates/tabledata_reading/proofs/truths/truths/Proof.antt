@@ -1,4 +1,4 @@
--- `tabledata_reading::truths` meets its contract. The invariant: the words passed over are the elements so far.
+-- `tabledata_reading::truths::truths` meets its contract. The invariant: the words passed over are the elements so far.
 use Prim.Native.Nat.{_-_}
 use native.Mathlib.Omega.{arith}
 use mathlib.Core.Path.{_∙_, _≡_, subst}

@@ -1,4 +1,4 @@
--- `tabledata_reading::with_letter` meets its contract.
+-- `tabledata_reading::truths::with_letter` meets its contract: too many letters, or one digit more in base 256.
 use Prim.Native.Nat.{_*_, _+_, ℕ}
 use native.Mathlib.Omega.{arith}
 use mathlib.Core.Path.{_∙_, ap, sym}
