@@ -35,9 +35,6 @@ loop-holds c = read-none ([], bits-start) (search needs)
 character-at-requires : tie.Need-character-at-requires Inv-loop μ-loop
 character-at-requires c κs = c .loop .inv .high
 
-enum-told : tie.Need-enum-told Inv-loop μ-loop
-enum-told c = search needs
-
 same-length : tie.Need-same-length Inv-loop μ-loop
 same-length c = c .before .before .before .loop .inv .long
 
@@ -45,9 +42,6 @@ returns : tie.Need-returns Inv-loop μ-loop
 returns c =
     let at-loop = c .before .before .before in
     read-broken (at-loop .loop .inv) Bits (subst (ItemIs _ _ _) (c .enum-told .given .1) (c .before .before .character-at .ensures) .found)
-
-enum-known-next : tie.Need-enum-known-next Inv-loop μ-loop
-enum-known-next c = search needs
 
 same-length-2 : tie.Need-same-length-2 Inv-loop μ-loop
 same-length-2 c = c .before .before .before .before .loop .inv .long
@@ -57,12 +51,6 @@ returns-2 c =
     let r = c .before .before .before .before .loop .inv in
     read-end r Bits (subst (ItemIs _ _ _) (c .before .next .given .1) (c .before .before .before .character-at .ensures)) (bits-to-end (r .means))
 
-enum-known-c : tie.Need-enum-known-c Inv-loop μ-loop
-enum-known-c c = search needs
-
-is-white-requires : tie.Need-is-white-requires Inv-loop μ-loop
-is-white-requires c κs = search needs
-
 loop-less : tie.Need-loop-less Inv-loop μ-loop
 loop-less c = let t = item (c .before .before) in omega (arith, t .within .0, t .within .1)
 
@@ -70,9 +58,6 @@ loop-again : tie.Need-loop-again Inv-loop μ-loop
 loop-again c =
     let at-loop = c .before .before .before .before .before .before in
     bits-passed (at-loop .loop .inv) (item (c .before .before)) (sym (c .before .is-white .ensures) ∙ c .if1 .taken)
-
-bit-of-requires : tie.Need-bit-of-requires Inv-loop μ-loop
-bit-of-requires c κs = search needs
 
 spoiled-requires : tie.Need-spoiled-requires Inv-loop μ-loop
 spoiled-requires c κs = item (c .before .before .before .before) .within .1
@@ -86,12 +71,6 @@ returns-3 c =
     let at-loop = at-known .before .before .before .before in
     let not-white = sym (at-is-white .is-white .ensures) ∙ at-if1 .if1 .left in
     bits-spoilt (at-loop .loop .inv) (item at-known) not-white (c .before .before .bit-of .ensures) (c .before .if2 .taken) (c .spoiled .ensures)
-
-as-element-requires : tie.Need-as-element-requires Inv-loop μ-loop
-as-element-requires c κs = search needs
-
-put-requires : tie.Need-put-requires Inv-loop μ-loop
-put-requires c κs = search needs
 
 add-count : tie.Need-add-count Inv-loop μ-loop
 add-count c =
@@ -116,22 +95,22 @@ bits-spec =
     μ-loop
     loop-holds
     character-at-requires
-    enum-told
+    (λ c. search needs)
     same-length
     returns
-    enum-known-next
+    (λ c. search needs)
     same-length-2
     returns-2
-    enum-known-c
-    is-white-requires
+    (λ c. search needs)
+    (λ c κs. search needs)
     loop-less
     loop-again
-    bit-of-requires
+    (λ c κs. search needs)
     spoiled-requires
     same-length-3
     returns-3
-    as-element-requires
-    put-requires
+    (λ c κs. search needs)
+    (λ c κs. search needs)
     add-count
     loop-less-2
     loop-again-2)

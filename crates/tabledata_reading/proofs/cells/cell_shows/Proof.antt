@@ -40,9 +40,6 @@ null c =
 returns : tie.Need-returns
 returns c = record { found = λ s es p. shown-none (c .before .args .column) _ p (c .if1 .taken); few = tt; place = refl }
 
-count-fits-requires : tie.Need-count-fits-requires
-count-fits-requires c κs = search needs
-
 returns-2 : tie.Need-returns-2
 returns-2 c =
     let at-start = c .before .before .before in
@@ -51,9 +48,6 @@ returns-2 c =
       few = tt;
       place = tt;
     }
-
-null-element-requires : tie.Need-null-element-requires
-null-element-requires c κs = search needs
 
 is-null-requires : tie.Need-is-null-requires
 is-null-requires c κs = few (c .before)
@@ -81,9 +75,9 @@ cell-shows-spec =
     tie.close
     (tie.spec
     returns
-    count-fits-requires
+    (λ c κs. search needs)
     returns-2
-    null-element-requires
+    (λ c κs. search needs)
     is-null-requires
     returns-3
     returns-4)

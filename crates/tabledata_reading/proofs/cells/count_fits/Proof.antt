@@ -7,18 +7,6 @@ use Rattle.tabledata_reading.specs.Cells.{roomAnd}
 use Rattle.tabledata_reading.proofs.cells.count_fits.Statement.{statement}
 use Rattle.tabledata_reading.proofs.cells.count_fits.Tie as tie
 
-enum-known-len : tie.Need-enum-known-len
-enum-known-len c = search needs
-
-fills-requires : tie.Need-fills-requires
-fills-requires c κs = search needs
-
-enum-known-len-2 : tie.Need-enum-known-len-2
-enum-known-len-2 c = search needs
-
-enum-told : tie.Need-enum-told
-enum-told c = search needs
-
 returns : tie.Need-returns
 unfolding roomAnd roomIn bound
 returns c = rw ((c .before .before .before .len) .given .1) (rw (sym ((c .before .fills) .ensures) ∙ (c .if1) .taken))
@@ -39,10 +27,10 @@ pub count-fits-spec : {M : Type 1} → statement M
 count-fits-spec =
     tie.close
     (tie.spec
-    enum-known-len
-    fills-requires
-    enum-known-len-2
-    enum-told
+    (λ c. search needs)
+    (λ c κs. search needs)
+    (λ c. search needs)
+    (λ c. search needs)
     returns
     returns-2
     returns-3

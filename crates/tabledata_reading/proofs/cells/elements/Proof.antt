@@ -4,48 +4,6 @@ use Rattle.table.specs.Shape.{shape}
 use Rattle.tabledata_reading.proofs.cells.elements.Statement.{statement}
 use Rattle.tabledata_reading.proofs.cells.elements.Tie as tie
 
-enum-told : tie.Need-enum-told
-enum-told c = search needs
-
-truths-requires : tie.Need-truths-requires
-truths-requires c κs = search needs
-
-enum-told-2 : tie.Need-enum-told-2
-enum-told-2 c = search needs
-
-bits-requires : tie.Need-bits-requires
-bits-requires c κs = search needs
-
-enum-told-3 : tie.Need-enum-told-3
-enum-told-3 c = search needs
-
-integers-requires : tie.Need-integers-requires
-integers-requires c κs = search needs
-
-enum-told-4 : tie.Need-enum-told-4
-enum-told-4 c = search needs
-
-integers-requires-2 : tie.Need-integers-requires-2
-integers-requires-2 c κs = search needs
-
-enum-told-5 : tie.Need-enum-told-5
-enum-told-5 c = search needs
-
-integers-requires-3 : tie.Need-integers-requires-3
-integers-requires-3 c κs = search needs
-
-enum-told-6 : tie.Need-enum-told-6
-enum-told-6 c = search needs
-
-integers-requires-4 : tie.Need-integers-requires-4
-integers-requires-4 c κs = search needs
-
-enum-told-7 : tie.Need-enum-told-7
-enum-told-7 c = search needs
-
-chars-requires : tie.Need-chars-requires
-chars-requires c κs = search needs
-
 same-length : tie.Need-same-length
 same-length c = (c .before .truths) .ensures .long
 
@@ -99,20 +57,20 @@ pub elements-spec : {M : Type 1} → statement M
 elements-spec =
     tie.close
     (tie.spec
-    enum-told
-    truths-requires
-    enum-told-2
-    bits-requires
-    enum-told-3
-    integers-requires
-    enum-told-4
-    integers-requires-2
-    enum-told-5
-    integers-requires-3
-    enum-told-6
-    integers-requires-4
-    enum-told-7
-    chars-requires
+    (λ c. search needs)
+    (λ c κs. search needs)
+    (λ c. search needs)
+    (λ c κs. search needs)
+    (λ c. search needs)
+    (λ c κs. search needs)
+    (λ c. search needs)
+    (λ c κs. search needs)
+    (λ c. search needs)
+    (λ c κs. search needs)
+    (λ c. search needs)
+    (λ c κs. search needs)
+    (λ c. search needs)
+    (λ c κs. search needs)
     same-length
     returns
     same-length-2

@@ -15,26 +15,8 @@ opening : (c : tie.After-elements-arg) →
     OpeningIs (now (at-start .args .s)) (at-start .args .at) (Content (c .before .before .from .given .0 .0))
 opening c = subst (OpeningIs _ _) (c .before .before .from .given .1) (c .before .before .before .before .open-cell .ensures)
 
-open-cell-requires : tie.Need-open-cell-requires
-open-cell-requires c κs = search needs
-
-enum-told : tie.Need-enum-told
-enum-told c = search needs
-
-enum-known-next : tie.Need-enum-known-next
-enum-known-next c = search needs
-
-enum-known-from : tie.Need-enum-known-from
-enum-known-from c = search needs
-
 elements-requires : tie.Need-elements-requires
 elements-requires c κs = opening c .within .1
-
-enum-known-n : tie.Need-enum-known-n
-enum-known-n c = search needs
-
-enum-known-count : tie.Need-enum-known-count
-enum-known-count c = search needs
 
 cell-shows-requires : tie.Need-cell-shows-requires
 cell-shows-requires c κs =
@@ -68,13 +50,13 @@ pub read-text-spec : {M : Type 1} → statement M
 read-text-spec =
     tie.close
     (tie.spec
-    open-cell-requires
-    enum-told
-    enum-known-next
-    enum-known-from
+    (λ c κs. search needs)
+    (λ c. search needs)
+    (λ c. search needs)
+    (λ c. search needs)
     elements-requires
-    enum-known-n
-    enum-known-count
+    (λ c. search needs)
+    (λ c. search needs)
     cell-shows-requires
     returns
     returns-2

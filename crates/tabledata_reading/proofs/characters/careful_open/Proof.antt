@@ -16,44 +16,14 @@ begun : (c : tie.After-ends-arg2) →
     let a = at-start .args in TagIs (λ n. ends n (bytes "<TD") (drop (a .at) (now (a .s)))) (now (a .s)) (a .at) (At (c .before .before .i .given .0 .0))
 begun c = subst (TagIs _ _ _) (c .before .before .i .given .1) (c .before .before .before .before .ends .ensures)
 
-slice-aggregate-ends : tie.Need-slice-aggregate-ends
-slice-aggregate-ends c = search needs
-
-ends-requires : tie.Need-ends-requires
-ends-requires c κs = search needs
-
-enum-known-i : tie.Need-enum-known-i
-enum-known-i c = search needs
-
-enum-told : tie.Need-enum-told
-enum-told c = search needs
-
 returns : tie.Need-returns
 returns c = cell-no-tag (subst (TagIs _ _ _) (c .enum-told .given .1) (c .before .before .ends .ensures))
-
-slice-aggregate-ends-2 : tie.Need-slice-aggregate-ends-2
-slice-aggregate-ends-2 c = search needs
 
 ends-requires-2 : tie.Need-ends-requires-2
 ends-requires-2 c κs = begun c .within .1
 
-enum-known-next : tie.Need-enum-known-next
-enum-known-next c = search needs
-
-enum-told-2 : tie.Need-enum-told-2
-enum-told-2 c = search needs
-
-slice-aggregate-ends-3 : tie.Need-slice-aggregate-ends-3
-slice-aggregate-ends-3 c = search needs
-
 ends-requires-3 : tie.Need-ends-requires-3
 ends-requires-3 c κs = begun (c .before .before .before .before) .within .1
-
-enum-known-from : tie.Need-enum-known-from
-enum-known-from c = search needs
-
-enum-told-3 : tie.Need-enum-told-3
-enum-told-3 c = search needs
 
 returns-2 : tie.Need-returns-2
 returns-2 c =
@@ -77,19 +47,19 @@ pub careful-open-spec : {M : Type 1} → statement M
 careful-open-spec =
     tie.close
     (tie.spec
-    slice-aggregate-ends
-    ends-requires
-    enum-known-i
-    enum-told
+    (λ c. search needs)
+    (λ c κs. search needs)
+    (λ c. search needs)
+    (λ c. search needs)
     returns
-    slice-aggregate-ends-2
+    (λ c. search needs)
     ends-requires-2
-    enum-known-next
-    enum-told-2
-    slice-aggregate-ends-3
+    (λ c. search needs)
+    (λ c. search needs)
+    (λ c. search needs)
     ends-requires-3
-    enum-known-from
-    enum-told-3
+    (λ c. search needs)
+    (λ c. search needs)
     returns-2
     returns-3
     returns-4)

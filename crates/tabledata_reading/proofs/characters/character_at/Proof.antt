@@ -9,22 +9,10 @@ use Rattle.tabledata_reading.proofs.characters.character_at.Tie as tie
 returns : tie.Need-returns
 returns c = record { found = text-end _ _ (c .if1 .taken); within = tt }
 
-shared-slice-read-c : tie.Need-shared-slice-read-c
-shared-slice-read-c c = search needs
-
-end-tag-requires : tie.Need-end-tag-requires
-end-tag-requires c κs = search needs
-
 returns-2 : tie.Need-returns-2
 returns-2 c =
     let at-start = c .before .before .before .before .before in
     item-from _ (omega arith) (text-tag (now (at-start .args .s)) (at-start .args .at) (omega arith) (c .before .if2 .taken)) (c .end-tag .ensures)
-
-add-refer : tie.Need-add-refer
-add-refer c = search needs
-
-refer-requires : tie.Need-refer-requires
-refer-requires c κs = search needs
 
 returns-3 : tie.Need-returns-3
 returns-3 c =
@@ -34,9 +22,6 @@ returns-3 c =
 
 cast-t9 : tie.Need-cast-t9
 cast-t9 c = omega (arith, c .before .before .shared-slice-known2 .given (c .before .before .before .before .before .args .at))
-
-add-t4 : tie.Need-add-t4
-add-t4 c = search needs
 
 returns-4 : tie.Need-returns-4
 returns-4 c =
@@ -48,12 +33,12 @@ character-at-spec =
     tie.close
     (tie.spec
     returns
-    shared-slice-read-c
-    end-tag-requires
+    (λ c. search needs)
+    (λ c κs. search needs)
     returns-2
-    add-refer
-    refer-requires
+    (λ c. search needs)
+    (λ c κs. search needs)
     returns-3
     cast-t9
-    add-t4
+    (λ c. search needs)
     returns-4)

@@ -6,18 +6,6 @@ use Rattle.text.specs.Contracts.{TagIs}
 use Rattle.tabledata_reading.proofs.characters.end_tag.Statement.{statement}
 use Rattle.tabledata_reading.proofs.characters.end_tag.Tie as tie
 
-slice-aggregate-whole-tag : tie.Need-slice-aggregate-whole-tag
-slice-aggregate-whole-tag c = search needs
-
-whole-tag-requires : tie.Need-whole-tag-requires
-whole-tag-requires c κs = search needs
-
-enum-known-next : tie.Need-enum-known-next
-enum-known-next c = search needs
-
-enum-told : tie.Need-enum-told
-enum-told c = search needs
-
 returns : tie.Need-returns
 returns c = ended-not (subst (TagIs _ _ _) (c .enum-told .given .1) (c .before .before .whole-tag .ensures))
 
@@ -28,9 +16,9 @@ pub end-tag-spec : {M : Type 1} → statement M
 end-tag-spec =
     tie.close
     (tie.spec
-    slice-aggregate-whole-tag
-    whole-tag-requires
-    enum-known-next
-    enum-told
+    (λ c. search needs)
+    (λ c κs. search needs)
+    (λ c. search needs)
+    (λ c. search needs)
     returns
     returns-2)

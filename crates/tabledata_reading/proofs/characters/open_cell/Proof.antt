@@ -6,21 +6,6 @@ use Rattle.text.specs.Contracts.{TagIs}
 use Rattle.tabledata_reading.proofs.characters.open_cell.Statement.{statement}
 use Rattle.tabledata_reading.proofs.characters.open_cell.Tie as tie
 
-slice-aggregate-goes-on : tie.Need-slice-aggregate-goes-on
-slice-aggregate-goes-on c = search needs
-
-goes-on-requires : tie.Need-goes-on-requires
-goes-on-requires c κs = search needs
-
-enum-known-from : tie.Need-enum-known-from
-enum-known-from c = search needs
-
-enum-told : tie.Need-enum-told
-enum-told c = search needs
-
-careful-open-requires : tie.Need-careful-open-requires
-careful-open-requires c κs = search needs
-
 returns : tie.Need-returns
 returns c = quick-start (subst (TagIs _ _ _) (c .before .from .given .1) (c .before .before .before .goes-on .ensures))
 
@@ -31,10 +16,10 @@ pub open-cell-spec : {M : Type 1} → statement M
 open-cell-spec =
     tie.close
     (tie.spec
-    slice-aggregate-goes-on
-    goes-on-requires
-    enum-known-from
-    enum-told
-    careful-open-requires
+    (λ c. search needs)
+    (λ c κs. search needs)
+    (λ c. search needs)
+    (λ c. search needs)
+    (λ c κs. search needs)
     returns
     returns-2)

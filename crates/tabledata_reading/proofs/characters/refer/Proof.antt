@@ -16,15 +16,6 @@ name : (c : tie.After-known-told) →
     NameIs (now (at-start .args .s)) (at-start .args .from) (At (c .before .end .given .0 .0))
 name c = subst (NameIs _ _) (c .before .end .given .1) (c .before .before .before .semicolon .ensures)
 
-semicolon-requires : tie.Need-semicolon-requires
-semicolon-requires c κs = search needs
-
-enum-known-end : tie.Need-enum-known-end
-enum-known-end c = search needs
-
-enum-told : tie.Need-enum-told
-enum-told c = search needs
-
 returns : tie.Need-returns
 returns c = let t = subst (NameIs _ _) (c .enum-told .given .1) (c .before .before .semicolon .ensures) in record { found = t .found; within = tt }
 
@@ -36,15 +27,6 @@ part-expand-start c = let t = name c .within in search needs
 
 part-expand-end : tie.Need-part-expand-end
 part-expand-end c = let t = name c .within in search needs
-
-expand-requires : tie.Need-expand-requires
-expand-requires c κs = search needs
-
-enum-known-code : tie.Need-enum-known-code
-enum-known-code c = search needs
-
-enum-told-2 : tie.Need-enum-told-2
-enum-told-2 c = search needs
 
 returns-2 : tie.Need-returns-2
 returns-2 c = name-unknown (name (c .before .before .before .before)) (c .before .before .expand .ensures ∙ ap referenceAs (c .enum-told2 .given .1))
@@ -61,16 +43,16 @@ pub refer-spec : {M : Type 1} → statement M
 refer-spec =
     tie.close
     (tie.spec
-    semicolon-requires
-    enum-known-end
-    enum-told
+    (λ c κs. search needs)
+    (λ c. search needs)
+    (λ c. search needs)
     returns
     sub-expand
     part-expand-start
     part-expand-end
-    expand-requires
-    enum-known-code
-    enum-told-2
+    (λ c κs. search needs)
+    (λ c. search needs)
+    (λ c. search needs)
     returns-2
     add-t8
     returns-3)

@@ -23,24 +23,15 @@ loop-holds c = (search needs, refl)
 character-at-requires : tie.Need-character-at-requires Inv-loop μ-loop
 character-at-requires c κs = c .loop .inv .0
 
-enum-told : tie.Need-enum-told Inv-loop μ-loop
-enum-told c = search needs
-
 returns : tie.Need-returns Inv-loop μ-loop
 returns c =
     let t = subst (ItemIs _ _ _) (c .enum-told .given .1) (c .before .before .character-at .ensures) in
     sym (c .before .before .before .loop .inv .1 ∙ ap spoiledNumber (t .found) ∙ spoiled-broken)
 
-enum-told-2 : tie.Need-enum-told-2 Inv-loop μ-loop
-enum-told-2 c = search needs
-
 returns-2 : tie.Need-returns-2 Inv-loop μ-loop
 returns-2 c =
     let t = subst (ItemIs _ _ _) (c .enum-told2 .given .1) (c .before .before .character-at .ensures) in
     sym (c .before .before .before .loop .inv .1 ∙ ap spoiledNumber (t .found) ∙ spoiled-end _)
-
-enum-known-next : tie.Need-enum-known-next Inv-loop μ-loop
-enum-known-next c = search needs
 
 loop-less : tie.Need-loop-less Inv-loop μ-loop
 loop-less c =
@@ -60,10 +51,10 @@ spoiled-spec =
     μ-loop
     loop-holds
     character-at-requires
-    enum-told
+    (λ c. search needs)
     returns
-    enum-told-2
+    (λ c. search needs)
     returns-2
-    enum-known-next
+    (λ c. search needs)
     loop-less
     loop-again)

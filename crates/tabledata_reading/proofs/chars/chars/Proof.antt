@@ -54,9 +54,6 @@ add-count c = let r = copied c in omega (arith, r .few, r .high)
 character-at-requires : tie.Need-character-at-requires Inv-loop μ-loop
 character-at-requires c κs = copied c .high
 
-enum-told : tie.Need-enum-told Inv-loop μ-loop
-enum-told c = search needs
-
 same-length : tie.Need-same-length Inv-loop μ-loop
 same-length c = copied (c .before .before .before) .long
 
@@ -64,9 +61,6 @@ returns : tie.Need-returns Inv-loop μ-loop
 returns c =
     let at-scratch = c .before .before .before in
     read-broken (copied at-scratch) Text (subst (ItemIs _ _ _) (c .enum-told .given .1) (c .before .before .character-at .ensures) .found)
-
-enum-known-next : tie.Need-enum-known-next Inv-loop μ-loop
-enum-known-next c = search needs
 
 same-length-2 : tie.Need-same-length-2 Inv-loop μ-loop
 same-length-2 c = copied (c .before .before .before .before) .long
@@ -76,12 +70,6 @@ returns-2 c =
     let at-character-at = c .before .before .before in let at-scratch = at-character-at .before in
     let r = copied at-scratch in
     read-end r Text (subst (ItemIs _ _ _) (c .before .next .given .1) (at-character-at .character-at .ensures)) (chars-are (r .w) (r .es) (r .means))
-
-enum-known-c : tie.Need-enum-known-c Inv-loop μ-loop
-enum-known-c c = search needs
-
-is-text-requires : tie.Need-is-text-requires Inv-loop μ-loop
-is-text-requires c κs = search needs
 
 spoiled-requires : tie.Need-spoiled-requires Inv-loop μ-loop
 spoiled-requires c κs = item (c .before .before) .within .1
@@ -93,12 +81,6 @@ returns-3 : tie.Need-returns-3 Inv-loop μ-loop
 returns-3 c =
     let at-known = c .before .before .before in let at-scratch = at-known .before .before .before .before in
     read-no-text (copied at-scratch) Text (no-text (item at-known) (sym (c .before .before .is-text .ensures) ∙ not-true _ (c .before .if1 .taken))) (c .spoiled .ensures)
-
-as-element-requires : tie.Need-as-element-requires Inv-loop μ-loop
-as-element-requires c κs = search needs
-
-put-requires : tie.Need-put-requires Inv-loop μ-loop
-put-requires c κs = search needs
 
 add-count-2 : tie.Need-add-count-2 Inv-loop μ-loop
 add-count-2 c =
@@ -130,19 +112,19 @@ chars-spec =
     sub-count
     add-count
     character-at-requires
-    enum-told
+    (λ c. search needs)
     same-length
     returns
-    enum-known-next
+    (λ c. search needs)
     same-length-2
     returns-2
-    enum-known-c
-    is-text-requires
+    (λ c. search needs)
+    (λ c κs. search needs)
     spoiled-requires
     same-length-3
     returns-3
-    as-element-requires
-    put-requires
+    (λ c κs. search needs)
+    (λ c κs. search needs)
     add-count-2
     loop-less
     loop-again)

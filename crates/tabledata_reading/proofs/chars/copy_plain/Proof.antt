@@ -38,38 +38,14 @@ same-length c = c .before .before .loop .inv .1 .long
 returns : tie.Need-returns Inv-loop μ-loop
 returns c = c .before .before .loop .inv .1
 
-shared-slice-read-c : tie.Need-shared-slice-read-c Inv-loop μ-loop
-shared-slice-read-c c = search needs
-
 cast-c : tie.Need-cast-c Inv-loop μ-loop
 cast-c c = omega (arith, c .shared-slice-known2 .given (c .before .before .before .loop .i))
-
-is-plain-requires : tie.Need-is-plain-requires Inv-loop μ-loop
-is-plain-requires c κs = search needs
 
 same-length-2 : tie.Need-same-length-2 Inv-loop μ-loop
 same-length-2 c = c .before .before .before .before .before .loop .inv .1 .long
 
 returns-2 : tie.Need-returns-2 Inv-loop μ-loop
 returns-2 c = c .before .before .before .before .before .loop .inv .1
-
-as-element-requires : tie.Need-as-element-requires Inv-loop μ-loop
-as-element-requires c κs = search needs
-
-mul-t8 : tie.Need-mul-t8 Inv-loop μ-loop
-mul-t8 c = search needs
-
-slice-set-from-scratch : tie.Need-slice-set-from-scratch Inv-loop μ-loop
-slice-set-from-scratch c = search needs
-
-add-k : tie.Need-add-k Inv-loop μ-loop
-add-k c = search needs
-
-add-i : tie.Need-add-i Inv-loop μ-loop
-add-i c = search needs
-
-loop-less : tie.Need-loop-less Inv-loop μ-loop
-loop-less c = search needs
 
 -- the byte at the place stands for itself
 is-plain : (c : tie.Else2 Inv-loop μ-loop) →
@@ -110,17 +86,17 @@ copy-plain-spec =
     loop-holds
     same-length
     returns
-    shared-slice-read-c
+    (λ c. search needs)
     cast-c
-    is-plain-requires
+    (λ c κs. search needs)
     same-length-2
     returns-2
-    as-element-requires
-    mul-t8
-    slice-set-from-scratch
-    add-k
-    add-i
-    loop-less
+    (λ c κs. search needs)
+    (λ c. search needs)
+    (λ c. search needs)
+    (λ c. search needs)
+    (λ c. search needs)
+    (λ c. search needs)
     loop-again
     same-length-3
     returns-3)

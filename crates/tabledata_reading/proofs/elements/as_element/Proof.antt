@@ -6,11 +6,8 @@ use mir.Syntax.{w64}
 use Rattle.tabledata_reading.proofs.elements.as_element.Statement.{statement}
 use Rattle.tabledata_reading.proofs.elements.as_element.Tie as tie
 
-cast-result : tie.Need-cast-result
-cast-result c = search needs
-
 returns : tie.Need-returns
 returns c = toZ-pos w64 (omega arith)
 
 pub as-element-spec : {M : Type 1} → statement M
-as-element-spec = tie.close (tie.spec cast-result returns)
+as-element-spec = tie.close (tie.spec (λ c. search needs) returns)

@@ -37,9 +37,6 @@ read-word c w r e q =
     let some = fed-some w (begun (c .before .before) w e ∙ not-false _ (c .before .if1 .left)) in
     added-word (integerWord (isSigned k) (size k)) w _ some (integer-as k w r (ap (reading k) (sym e) ∙ sym (c .read .ensures) ∙ q))
 
-is-begun-requires : tie.Need-is-begun-requires
-is-begun-requires c κs = search needs
-
 returns : tie.Need-returns
 returns c =
     let k = c .before .before .args .kind in
@@ -54,32 +51,11 @@ returns c =
       long = refl;
     }
 
-read-requires : tie.Need-read-requires
-read-requires c κs = search needs
-
-enum-told : tie.Need-enum-told
-enum-told c = search needs
-
-enum-told-2 : tie.Need-enum-told-2
-enum-told-2 c = search needs
-
-enum-known-z : tie.Need-enum-known-z
-enum-known-z c = search needs
-
-put-requires : tie.Need-put-requires
-put-requires c κs = search needs
-
-add-t14 : tie.Need-add-t14
-add-t14 c = search needs
-
 returns-2 : tie.Need-returns-2
 returns-2 c = record { found = λ w t e. read-word (c .before .before) w _ e (ap readingOf (c .enum-told .given .1)); most = tt; long = refl }
 
 returns-3 : tie.Need-returns-3
 returns-3 c = record { found = λ w t e. read-word (c .before .before) w _ e (ap readingOf (c .enum-told2 .given .1)); most = tt; long = refl }
-
-same-length : tie.Need-same-length
-same-length c = search needs
 
 returns-4 : tie.Need-returns-4
 returns-4 c =
@@ -94,15 +70,15 @@ pub add-integer-spec : {M : Type 1} → statement M
 add-integer-spec =
     tie.close
     (tie.spec
-    is-begun-requires
+    (λ c κs. search needs)
     returns
-    read-requires
-    enum-told
-    enum-told-2
-    enum-known-z
-    put-requires
-    add-t14
+    (λ c κs. search needs)
+    (λ c. search needs)
+    (λ c. search needs)
+    (λ c. search needs)
+    (λ c κs. search needs)
+    (λ c. search needs)
     returns-2
     returns-3
-    same-length
+    (λ c. search needs)
     returns-4)

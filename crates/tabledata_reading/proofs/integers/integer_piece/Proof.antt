@@ -33,44 +33,26 @@ item c = subst (ItemIs _ _ _) (c .before .c .given .1) (c .before .before .befor
 is-text : (c : tie.Else1 Inv-loop μ-loop) → isText (c .before .before .before .c .given .0 .0) ≡ true
 is-text c = sym (c .before .is-text .ensures) ∙ not-false _ (c .if1 .left)
 
-new-requires : tie.Need-new-requires Inv-loop μ-loop
-new-requires c κs = search needs
-
 loop-holds : tie.Need-loop-holds Inv-loop μ-loop
 loop-holds c = word-none (c .new .ensures ∙ sym feed-start) (search needs)
 
 character-at-requires : tie.Need-character-at-requires Inv-loop μ-loop
 character-at-requires c κs = c .loop .inv .high
 
-enum-told : tie.Need-enum-told Inv-loop μ-loop
-enum-told c = search needs
-
 returns : tie.Need-returns Inv-loop μ-loop
 returns c =
     let at-loop = c .before .before .before in
     record { found = word-broken (at-loop .loop .inv) (subst (ItemIs _ _ _) (c .enum-told .given .1) (c .before .before .character-at .ensures) .found) }
-
-enum-known-next : tie.Need-enum-known-next Inv-loop μ-loop
-enum-known-next c = search needs
 
 returns-2 : tie.Need-returns-2 Inv-loop μ-loop
 returns-2 c =
     let at-character-at = c .before .before .before in let at-loop = at-character-at .before in
     record { found = word-ends (at-loop .loop .inv) (subst (ItemIs _ _ _) (c .before .next .given .1) (at-character-at .character-at .ensures)) }
 
-enum-known-c : tie.Need-enum-known-c Inv-loop μ-loop
-enum-known-c c = search needs
-
-is-text-requires : tie.Need-is-text-requires Inv-loop μ-loop
-is-text-requires c κs = search needs
-
 returns-3 : tie.Need-returns-3 Inv-loop μ-loop
 returns-3 c =
     let at-loop = c .before .before .before .before .before .before in
     record { found = word-no-text (at-loop .loop .inv) (item (c .before .before)) (sym (c .before .is-text .ensures) ∙ not-true _ (c .if1 .taken)) }
-
-is-white-requires : tie.Need-is-white-requires Inv-loop μ-loop
-is-white-requires c κs = search needs
 
 returns-4 : tie.Need-returns-4 Inv-loop μ-loop
 returns-4 c =
@@ -79,9 +61,6 @@ returns-4 c =
 
 cast-next : tie.Need-cast-next Inv-loop μ-loop
 cast-next c = omega (arith, text-lt _ (is-text (c .before .before)) .1)
-
-next-requires : tie.Need-next-requires Inv-loop μ-loop
-next-requires c κs = search needs
 
 loop-less : tie.Need-loop-less Inv-loop μ-loop
 loop-less c = let t = item (c .before .before .before .before .before) in omega (arith, t .within .0, t .within .1)
@@ -98,19 +77,19 @@ integer-piece-spec =
     (tie.spec
     Inv-loop
     μ-loop
-    new-requires
+    (λ c κs. search needs)
     loop-holds
     character-at-requires
-    enum-told
+    (λ c. search needs)
     returns
-    enum-known-next
+    (λ c. search needs)
     returns-2
-    enum-known-c
-    is-text-requires
+    (λ c. search needs)
+    (λ c κs. search needs)
     returns-3
-    is-white-requires
+    (λ c κs. search needs)
     returns-4
     cast-next
-    next-requires
+    (λ c κs. search needs)
     loop-less
     loop-again)

@@ -50,12 +50,6 @@ loop-holds c = read-none (words-start _) (search needs)
 quick-word-requires : tie.Need-quick-word-requires Inv-loop μ-loop
 quick-word-requires c κs = c .loop .inv .high
 
-enum-known-z : tie.Need-enum-known-z Inv-loop μ-loop
-enum-known-z c = search needs
-
-put-requires : tie.Need-put-requires Inv-loop μ-loop
-put-requires c κs = search needs
-
 add-count : tie.Need-add-count Inv-loop μ-loop
 add-count c = let r = c .before .before .before .before .before .before .before .loop .inv in omega (arith, r .few, r .high)
 
@@ -67,12 +61,6 @@ loop-again c =
     let at-loop = c .before .before .before .before .before .before .before in let at-start = at-loop .before .before in
     let kind = at-start .args .kind in
     word-cut (whole kind) (integers-are kind) (at-loop .loop .inv) (quick-cut (c .before .before)) (quick-adds kind (c .before .put .ensures) (search needs))
-
-enum-known-z-2 : tie.Need-enum-known-z-2 Inv-loop μ-loop
-enum-known-z-2 c = search needs
-
-put-requires-2 : tie.Need-put-requires-2 Inv-loop μ-loop
-put-requires-2 c κs = search needs
 
 add-t25 : tie.Need-add-t25 Inv-loop μ-loop
 add-t25 c = let r = c .before .before .before .before .before .before .before .loop .inv in omega (arith, r .few, r .high)
@@ -86,14 +74,8 @@ returns c =
     let kind = at-start .args .kind in
     word-last (whole kind) (integers-are kind) (at-loop .loop .inv) (quick-last (c .before .before)) (quick-adds kind (c .before .put2 .ensures) (search needs))
 
-enum-told : tie.Need-enum-told Inv-loop μ-loop
-enum-told c = search needs
-
 integer-piece-requires : tie.Need-integer-piece-requires Inv-loop μ-loop
 integer-piece-requires c κs = c .before .before .before .loop .inv .high
-
-enum-told-2 : tie.Need-enum-told-2 Inv-loop μ-loop
-enum-told-2 c = search needs
 
 same-length-2 : tie.Need-same-length-2 Inv-loop μ-loop
 same-length-2 c = c .before .before .before .before .before .before .loop .inv .long
@@ -102,9 +84,6 @@ returns-2 : tie.Need-returns-2 Inv-loop μ-loop
 returns-2 c =
     let at-loop = c .before .before .before .before .before .before in
     read-broken (at-loop .loop .inv) _ (subst (NumeralIs _ _) (c .enum-told2 .given .1) (c .before .before .integer-piece .ensures) .found)
-
-enum-known-next : tie.Need-enum-known-next Inv-loop μ-loop
-enum-known-next c = search needs
 
 spoiled-requires : tie.Need-spoiled-requires Inv-loop μ-loop
 spoiled-requires c κs = subst (NumeralIs _ _) (c .before .next .given .1) (c .before .before .before .integer-piece .ensures) .found .high
@@ -117,17 +96,8 @@ returns-3 c =
     let at-integer-piece = c .before .before .before .before in let at-loop = at-integer-piece .before .before .before .before in
     read-no-text (at-loop .loop .inv) _ (subst (NumeralIs _ _) (c .before .before .next .given .1) (at-integer-piece .integer-piece .ensures) .found) (c .spoiled .ensures)
 
-enum-known-word : tie.Need-enum-known-word Inv-loop μ-loop
-enum-known-word c = search needs
-
 add-integer-requires : tie.Need-add-integer-requires Inv-loop μ-loop
 add-integer-requires c κs = let r = c .before .before .before .before .before .before .before .before .loop .inv in omega (arith, r .few, r .high)
-
-enum-known-all : tie.Need-enum-known-all Inv-loop μ-loop
-enum-known-all c = search needs
-
-enum-told-3 : tie.Need-enum-told-3 Inv-loop μ-loop
-enum-told-3 c = search needs
 
 same-length-4 : tie.Need-same-length-4 Inv-loop μ-loop
 same-length-4 c =
@@ -155,17 +125,8 @@ returns-5 c =
     let added = subst (Adds _ _ _ _ _) (c .before .all .given .1) (at-add-integer .add-integer .ensures) in
     word-last _ (integers-are (at-start .args .kind)) (at-loop .loop .inv) (last at-add-integer-lent) added
 
-enum-known-word-2 : tie.Need-enum-known-word-2 Inv-loop μ-loop
-enum-known-word-2 c = search needs
-
 add-integer-requires-2 : tie.Need-add-integer-requires-2 Inv-loop μ-loop
 add-integer-requires-2 c κs = let r = c .before .before .before .before .before .before .before .before .loop .inv in omega (arith, r .few, r .high)
-
-enum-known-more : tie.Need-enum-known-more Inv-loop μ-loop
-enum-known-more c = search needs
-
-enum-told-4 : tie.Need-enum-told-4 Inv-loop μ-loop
-enum-told-4 c = search needs
 
 spoiled-requires-2 : tie.Need-spoiled-requires-2 Inv-loop μ-loop
 spoiled-requires-2 c κs = cut (c .before .before .before .before) .high
@@ -201,37 +162,37 @@ integers-spec =
     μ-loop
     loop-holds
     quick-word-requires
-    enum-known-z
-    put-requires
+    (λ c. search needs)
+    (λ c κs. search needs)
     add-count
     loop-less
     loop-again
-    enum-known-z-2
-    put-requires-2
+    (λ c. search needs)
+    (λ c κs. search needs)
     add-t25
     same-length
     returns
-    enum-told
+    (λ c. search needs)
     integer-piece-requires
-    enum-told-2
+    (λ c. search needs)
     same-length-2
     returns-2
-    enum-known-next
+    (λ c. search needs)
     spoiled-requires
     same-length-3
     returns-3
-    enum-known-word
+    (λ c. search needs)
     add-integer-requires
-    enum-known-all
-    enum-told-3
+    (λ c. search needs)
+    (λ c. search needs)
     same-length-4
     returns-4
     same-length-5
     returns-5
-    enum-known-word-2
+    (λ c. search needs)
     add-integer-requires-2
-    enum-known-more
-    enum-told-4
+    (λ c. search needs)
+    (λ c. search needs)
     spoiled-requires-2
     same-length-6
     returns-6

@@ -26,51 +26,12 @@ digits c =
 integer : (c : tie.After-shared-slice-known2) → let z = c .before .before .before .z .given .0 .0 in z ≡ toZ w64 (ofZ w64 z)
 integer c = let z = c .before .before .before .z .given .0 .0 in let e : toZ w64 (ofZ w64 z) ≡ z = search needs in sym e
 
-returns : tie.Need-returns
-returns c = search needs
-
-quick-integer-requires : tie.Need-quick-integer-requires
-quick-integer-requires c κs = search needs
-
-enum-told : tie.Need-enum-told
-enum-told c = search needs
-
-enum-known-z : tie.Need-enum-known-z
-enum-known-z c = search needs
-
-returns-2 : tie.Need-returns-2
-returns-2 c = search needs
-
-shared-slice-read-if3 : tie.Need-shared-slice-read-if3
-shared-slice-read-if3 c = search needs
-
-add-t16 : tie.Need-add-t16
-add-t16 c = search needs
-
 returns-3 : tie.Need-returns-3
 returns-3 c =
     let at-z = c .before .before .before .before in let at-start = at-z .before .before .before .before .before in
     let a = at-start .args in
     subst (λ (z : ℤ). QuickWordIs (a .kind) (now (a .s)) (a .from) (QuickWord.Cut z (at-z .z .given .0 .1 .0 + 1))) (integer (c .before))
     (record { found = quick-cut (digits (c .before)) (omega arith) (c .if3 .taken) })
-
-slice-aggregate-goes-on : tie.Need-slice-aggregate-goes-on
-slice-aggregate-goes-on c = search needs
-
-goes-on-requires : tie.Need-goes-on-requires
-goes-on-requires c κs = search needs
-
-enum-known-next : tie.Need-enum-known-next
-enum-known-next c = search needs
-
-enum-told-2 : tie.Need-enum-told-2
-enum-told-2 c = search needs
-
-returns-4 : tie.Need-returns-4
-returns-4 c = search needs
-
-returns-5 : tie.Need-returns-5
-returns-5 c = search needs
 
 returns-6 : tie.Need-returns-6
 returns-6 c =
@@ -85,18 +46,18 @@ pub quick-word-spec : {M : Type 1} → statement M
 quick-word-spec =
     tie.close
     (tie.spec
-    returns
-    quick-integer-requires
-    enum-told
-    enum-known-z
-    returns-2
-    shared-slice-read-if3
-    add-t16
+    (λ c. search needs)
+    (λ c κs. search needs)
+    (λ c. search needs)
+    (λ c. search needs)
+    (λ c. search needs)
+    (λ c. search needs)
+    (λ c. search needs)
     returns-3
-    slice-aggregate-goes-on
-    goes-on-requires
-    enum-known-next
-    enum-told-2
-    returns-4
-    returns-5
+    (λ c. search needs)
+    (λ c κs. search needs)
+    (λ c. search needs)
+    (λ c. search needs)
+    (λ c. search needs)
+    (λ c. search needs)
     returns-6)

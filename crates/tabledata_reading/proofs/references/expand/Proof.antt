@@ -9,29 +9,14 @@ use Rattle.tabledata_reading.proofs.references.expand.Tie as tie
 returns : tie.Need-returns
 returns c = expand-none _ (c .if1 .taken)
 
-shared-slice-read-if2 : tie.Need-shared-slice-read-if2
-shared-slice-read-if2 c = search needs
-
-name-means-requires : tie.Need-name-means-requires
-name-means-requires c κs = search needs
-
 returns-2 : tie.Need-returns-2
 returns-2 c = expand-name _ (c .before .if2 .taken) ∙ c .name-means .ensures
 
 returns-3 : tie.Need-returns-3
 returns-3 c = expand-short _ (c .if3 .taken) (c .before .if2 .left)
 
-shared-slice-read-if4 : tie.Need-shared-slice-read-if4
-shared-slice-read-if4 c = search needs
-
-number-means-requires : tie.Need-number-means-requires
-number-means-requires c κs = search needs
-
 returns-4 : tie.Need-returns-4
 returns-4 c = expand-hex _ (omega arith) (c .before .before .before .before .if2 .left) (c .before .if4 .taken) ∙ c .number-means .ensures
-
-number-means-requires-2 : tie.Need-number-means-requires-2
-number-means-requires-2 c κs = search needs
 
 returns-5 : tie.Need-returns-5
 returns-5 c = expand-decimal _ (omega arith) (c .before .before .before .before .if2 .left) (c .before .if4 .left) ∙ c .number-means2 .ensures
@@ -41,12 +26,12 @@ expand-spec =
     tie.close
     (tie.spec
     returns
-    shared-slice-read-if2
-    name-means-requires
+    (λ c. search needs)
+    (λ c κs. search needs)
     returns-2
     returns-3
-    shared-slice-read-if4
-    number-means-requires
+    (λ c. search needs)
+    (λ c κs. search needs)
     returns-4
-    number-means-requires-2
+    (λ c κs. search needs)
     returns-5)

@@ -24,31 +24,13 @@ not-quot : (c : tie.Else4) →
     same (bytes "quot") (now (at-start .args .name)) ≡ false
 not-quot c = sym (c .before .same-bytes4 .ensures) ∙ c .if4 .left
 
-slice-aggregate-same-bytes : tie.Need-slice-aggregate-same-bytes
-slice-aggregate-same-bytes c = search needs
-
-same-bytes-requires : tie.Need-same-bytes-requires
-same-bytes-requires c κs = search needs
-
 returns : tie.Need-returns
 unfolding named names
 returns c = rw (sym (c .before .same-bytes .ensures) ∙ c .if1 .taken)
 
-slice-aggregate-same-bytes-2 : tie.Need-slice-aggregate-same-bytes-2
-slice-aggregate-same-bytes-2 c = search needs
-
-same-bytes-requires-2 : tie.Need-same-bytes-requires-2
-same-bytes-requires-2 c κs = search needs
-
 returns-2 : tie.Need-returns-2
 unfolding named names
 returns-2 c = rw (not-amp (c .before .before .before), sym (c .before .same-bytes2 .ensures) ∙ c .if2 .taken)
-
-slice-aggregate-same-bytes-3 : tie.Need-slice-aggregate-same-bytes-3
-slice-aggregate-same-bytes-3 c = search needs
-
-same-bytes-requires-3 : tie.Need-same-bytes-requires-3
-same-bytes-requires-3 c κs = search needs
 
 returns-3 : tie.Need-returns-3
 unfolding named names
@@ -56,23 +38,11 @@ returns-3 c =
     let at-if2 = c .before .before .before in let at-if1 = at-if2 .before .before .before in
     rw (not-amp at-if1, not-lt at-if2, sym (c .before .same-bytes3 .ensures) ∙ c .if3 .taken)
 
-slice-aggregate-same-bytes-4 : tie.Need-slice-aggregate-same-bytes-4
-slice-aggregate-same-bytes-4 c = search needs
-
-same-bytes-requires-4 : tie.Need-same-bytes-requires-4
-same-bytes-requires-4 c κs = search needs
-
 returns-4 : tie.Need-returns-4
 unfolding named names
 returns-4 c =
     let at-if3 = c .before .before .before in let at-if2 = at-if3 .before .before .before in let at-if1 = at-if2 .before .before .before in
     rw (not-amp at-if1, not-lt at-if2, not-gt at-if3, sym (c .before .same-bytes4 .ensures) ∙ c .if4 .taken)
-
-slice-aggregate-same-bytes-5 : tie.Need-slice-aggregate-same-bytes-5
-slice-aggregate-same-bytes-5 c = search needs
-
-same-bytes-requires-5 : tie.Need-same-bytes-requires-5
-same-bytes-requires-5 c κs = search needs
 
 returns-5 : tie.Need-returns-5
 unfolding named names
@@ -92,19 +62,19 @@ pub name-means-spec : {M : Type 1} → statement M
 name-means-spec =
     tie.close
     (tie.spec
-    slice-aggregate-same-bytes
-    same-bytes-requires
+    (λ c. search needs)
+    (λ c κs. search needs)
     returns
-    slice-aggregate-same-bytes-2
-    same-bytes-requires-2
+    (λ c. search needs)
+    (λ c κs. search needs)
     returns-2
-    slice-aggregate-same-bytes-3
-    same-bytes-requires-3
+    (λ c. search needs)
+    (λ c κs. search needs)
     returns-3
-    slice-aggregate-same-bytes-4
-    same-bytes-requires-4
+    (λ c. search needs)
+    (λ c κs. search needs)
     returns-4
-    slice-aggregate-same-bytes-5
-    same-bytes-requires-5
+    (λ c. search needs)
+    (λ c κs. search needs)
     returns-5
     returns-6)

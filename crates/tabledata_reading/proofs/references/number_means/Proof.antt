@@ -42,9 +42,6 @@ below c = omega (arith, c .before .base .ensures)
 returns : tie.Need-returns Inv-loop μ-loop
 returns c = let a = c .before .before .args in numeric-not (a .hex) _ (λ h k. omega (arith, length-drop (a .from) (now (a .name))))
 
-sub-if2 : tie.Need-sub-if2 Inv-loop μ-loop
-sub-if2 c = search needs
-
 returns-2 : tie.Need-returns-2 Inv-loop μ-loop
 returns-2 c = let a = c .before .before .before .args in numeric-not (a .hex) _ (λ h k. omega (arith, length-drop (a .from) (now (a .name))))
 
@@ -52,15 +49,6 @@ loop-holds : tie.Need-loop-holds Inv-loop μ-loop
 loop-holds c =
     let at-start = c .before .before .before in
     let e : at-start .args .from - at-start .args .from ≡ 0 = omega arith in (search needs, search needs, rw e (lit≤ tt), refl)
-
-shared-slice-read-digit-value : tie.Need-shared-slice-read-digit-value Inv-loop μ-loop
-shared-slice-read-digit-value c = search needs
-
-digit-value-requires : tie.Need-digit-value-requires Inv-loop μ-loop
-digit-value-requires c κs = search needs
-
-base-requires : tie.Need-base-requires Inv-loop μ-loop
-base-requires c κs = search needs
 
 returns-3 : tie.Need-returns-3 Inv-loop μ-loop
 returns-3 c =
@@ -74,12 +62,6 @@ with-digit-requires : tie.Need-with-digit-requires Inv-loop μ-loop
 with-digit-requires c κs =
     let at-loop = c .before .before .before .before .before in let at-start = at-loop .before .before .before .before in
     (few-grow _ (at-loop .loop .i - at-start .args .from) (at-loop .loop .inv .2) (omega arith), small-base (at-start .args .hex) _ (below c))
-
-add-i : tie.Need-add-i Inv-loop μ-loop
-add-i c = search needs
-
-loop-less : tie.Need-loop-less Inv-loop μ-loop
-loop-less c = search needs
 
 loop-again : tie.Need-loop-again Inv-loop μ-loop
 loop-again c =
@@ -104,15 +86,15 @@ number-means-spec =
     Inv-loop
     μ-loop
     returns
-    sub-if2
+    (λ c. search needs)
     returns-2
     loop-holds
-    shared-slice-read-digit-value
-    digit-value-requires
-    base-requires
+    (λ c. search needs)
+    (λ c κs. search needs)
+    (λ c κs. search needs)
     returns-3
     with-digit-requires
-    add-i
-    loop-less
+    (λ c. search needs)
+    (λ c. search needs)
     loop-again
     returns-4)

@@ -7,15 +7,6 @@ use Rattle.text.proofs.Scan.{tag-from}
 use Rattle.tabledata_reading.proofs.tags.row_begins.Statement.{statement}
 use Rattle.tabledata_reading.proofs.tags.row_begins.Tie as tie
 
-skip-white-requires : tie.Need-skip-white-requires
-skip-white-requires c κs = search needs
-
-slice-aggregate-whole-tag : tie.Need-slice-aggregate-whole-tag
-slice-aggregate-whole-tag c = search needs
-
-whole-tag-requires : tie.Need-whole-tag-requires
-whole-tag-requires c κs = search needs
-
 returns : tie.Need-returns
 unfolding open-TR
 returns c = let w = c .before .before .skip-white .ensures in tag-from _ (w .low) (λ n. ap (tag n (bytes "<TR")) (w .rest)) (c .whole-tag .ensures)
@@ -24,7 +15,7 @@ pub row-begins-spec : {M : Type 1} → statement M
 row-begins-spec =
     tie.close
     (tie.spec
-    skip-white-requires
-    slice-aggregate-whole-tag
-    whole-tag-requires
+    (λ c κs. search needs)
+    (λ c. search needs)
+    (λ c κs. search needs)
     returns)

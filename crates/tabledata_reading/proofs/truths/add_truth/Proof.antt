@@ -34,9 +34,6 @@ returns c = record {
   long = refl;
 }
 
-truth-of-requires : tie.Need-truth-of-requires
-truth-of-requires c κs = search needs
-
 returns-2 : tie.Need-returns-2
 returns-2 c =
     record {
@@ -44,18 +41,6 @@ returns-2 c =
       most = tt;
       long = refl;
     }
-
-as-element-requires : tie.Need-as-element-requires
-as-element-requires c κs = search needs
-
-put-requires : tie.Need-put-requires
-put-requires c κs = search needs
-
-add-t10 : tie.Need-add-t10
-add-t10 c = search needs
-
-same-length : tie.Need-same-length
-same-length c = search needs
 
 returns-3 : tie.Need-returns-3
 returns-3 c =
@@ -77,10 +62,10 @@ add-truth-spec =
     tie.close
     (tie.spec
     returns
-    truth-of-requires
+    (λ c κs. search needs)
     returns-2
-    as-element-requires
-    put-requires
-    add-t10
-    same-length
+    (λ c κs. search needs)
+    (λ c κs. search needs)
+    (λ c. search needs)
+    (λ c. search needs)
     returns-3)

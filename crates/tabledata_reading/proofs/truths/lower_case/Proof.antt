@@ -12,11 +12,8 @@ returns c = (sym (lower-not ((c .before) .args .c) (λ h. omega arith)), omega a
 returns-2 : tie.Need-returns-2
 returns-2 c = (sym (lower-not ((c .before .before) .args .c) (λ h. omega arith)), omega arith)
 
-add-result : tie.Need-add-result
-add-result c = search needs
-
 returns-3 : tie.Need-returns-3
 returns-3 c = (sym (lower-yes ((c .before .before) .args .c) (omega arith) (omega arith)), omega arith)
 
 pub lower-case-spec : {M : Type 1} → statement M
-lower-case-spec = tie.close (tie.spec returns returns-2 add-result returns-3)
+lower-case-spec = tie.close (tie.spec returns returns-2 (λ c. search needs) returns-3)

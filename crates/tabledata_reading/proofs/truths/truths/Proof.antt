@@ -38,9 +38,6 @@ loop-holds c = read-none (words-start truthWord) (search needs)
 truth-piece-requires : tie.Need-truth-piece-requires Inv-loop μ-loop
 truth-piece-requires c κs = c .loop .inv .high
 
-enum-told : tie.Need-enum-told Inv-loop μ-loop
-enum-told c = search needs
-
 same-length : tie.Need-same-length Inv-loop μ-loop
 same-length c = c .before .before .before .loop .inv .long
 
@@ -48,9 +45,6 @@ returns : tie.Need-returns Inv-loop μ-loop
 returns c =
     let at-loop = c .before .before .before in
     read-broken (at-loop .loop .inv) Truths (subst (PieceIs _ _) (c .enum-told .given .1) (c .before .before .truth-piece .ensures) .found)
-
-enum-known-next : tie.Need-enum-known-next Inv-loop μ-loop
-enum-known-next c = search needs
 
 spoiled-requires : tie.Need-spoiled-requires Inv-loop μ-loop
 spoiled-requires c κs = subst (PieceIs _ _) (c .before .next .given .1) (c .before .before .before .truth-piece .ensures) .found .high
@@ -63,17 +57,8 @@ returns-2 c =
     let at-truth-piece = c .before .before .before .before in let at-loop = at-truth-piece .before in
     read-no-text (at-loop .loop .inv) Truths (subst (PieceIs _ _) (c .before .before .next .given .1) (at-truth-piece .truth-piece .ensures) .found) (c .spoiled .ensures)
 
-enum-known-word : tie.Need-enum-known-word Inv-loop μ-loop
-enum-known-word c = search needs
-
 add-truth-requires : tie.Need-add-truth-requires Inv-loop μ-loop
 add-truth-requires c κs = let r = c .before .before .before .before .before .loop .inv in omega (arith, r .few, r .high)
-
-enum-known-all : tie.Need-enum-known-all Inv-loop μ-loop
-enum-known-all c = search needs
-
-enum-told-2 : tie.Need-enum-told-2 Inv-loop μ-loop
-enum-told-2 c = search needs
 
 same-length-3 : tie.Need-same-length-3 Inv-loop μ-loop
 same-length-3 c =
@@ -97,17 +82,8 @@ returns-4 c =
     let at-loop = at-add-truth-lent .before .before .before .before .before in
     word-last Truths truths-are (at-loop .loop .inv) (last at-add-truth-lent) (subst (Adds _ _ _ _ _) (c .before .all .given .1) (at-add-truth .add-truth .ensures))
 
-enum-known-word-2 : tie.Need-enum-known-word-2 Inv-loop μ-loop
-enum-known-word-2 c = search needs
-
 add-truth-requires-2 : tie.Need-add-truth-requires-2 Inv-loop μ-loop
 add-truth-requires-2 c κs = let r = c .before .before .before .before .before .loop .inv in omega (arith, r .few, r .high)
-
-enum-known-more : tie.Need-enum-known-more Inv-loop μ-loop
-enum-known-more c = search needs
-
-enum-told-3 : tie.Need-enum-told-3 Inv-loop μ-loop
-enum-told-3 c = search needs
 
 spoiled-requires-2 : tie.Need-spoiled-requires-2 Inv-loop μ-loop
 spoiled-requires-2 c κs = cut (c .before .before .before .before) .high
@@ -141,25 +117,25 @@ truths-spec =
     μ-loop
     loop-holds
     truth-piece-requires
-    enum-told
+    (λ c. search needs)
     same-length
     returns
-    enum-known-next
+    (λ c. search needs)
     spoiled-requires
     same-length-2
     returns-2
-    enum-known-word
+    (λ c. search needs)
     add-truth-requires
-    enum-known-all
-    enum-told-2
+    (λ c. search needs)
+    (λ c. search needs)
     same-length-3
     returns-3
     same-length-4
     returns-4
-    enum-known-word-2
+    (λ c. search needs)
     add-truth-requires-2
-    enum-known-more
-    enum-told-3
+    (λ c. search needs)
+    (λ c. search needs)
     spoiled-requires-2
     same-length-5
     returns-5

@@ -10,21 +10,9 @@ use Rattle.tabledata_reading.proofs.truths.with_letter.Tie as tie
 returns : tie.Need-returns
 returns c = sym (spell-high _ _ ((c .if1) .taken))
 
-mul-result : tie.Need-mul-result
-mul-result c = search needs
-
-lower-case-requires : tie.Need-lower-case-requires
-lower-case-requires c κs = search needs
-
-cast-result : tie.Need-cast-result
-cast-result c = search needs
-
-add-result : tie.Need-add-result
-add-result c = search needs
-
 returns-2 : tie.Need-returns-2
 returns-2 c = ap (λ (n : ℕ). ((c .before .before) .args .word) * 256 + n) ((c .lower-case) .ensures .0) ∙ sym (spell-low _ _ (omega arith))
 
 pub with-letter-spec : {M : Type 1} → statement M
 with-letter-spec =
-    tie.close (tie.spec returns mul-result lower-case-requires cast-result add-result returns-2)
+    tie.close (tie.spec returns (λ c. search needs) (λ c κs. search needs) (λ c. search needs) (λ c. search needs) returns-2)
