@@ -19,8 +19,8 @@ use Rattle.tabledata_reading.specs.Characters.{spoiledNumber}
 use Rattle.tabledata_reading.specs.Elements.{Takes, cellElements, elementsOf}
 use Rattle.tabledata_reading.specs.Words.{Adds, CutAt, LastAt}
 use Rattle.tabledata_reading.specs.declared.elements.Added.the-variants.{NoWord, To}
-use Rattle.tabledata_reading.specs.declared.elements.Taken.{Taken}
 use Rattle.tabledata_reading.specs.declared.elements.Taken.the-variants.{Held}
+use Rattle.tabledata_reading.specs.declared.elements.Taken.{Taken}
 
 -- ---- the words of a text in two parts
 

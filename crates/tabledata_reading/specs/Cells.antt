@@ -3,16 +3,16 @@ use Prim.Native.Nat.{_≤_, ℕ}
 use mathlib.Core.Bool.{Bool, _&&_, cond}
 use mathlib.Core.List.{List}
 use mathlib.Core.Path.{_≡_}
-use lib.ListN.{drop, length}
-use Rattle.table.specs.Result.{Result, bad, good}
 use lib.Dec.{leb}
 use lib.IntN.{ℤ}
+use lib.ListN.{drop, length}
 use Rattle.table.specs.Cell.{Cell, bound, emptyIsNull, roomFits, roomIn, show}
 use Rattle.table.specs.Contracts.{foundAs}
+use Rattle.table.specs.Result.{Result, bad, good}
 use Rattle.table.specs.Shape.{shape}
 use Rattle.table.specs.declared.Column.{Column}
-use Rattle.table.specs.declared.Found.{Found}
 use Rattle.table.specs.declared.Found.the-variants.{Refused, Shown}
+use Rattle.table.specs.declared.Found.{Found}
 use Rattle.table.specs.declared.Kind.{Kind}
 use Rattle.table.specs.declared.Len.{Len}
 use Rattle.tabledata.specs.TableData.{countFits}

@@ -6,12 +6,12 @@ use lib.ListN.{drop, length, take}
 use Rattle.table.specs.Bytes.{tag}
 use Rattle.table.specs.Result.{Result, _>>=_, bad, good}
 use Rattle.tabledata.specs.TableData.{cellText, characters, close-TD, consText, expanded, plain, reference}
-use Rattle.tabledata_reading.specs.declared.characters.Item.{Item}
 use Rattle.tabledata_reading.specs.declared.characters.Item.the-variants.{Code, End}
-use Rattle.text.specs.declared.Tag.{Tag}
-use Rattle.text.specs.declared.Tag.the-variants.{At, Broken}
-use Rattle.tabledata_reading.specs.declared.characters.Opening.{Opening}
+use Rattle.tabledata_reading.specs.declared.characters.Item.{Item}
 use Rattle.tabledata_reading.specs.declared.characters.Opening.the-variants.{Content, Empty}
+use Rattle.tabledata_reading.specs.declared.characters.Opening.{Opening}
+use Rattle.text.specs.declared.Tag.the-variants.{At, Broken}
+use Rattle.text.specs.declared.Tag.{Tag}
 
 -- how a cell begins, and its characters from there on
 abbrev pub openingText : List ℕ → Opening → Result ℕ (List ℕ × List ℕ)

@@ -4,13 +4,13 @@ use mathlib.Core.Bool.{Bool, cond, false, true}
 use mathlib.Core.List.{List, _++_, map}
 use mathlib.Core.Path.{_≡_}
 use lib.Dec.{eqb}
+use lib.IntN.{pos, ℤ}
 use lib.ListN.{drop, length, take}
 use Rattle.table.specs.Result.{Result, _>>=_, bad, good}
-use Rattle.tabledata.specs.TableData.{allText, bitLetter, characters, plain, textElements}
-use lib.IntN.{pos, ℤ}
 use Rattle.table.specs.Shape.{Shape}
-use Rattle.tabledata_reading.specs.declared.elements.Taken.{Taken}
+use Rattle.tabledata.specs.TableData.{allText, bitLetter, characters, plain, textElements}
 use Rattle.tabledata_reading.specs.declared.elements.Taken.the-variants.{Held}
+use Rattle.tabledata_reading.specs.declared.elements.Taken.{Taken}
 
 -- 11 for a character that a cell may not have, then what the kind makes of them
 unfoldable pub elementsOf : Shape → List ℕ → Result ℕ (List ℤ)

@@ -3,8 +3,8 @@ use Prim.Native.Nat.{ℕ}
 use mathlib.Core.Bool.{Bool, false, true}
 use Rattle.number.specs.Number.{Fault, digit, hexadigit}
 use Rattle.table.specs.Result.{Result, bad, good}
-use Rattle.tabledata_reading.specs.declared.references.Reference.{Reference}
 use Rattle.tabledata_reading.specs.declared.references.Reference.the-variants.{Means, Unknown}
+use Rattle.tabledata_reading.specs.declared.references.Reference.{Reference}
 
 abbrev pub referenceAs : Reference → Result ℕ ℕ
 referenceAs (Means c) = good c

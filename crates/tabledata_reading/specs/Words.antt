@@ -4,25 +4,25 @@ use mathlib.Core.Bool.{Bool, cond, false, true}
 use mathlib.Core.List.{List, [], _++_, _∷_}
 use mathlib.Core.Path.{_≡_}
 use lib.Dec.{eqb, leb}
-use lib.ListN.{drop, length}
-use Rattle.table.specs.Result.{Result, _>>=_, bad, every, good}
-use Rattle.tabledata.specs.TableData.{allText, characters, integerWord, lower, plain}
 use lib.IntN.{ℤ}
+use lib.ListN.{drop, length}
 use Rattle.number.specs.Contracts.{isSigned, size}
-use Rattle.words.specs.Words.{feed, fresh}
-use Rattle.words.specs.declared.Form.{Form}
-use Rattle.words.specs.declared.Form.the-variants.{Decimal, Hexadecimal, Minus, Plus, Start, Zero}
 use Rattle.number.specs.declared.Integer.{Integer}
 use Rattle.table.specs.All.{All}
 use Rattle.table.specs.Bytes.{isWhite, notEmpty}
+use Rattle.table.specs.Result.{Result, _>>=_, bad, every, good}
+use Rattle.tabledata.specs.TableData.{allText, characters, integerWord, lower, plain}
 use Rattle.tabledata_reading.specs.Characters.{spoiledNumber}
-use Rattle.tabledata_reading.specs.declared.elements.Added.{Added}
-use Rattle.tabledata_reading.specs.declared.elements.Added.the-variants.{NoWord, To}
-use Rattle.tabledata_reading.specs.declared.integers.Numeral.{Numeral}
-use Rattle.tabledata_reading.specs.declared.truths.Piece.{Piece}
-use Rattle.tabledata_reading.specs.declared.truths.Piece.the-variants.{Cut, Last, NoText}
-use Rattle.tabledata_reading.specs.declared.integers.QuickWord.{QuickWord}
 use Rattle.tabledata_reading.specs.Elements.{Counted, Passed, onward}
+use Rattle.tabledata_reading.specs.declared.elements.Added.the-variants.{NoWord, To}
+use Rattle.tabledata_reading.specs.declared.elements.Added.{Added}
+use Rattle.tabledata_reading.specs.declared.integers.Numeral.{Numeral}
+use Rattle.tabledata_reading.specs.declared.integers.QuickWord.{QuickWord}
+use Rattle.tabledata_reading.specs.declared.truths.Piece.the-variants.{Cut, Last, NoText}
+use Rattle.tabledata_reading.specs.declared.truths.Piece.{Piece}
+use Rattle.words.specs.Words.{feed, fresh}
+use Rattle.words.specs.declared.Form.the-variants.{Decimal, Hexadecimal, Minus, Plus, Start, Zero}
+use Rattle.words.specs.declared.Form.{Form}
 
 -- one letter more of a word that is spelled as a number
 unfoldable pub spell : ℕ → ℕ → ℕ

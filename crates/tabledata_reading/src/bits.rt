@@ -25,6 +25,7 @@ fn bit_of(c: u32, closed: bool) -> u32
     }
 }
 
+// The elements of a bit cell: one word, with white space around it.
 pub(crate) fn bits(s: &[u8], from: usize, scratch: &mut [i64]) -> Taken
     requires { ⌜ from ≤ length (now s) ⌝ }
     ensures { λ r. ⌜ Takes (cellElements Bits (drop from (now (s .entry)))) (now (s .entry)) from (now (scratch .entry)) (now (scratch .exit)) r ⌝ }

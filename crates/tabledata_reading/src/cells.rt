@@ -21,6 +21,7 @@ ghost use Rattle.tabledata_reading.specs.Elements.{Takes, cellElements};
 ghost use lib.ListN.{drop, length};
 ghost use mathlib.Core.Path.{_≡_};
 
+// A cell's elements, by its kind.
 fn elements(s: &[u8], from: usize, kind: Kind, scratch: &mut [i64]) -> Taken
     requires { ⌜ from ≤ length (now s) ⌝ }
     ensures { λ r. ⌜ Takes (cellElements (shape kind) (drop from (now (s .entry)))) (now (s .entry)) from (now (scratch .entry)) (now (scratch .exit)) r ⌝ }
@@ -51,6 +52,7 @@ fn fills(kind: Kind, n: usize, count: usize) -> bool
     }
 }
 
+// Does a count above 0 fit the column?
 fn count_fits(kind: Kind, len: Len, count: usize) -> bool
     ensures { λ r. ⌜ r ≡ roomAnd kind len count ⌝ }
 {
@@ -67,6 +69,7 @@ fn count_fits(kind: Kind, len: Len, count: usize) -> bool
     }
 }
 
+// What elements show in a column.
 fn cell_shows(column: Column, count: usize, next: usize, scratch: &[i64]) -> Found
     requires { ⌜ (bound (column .len) ≤ 4096) × (4096 ≤ length (now scratch)) ⌝ }
     ensures { λ r. ⌜ CellShows column count next (now (scratch .entry)) r ⌝ }

@@ -19,6 +19,7 @@ pub enum Opening {
     Broken,
 }
 
+// `<TD`, then `/>` or `>`, each after white space.
 fn careful_open(s: &[u8], at: usize) -> Opening
     requires { ⌜ at ≤ length (now s) ⌝ }
     ensures { λ r. ⌜ OpeningIs (now (s .entry)) at r ⌝ }
@@ -95,6 +96,7 @@ fn end_tag(s: &[u8], at: usize) -> Item
     Item::End(next)
 }
 
+// The character at a place, or where the cell ends.
 pub(crate) fn character_at(s: &[u8], at: usize) -> Item
     requires { ⌜ at ≤ length (now s) ⌝ }
     ensures { λ r. ⌜ ItemIs (characters plain (drop at (now (s .entry)))) (now (s .entry)) at r ⌝ }

@@ -34,6 +34,7 @@ fn copy_plain(s: &[u8], from: usize, scratch: &mut [i64], count: usize) -> usize
     i
 }
 
+// The elements of a char cell, from its first character on.
 pub(crate) fn chars(s: &[u8], from: usize, scratch: &mut [i64]) -> Taken
     requires { ⌜ from ≤ length (now s) ⌝ }
     ensures { λ r. ⌜ Takes (cellElements Text (drop from (now (s .entry)))) (now (s .entry)) from (now (scratch .entry)) (now (scratch .exit)) r ⌝ }

@@ -15,6 +15,7 @@ pub enum Added {
     NoWord,
 }
 
+// An element is stored where there is room for it.
 pub(crate) fn put(scratch: &mut [i64], count: usize, x: i64)
     ensures { λ _. ⌜ now (scratch .exit) ≡ set (now (scratch .entry)) count x ⌝ }
 {
@@ -23,6 +24,7 @@ pub(crate) fn put(scratch: &mut [i64], count: usize, x: i64)
     }
 }
 
+// A code, a bit or a truth as an element.
 pub(crate) fn as_element(c: u32) -> i64
     ensures { λ r. ⌜ r ≡ pos c ⌝ }
 {

@@ -32,6 +32,7 @@ pub enum Numeral {
     Broken,
 }
 
+// The word at a place, as the integers' reader has it.
 fn integer_piece(s: &[u8], from: usize) -> Numeral
     requires { ⌜ from ≤ length (now s) ⌝ }
     ensures { λ r. ⌜ NumeralIs (now (s .entry)) from r ⌝ }
@@ -56,6 +57,7 @@ fn integer_piece(s: &[u8], from: usize) -> Numeral
     }
 }
 
+// Has the word a letter?
 fn is_begun(form: Form) -> bool
     ensures { λ r. ⌜ r ≡ begunForm form ⌝ }
 {
@@ -70,6 +72,7 @@ fn is_begun(form: Form) -> bool
     }
 }
 
+// A word's element is stored; a word of no letters has none.
 fn add_integer(word: Word, kind: Integer, scratch: &mut [i64], count: usize) -> Added
     requires { ⌜ count < 18446744073709551615 ⌝ }
     ensures { λ r. ⌜ Adds (integerWord (isSigned kind) (size kind)) (λ w. word ≡ feed fresh w) count (now (scratch .entry)) (now (scratch .exit)) r ⌝ }
@@ -95,6 +98,7 @@ pub enum QuickWord {
     Careful,
 }
 
+// The word at a place, read at once.
 fn quick_word(s: &[u8], from: usize, kind: Integer) -> QuickWord
     requires { ⌜ from ≤ length (now s) ⌝ }
     ensures { λ r. ⌜ QuickWordIs kind (now (s .entry)) from r ⌝ }
@@ -119,6 +123,7 @@ fn quick_word(s: &[u8], from: usize, kind: Integer) -> QuickWord
     }
 }
 
+// The elements of an integer cell: each word at once where it is plain digits, or letter by letter.
 pub(crate) fn integers(s: &[u8], from: usize, kind: Integer, scratch: &mut [i64]) -> Taken
     requires { ⌜ from ≤ length (now s) ⌝ }
     ensures { λ r. ⌜ Takes (cellElements (Whole (isSigned kind) (widthOf kind)) (drop from (now (s .entry)))) (now (s .entry)) from (now (scratch .entry)) (now (scratch .exit)) r ⌝ }

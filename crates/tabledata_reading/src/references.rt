@@ -47,6 +47,7 @@ fn with_digit(value: u32, hex: bool, digit: u8) -> u32
     }
 }
 
+// The base of its digits.
 fn base(hex: bool) -> u8
     ensures { λ r. ⌜ r ≡ baseIn hex ⌝ }
 {
@@ -77,6 +78,7 @@ fn number_means(name: &[u8], from: usize, hex: bool) -> Reference
     Reference::Means(value)
 }
 
+// A name, or `#x` and hexadigits, or `#` and digits.
 pub(crate) fn expand(name: &[u8]) -> Reference
     ensures { λ r. ⌜ expanded (now (name .entry)) ≡ referenceAs r ⌝ }
 {

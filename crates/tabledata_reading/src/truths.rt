@@ -24,6 +24,7 @@ pub enum Piece {
     Broken,
 }
 
+// A capital as a small letter.
 fn lower_case(c: u32) -> u32
     requires { ⌜ c < 128 ⌝ }
     ensures { λ r. ⌜ (r ≡ lower c) × (r < 128) ⌝ }
@@ -48,6 +49,7 @@ fn with_letter(word: u64, c: u32) -> u64
     word * 256 + (lower_case(c) as u64)
 }
 
+// The word at a place, spelled as a number.
 fn truth_piece(s: &[u8], from: usize) -> Piece
     requires { ⌜ from ≤ length (now s) ⌝ }
     ensures { λ r. ⌜ PieceIs (now (s .entry)) from r ⌝ }
@@ -88,6 +90,7 @@ fn truth_of(word: u64) -> u32
     }
 }
 
+// A word's element is stored; a word of no letters has none.
 fn add_truth(word: u64, scratch: &mut [i64], count: usize) -> Added
     requires { ⌜ count < 18446744073709551615 ⌝ }
     ensures { λ r. ⌜ Adds truthWord (λ w. word ≡ spelling w) count (now (scratch .entry)) (now (scratch .exit)) r ⌝ }
@@ -103,6 +106,7 @@ fn add_truth(word: u64, scratch: &mut [i64], count: usize) -> Added
     Added::To(count + 1)
 }
 
+// The elements of a boolean cell, word by word.
 pub(crate) fn truths(s: &[u8], from: usize, scratch: &mut [i64]) -> Taken
     requires { ⌜ from ≤ length (now s) ⌝ }
     ensures { λ r. ⌜ Takes (cellElements Truths (drop from (now (s .entry)))) (now (s .entry)) from (now (scratch .entry)) (now (scratch .exit)) r ⌝ }

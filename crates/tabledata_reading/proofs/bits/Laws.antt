@@ -9,12 +9,12 @@ use lib.Dec.{ltb}
 use lib.IntN.{pos, ℤ}
 use lib.ListN.{drop, length, length-append, set}
 use borrow.Author.Tests.{eq-eqb, le-ltb, lt-ltb, ne-eqb}
+use Rattle.table.proofs.Bytes.{between-no}
 use Rattle.table.proofs.Laws.{NoWhite, bad-good, between-is, no-white, not-empty}
 use Rattle.table.proofs.Words.{no-white-more, words-cut, words-last, words-none, words-white}
 use Rattle.table.specs.Bytes.{attach, between, isWhite, notEmpty, pieces, words}
 use Rattle.table.specs.Result.{Result, bad, every, good}
 use Rattle.table.specs.Shape.{Bits}
-use Rattle.table.proofs.Bytes.{between-no}
 use Rattle.tabledata.proofs.Characters.{text-yes, white-text}
 use Rattle.tabledata.specs.TableData.{bitLetter, bitWords, characters, isText, plain, textElements}
 use Rattle.tabledata_reading.proofs.Words.{every-append}

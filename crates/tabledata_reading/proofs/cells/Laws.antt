@@ -1,32 +1,32 @@
 -- What a cell's elements come to in a column.
 use Prim.Native.Nat.{_≤_, ℕ}
+use native.Mathlib.Nat.{le-refl}
 use native.Mathlib.Omega.{arith}
 use mathlib.Core.Bool.{Bool, _&&_, cond, false, true}
 use mathlib.Core.List.{List, [], _∷_}
 use mathlib.Core.Path.{_∙_, _≡_, ap, refl, sym}
+use lib.Dec.{leb}
+use lib.IntN.{ℤ}
 use lib.ListN.{drop, length, take}
+use lib.Seq.{take-all}
 use borrow.Author.Tests.{eq-eqb, le-leb, leb-true, ne-eqb}
 use Rattle.table.proofs.Laws.{and-both, nil-not-null}
-use Rattle.table.specs.Result.{Result, _>>=_, bad, good}
-use Rattle.tabledata.specs.TableData.{allText, characters, countFits, plain, readText, textCell, textElements}
-use lib.IntN.{ℤ}
-use lib.Seq.{take-all}
-use Rattle.table.specs.Shape.{Bits, Shape, Text, Truths, Whole, shape}
-use native.Mathlib.Nat.{le-refl}
-use lib.Dec.{leb}
 use Rattle.table.specs.Cell.{Cell, bound, emptyIsNull, isChar, isNullList, null, nullElement, roomFits, roomIn, show, shown}
 use Rattle.table.specs.Contracts.{FoundWithin, Reads}
+use Rattle.table.specs.Result.{Result, _>>=_, bad, good}
+use Rattle.table.specs.Shape.{Bits, Shape, Text, Truths, Whole, shape}
 use Rattle.table.specs.declared.Column.{Column}
-use Rattle.table.specs.declared.Found.{Found}
 use Rattle.table.specs.declared.Found.the-variants.{Refused, Shown}
+use Rattle.table.specs.declared.Found.{Found}
 use Rattle.tabledata.proofs.Laws.{nil-elements}
+use Rattle.tabledata.specs.TableData.{allText, characters, countFits, plain, readText, textCell, textElements}
 use Rattle.tabledata_reading.specs.Cells.{CellShows, FoundCount, FoundNext, roomAnd, shownIn}
 use Rattle.tabledata_reading.specs.Characters.{OpeningIs}
 use Rattle.tabledata_reading.specs.Elements.{Counted, Takes, cellElements, elementsOf, onward}
-use Rattle.tabledata_reading.specs.declared.characters.Opening.{Opening}
 use Rattle.tabledata_reading.specs.declared.characters.Opening.the-variants.{Content, Empty}
-use Rattle.tabledata_reading.specs.declared.elements.Taken.{Taken}
+use Rattle.tabledata_reading.specs.declared.characters.Opening.{Opening}
 use Rattle.tabledata_reading.specs.declared.elements.Taken.the-variants.{Held}
+use Rattle.tabledata_reading.specs.declared.elements.Taken.{Taken}
 
 -- a cell whose content begins at a place shows what its elements do
 abbrev withRest : {A : Type 0} → List ℕ → A → Result ℕ (A × List ℕ)

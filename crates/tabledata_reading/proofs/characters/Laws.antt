@@ -15,10 +15,10 @@ use Rattle.table.specs.Bytes.{after, bytes, ends, isWhite, skipWhite, tag}
 use Rattle.table.specs.Result.{Result, bad, good}
 use Rattle.tabledata.specs.TableData.{Where, cellText, characters, close-TD, consText, emitted, expanded, follow, open-TD, plain, reference, step}
 use Rattle.tabledata_reading.specs.Characters.{ItemIs, NameIs, OpeningIs, ended, referred, spoiledNumber}
-use Rattle.tabledata_reading.specs.declared.characters.Item.{Item}
 use Rattle.tabledata_reading.specs.declared.characters.Item.the-variants.{Code, End}
-use Rattle.tabledata_reading.specs.declared.characters.Opening.{Opening}
+use Rattle.tabledata_reading.specs.declared.characters.Item.{Item}
 use Rattle.tabledata_reading.specs.declared.characters.Opening.the-variants.{Content, Empty}
+use Rattle.tabledata_reading.specs.declared.characters.Opening.{Opening}
 use Rattle.text.specs.Contracts.{TagIs}
 use Rattle.text.specs.declared.Tag.the-variants.{At, Broken}
 

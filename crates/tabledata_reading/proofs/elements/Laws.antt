@@ -21,8 +21,8 @@ use Rattle.tabledata_reading.specs.Characters.{ItemIs, spoiledNumber}
 use Rattle.tabledata_reading.specs.Elements.{Counted, Passed, Takes, cellElements, elementsOf, onward}
 use Rattle.tabledata_reading.specs.Words.{NoTextAt}
 use Rattle.tabledata_reading.specs.declared.characters.Item.the-variants.{Code, End}
-use Rattle.tabledata_reading.specs.declared.elements.Taken.{Taken}
 use Rattle.tabledata_reading.specs.declared.elements.Taken.the-variants.{Held}
+use Rattle.tabledata_reading.specs.declared.elements.Taken.{Taken}
 
 -- ---- elements in the scratch
 

@@ -5,38 +5,38 @@ use mathlib.Core.Bool.{Bool, false, false≢true, true}
 use mathlib.Core.List.{List, [], _++_, _∷_}
 use mathlib.Core.Path.{_∙_, _≡_, ap, refl, subst, sym}
 use lib.Dec.{eqb, ltb}
+use lib.IntN.{ℤ}
 use lib.ListN.{drop, getD, length, length-drop, length-set, set, take}
+use lib.Seq.{length-take-le}
+use Rattle.number.specs.Contracts.{isSigned, size, widthOf}
 use Rattle.number.specs.Number.{Fault, digit, hexadigit}
+use Rattle.number.specs.declared.Integer.{Integer}
+use Rattle.table.proofs.Laws.{all-weaken, cond-cases, no-white}
+use Rattle.table.proofs.Places.{next1}
+use Rattle.table.specs.All.{All}
 use Rattle.table.specs.Bytes.{after, between, bytes, isWhite, words}
 use Rattle.table.specs.Result.{Result, bad, every, good, refusedAs}
-use Rattle.tabledata.specs.Contracts.{isPlain}
-use Rattle.table.proofs.Places.{next1}
-use Rattle.tabledata.proofs.Characters.{plain-yes}
-use Rattle.tabledata.specs.TableData.{characters, integerWord, isText, plain, textElements}
-use lib.IntN.{ℤ}
-use Rattle.table.proofs.Laws.{all-weaken, cond-cases, no-white}
-use lib.Seq.{length-take-le}
-use Rattle.words.proofs.WordLaws.{fed-reads, feed-more}
-use Rattle.number.specs.Contracts.{isSigned, size, widthOf}
-use Rattle.words.specs.Contracts.{IsPlain, QuickAt}
-use Rattle.words.specs.Words.{addDecimal, addHexadecimal, brokenWord, capped, decimalNext, feed, firstNext, fresh, hexadecimalNext, reading, step as letter, stepFrom, word, zeroNext}
-use Rattle.words.specs.declared.Form.{Form}
-use Rattle.words.specs.declared.Form.the-variants.{Decimal, Hexadecimal, Minus, Plus, Start, Zero}
-use Rattle.number.specs.declared.Integer.{Integer}
-use Rattle.words.specs.declared.Word.{Word}
-use Rattle.table.specs.All.{All}
 use Rattle.table.specs.Shape.{Shape, Whole}
+use Rattle.tabledata.proofs.Characters.{plain-yes}
+use Rattle.tabledata.specs.Contracts.{isPlain}
+use Rattle.tabledata.specs.TableData.{characters, integerWord, isText, plain, textElements}
 use Rattle.tabledata_reading.proofs.Words.{added-word}
 use Rattle.tabledata_reading.proofs.characters.Laws.{quick-end, text-plain}
 use Rattle.tabledata_reading.proofs.characters.Passing.{WordTo, passed-none, passed-plain, passed-then, word-cuts, word-ends}
 use Rattle.tabledata_reading.proofs.elements.Laws.{put-more}
 use Rattle.tabledata_reading.specs.Characters.{ItemIs}
 use Rattle.tabledata_reading.specs.Elements.{Passed}
-use Rattle.text.specs.Contracts.{TagIs}
 use Rattle.tabledata_reading.specs.Words.{Adds, CutAt, LastAt, Means, begunForm}
 use Rattle.tabledata_reading.specs.declared.characters.Item.the-variants.{Code}
 use Rattle.tabledata_reading.specs.declared.elements.Added.the-variants.{To}
+use Rattle.text.specs.Contracts.{TagIs}
 use Rattle.text.specs.declared.Tag.the-variants.{At}
+use Rattle.words.proofs.WordLaws.{fed-reads, feed-more}
+use Rattle.words.specs.Contracts.{IsPlain, QuickAt}
+use Rattle.words.specs.Words.{addDecimal, addHexadecimal, brokenWord, capped, decimalNext, feed, firstNext, fresh, hexadecimalNext, reading, step as letter, stepFrom, word, zeroNext}
+use Rattle.words.specs.declared.Form.the-variants.{Decimal, Hexadecimal, Minus, Plus, Start, Zero}
+use Rattle.words.specs.declared.Form.{Form}
+use Rattle.words.specs.declared.Word.{Word}
 
 -- ---- a word that has begun
 

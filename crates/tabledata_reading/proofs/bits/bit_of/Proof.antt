@@ -1,9 +1,9 @@
 -- `tabledata_reading::bits::bit_of` meets its contract: behind the end of the word nothing is a bit, before it each key of `match` is a
 -- case.
 use Rattle.table.specs.Bytes.{between}
+use Rattle.tabledata.specs.TableData.{bitLetter}
 use Rattle.tabledata_reading.proofs.bits.Laws.{bit-none}
 use Rattle.tabledata_reading.specs.Elements.{bitAs}
-use Rattle.tabledata.specs.TableData.{bitLetter}
 use Rattle.tabledata_reading.proofs.bits.bit_of.Statement.{statement}
 use Rattle.tabledata_reading.proofs.bits.bit_of.Tie as tie
 

@@ -1,14 +1,14 @@
 -- `tabledata_reading::characters::careful_open` meets its contract: `<TD`, then `/>` or `>`, each after white space.
 use mathlib.Core.Path.{subst}
+use lib.ListN.{drop}
 use borrow.Author.Needs.{needs}
+use denote.Ref.{now}
+use Rattle.table.specs.Bytes.{bytes, ends}
 use Rattle.tabledata_reading.proofs.characters.Laws.{cell-content, cell-empty, cell-no-end, cell-no-tag}
 use Rattle.text.specs.Contracts.{TagIs}
+use Rattle.text.specs.declared.Tag.the-variants.{At}
 use Rattle.tabledata_reading.proofs.characters.careful_open.Statement.{statement}
 use Rattle.tabledata_reading.proofs.characters.careful_open.Tie as tie
-use denote.Ref.{now}
-use lib.ListN.{drop}
-use Rattle.table.specs.Bytes.{bytes, ends}
-use Rattle.text.specs.declared.Tag.the-variants.{At}
 
 -- the tag begins
 begun : (c : tie.After-ends-arg2) →

@@ -1,10 +1,9 @@
 -- `tabledata_reading::characters::spoiled` meets its contract. The invariant: the number is that of what is left.
-use Prim.Native.Nat.{_-_, _≤_, ℕ}
+use Prim.Native.Nat.{_-_, _≤_}
 use native.Mathlib.Omega.{arith}
 use mathlib.Core.Path.{_∙_, _≡_, ap, refl, subst, sym}
 use lib.ListN.{drop, length}
 use borrow.Author.Needs.{needs}
-use denote.Ref.{now}
 use Rattle.tabledata.specs.TableData.{characters, plain}
 use Rattle.tabledata_reading.proofs.characters.Laws.{spoiled-broken, spoiled-code, spoiled-end}
 use Rattle.tabledata_reading.specs.Characters.{ItemIs, spoiledNumber}

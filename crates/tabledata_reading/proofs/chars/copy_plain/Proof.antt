@@ -1,11 +1,10 @@
 -- `tabledata_reading::chars::copy_plain` meets its contract. The invariant: the text passed over is its own elements, which follow those
 -- there were.
-use Prim.Native.Nat.{_+_, _-_, _≤_, ℕ}
+use Prim.Native.Nat.{_+_, _-_}
 use native.Mathlib.Omega.{arith}
 use mathlib.Core.Bool.{true}
-use mathlib.Core.List.{List, _++_, append-nil, map}
+use mathlib.Core.List.{append-nil}
 use mathlib.Core.Path.{_∙_, _≡_, refl, sym}
-use lib.IntN.{pos, ℤ}
 use lib.ListN.{drop, getD, length, length-set, take}
 use borrow.Author.Needs.{needs}
 use borrow.Author.Tests.{not-false}
@@ -16,7 +15,7 @@ use Rattle.tabledata.specs.Contracts.{isPlain}
 use Rattle.tabledata_reading.proofs.characters.Laws.{take-more}
 use Rattle.tabledata_reading.proofs.characters.Passing.{passed-none, passed-plain, passed-then}
 use Rattle.tabledata_reading.proofs.chars.Laws.{counted-char}
-use Rattle.tabledata_reading.specs.Elements.{Copied, Counted, Passed}
+use Rattle.tabledata_reading.specs.Elements.{Copied}
 use Rattle.tabledata_reading.proofs.chars.copy_plain.Statement.{statement}
 use Rattle.tabledata_reading.proofs.chars.copy_plain.Tie as tie
 

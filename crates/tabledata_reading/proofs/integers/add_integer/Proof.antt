@@ -1,7 +1,6 @@
 -- `tabledata_reading::integers::add_integer` meets its contract: a word that was not begun adds nothing, another what it reads as.
 use Prim.Native.Nat.{ℕ}
 use native.Mathlib.Omega.{arith}
-use mathlib.Core.Bool.{Bool}
 use mathlib.Core.List.{List, [], _∷_, append-nil}
 use mathlib.Core.Path.{_∙_, _≡_, ap, refl, sym}
 use lib.IntN.{ℤ}

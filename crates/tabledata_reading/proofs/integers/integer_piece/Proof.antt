@@ -1,20 +1,20 @@
 -- `tabledata_reading::integers::integer_piece` meets its contract. The invariant: the letters passed over are a word so far, as the
 -- integers' reader has it.
-use Prim.Native.Nat.{_-_, ℕ}
+use Prim.Native.Nat.{_-_}
 use native.Mathlib.Omega.{arith}
 use mathlib.Core.Bool.{true}
-use mathlib.Core.Path.{_∙_, _≡_, refl, subst, sym}
+use mathlib.Core.Path.{_∙_, _≡_, subst, sym}
 use lib.ListN.{drop, length}
 use borrow.Author.Needs.{needs}
 use borrow.Author.Tests.{not-false, not-true}
 use denote.Ref.{now}
-use Rattle.words.specs.Words.{feed, fresh}
 use Rattle.tabledata.proofs.Laws.{text-lt}
 use Rattle.tabledata.specs.TableData.{characters, isText, plain}
 use Rattle.tabledata_reading.proofs.characters.Passing.{WordTo, word-broken, word-cuts, word-ends, word-more, word-no-text, word-none}
 use Rattle.tabledata_reading.proofs.integers.Laws.{fed-letter, feed-start}
 use Rattle.tabledata_reading.specs.Characters.{ItemIs}
 use Rattle.tabledata_reading.specs.declared.characters.Item.the-variants.{Code}
+use Rattle.words.specs.Words.{feed, fresh}
 use Rattle.tabledata_reading.proofs.integers.integer_piece.Statement.{statement}
 use Rattle.tabledata_reading.proofs.integers.integer_piece.Tie as tie
 

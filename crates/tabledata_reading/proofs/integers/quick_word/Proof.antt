@@ -7,11 +7,11 @@ use borrow.Author.Needs.{needs}
 use denote.Ref.{now}
 use mir.Syntax.{w64}
 use mir.Val.{ofZ, toZ}
-use Rattle.words.specs.Contracts.{QuickAt, QuickIs}
 use Rattle.tabledata_reading.proofs.integers.Laws.{quick-cut, quick-last}
-use Rattle.text.specs.Contracts.{TagIs}
 use Rattle.tabledata_reading.specs.Words.{QuickWordIs}
 use Rattle.tabledata_reading.specs.declared.integers.QuickWord.{QuickWord}
+use Rattle.text.specs.Contracts.{TagIs}
+use Rattle.words.specs.Contracts.{QuickAt, QuickIs}
 use Rattle.tabledata_reading.proofs.integers.quick_word.Statement.{statement}
 use Rattle.tabledata_reading.proofs.integers.quick_word.Tie as tie
 

@@ -1,8 +1,8 @@
 -- `tabledata_reading::references::number_means` meets its contract. The invariant: the numeral is what its rest gives with the value so
 -- far, which n digits keep below 16 ^ n.
-use Prim.Native.Nat.{_+_, _-_, _<_, _^_, _≤_, ℕ}
+use Prim.Native.Nat.{_-_, _<_, _^_, _≤_}
 use native.Mathlib.Omega.{arith}
-use mathlib.Core.Path.{_∙_, _≡_, ap, refl, sym}
+use mathlib.Core.Path.{_∙_, _≡_, ap, refl}
 use lib.Dec.{lit≤}
 use lib.ListN.{drop, length, length-drop}
 use borrow.Author.Needs.{needs}

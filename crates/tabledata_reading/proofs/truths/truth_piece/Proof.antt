@@ -1,6 +1,6 @@
 -- `tabledata_reading::truths::truth_piece` meets its contract. The invariant: the letters passed over are a word so far, spelled as the
 -- number that is held.
-use Prim.Native.Nat.{_-_, ℕ}
+use Prim.Native.Nat.{_-_}
 use native.Mathlib.Omega.{arith}
 use mathlib.Core.Bool.{true}
 use mathlib.Core.Path.{_∙_, _≡_, refl, subst, sym}
