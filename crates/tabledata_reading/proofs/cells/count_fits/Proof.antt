@@ -9,19 +9,19 @@ use Rattle.tabledata_reading.proofs.cells.count_fits.Tie as tie
 
 returns : tie.Need-returns
 unfolding roomAnd roomIn bound
-returns c = rw ((c .before .before .before .len) .given .1) (rw (sym ((c .before .fills) .ensures) ∙ (c .if1) .taken))
+returns c = rw (c .before .before .before .len .given .1) (rw (sym (c .before .fills .ensures) ∙ c .if1 .taken))
 
 returns-2 : tie.Need-returns-2
 unfolding roomAnd roomIn bound
-returns-2 c = rw ((c .before .before .before .len) .given .1) (rw (sym ((c .before .fills) .ensures) ∙ (c .if1) .left))
+returns-2 c = rw (c .before .before .before .len .given .1) (rw (sym (c .before .fills .ensures) ∙ c .if1 .left))
 
 returns-3 : tie.Need-returns-3
 unfolding roomAnd roomIn bound
-returns-3 c = rw ((c .before .len2) .given .1) (sym (room-own _ _ _))
+returns-3 c = rw (c .before .len2 .given .1) (sym (room-own _ _ _))
 
 returns-4 : tie.Need-returns-4
 unfolding roomAnd roomIn bound
-returns-4 c = rw ((c .enum-told) .given .1) (sym (room-own _ _ _))
+returns-4 c = rw (c .enum-told .given .1) (sym (room-own _ _ _))
 
 pub count-fits-spec : {M : Type 1} → statement M
 count-fits-spec =

@@ -7,31 +7,31 @@ use Rattle.tabledata_reading.proofs.truths.truth_of.Tie as tie
 
 returns : tie.Need-returns
 unfolding truthNumber
-returns c = sym (ap truthNumber ((c .match) .keys1))
+returns c = sym (ap truthNumber (c .match .keys1))
 
 returns-2 : tie.Need-returns-2
 unfolding truthNumber
-returns-2 c = sym (ap truthNumber ((c .match) .keys2))
+returns-2 c = sym (ap truthNumber (c .match .keys2))
 
 returns-3 : tie.Need-returns-3
 unfolding truthNumber
-returns-3 c = sym (ap truthNumber ((c .match) .keys3))
+returns-3 c = sym (ap truthNumber (c .match .keys3))
 
 returns-4 : tie.Need-returns-4
 unfolding truthNumber
-returns-4 c = sym (ap truthNumber ((c .match) .keys4))
+returns-4 c = sym (ap truthNumber (c .match .keys4))
 
 returns-5 : tie.Need-returns-5
 unfolding truthNumber
-returns-5 c = sym (ap truthNumber ((c .match) .keys5))
+returns-5 c = sym (ap truthNumber (c .match .keys5))
 
 returns-6 : tie.Need-returns-6
 unfolding truthNumber
-returns-6 c = sym (ap truthNumber ((c .match) .keys6))
+returns-6 c = sym (ap truthNumber (c .match .keys6))
 
 returns-7 : tie.Need-returns-7
 unfolding truthNumber
-returns-7 c = sym (ap truthNumber ((c .match) .keys7))
+returns-7 c = sym (ap truthNumber (c .match .keys7))
 
 returns-8 : tie.Need-returns-8
 unfolding truthNumber

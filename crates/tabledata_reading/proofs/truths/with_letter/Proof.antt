@@ -8,10 +8,10 @@ use Rattle.tabledata_reading.proofs.truths.with_letter.Statement.{state
 use Rattle.tabledata_reading.proofs.truths.with_letter.Tie as tie
 
 returns : tie.Need-returns
-returns c = sym (spell-high _ _ ((c .if1) .taken))
+returns c = sym (spell-high _ _ (c .if1 .taken))
 
 returns-2 : tie.Need-returns-2
-returns-2 c = ap (λ (n : ℕ). ((c .before .before) .args .word) * 256 + n) ((c .lower-case) .ensures .0) ∙ sym (spell-low _ _ (omega arith))
+returns-2 c = ap (λ (n : ℕ). (c .before .before .args .word) * 256 + n) (c .lower-case .ensures .0) ∙ sym (spell-low _ _ (omega arith))
 
 pub with-letter-spec : {M : Type 1} → statement M
 with-letter-spec =
