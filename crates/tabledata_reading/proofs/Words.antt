@@ -112,7 +112,7 @@ module _ (k : Shape) {f : List ℕ → Result ℕ ℤ} (q : (w : List ℕ) → t
           found = (
             r .es ++ x .0,
             last-is (q (r .w ++ u .w) ∙ words-end (r .means) (u .w) (u .word) (x .1)),
-            x .2 (r .es) (r .counted),
+            x .2 (r .es) (r .stored),
             omega (arith, r .low, u .low),
             u .high,
           );
@@ -134,7 +134,7 @@ module _ (k : Shape) {f : List ℕ → Result ℕ ℤ} (q : (w : List ℕ) → t
           es = _;
           means = words-turn (r .means) (u .w) (u .word) (u .white) (u .is-white) (x .1);
           passed = passed-then (r .passed) (u .passed);
-          counted = x .2 (r .es) (r .counted);
+          stored = x .2 (r .es) (r .stored);
           long = d .long ∙ r .long;
           few = omega (arith, d .most, r .few, u .low);
           low = omega (arith, r .low, u .low);

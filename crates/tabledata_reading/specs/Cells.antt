@@ -16,7 +16,7 @@ use Rattle.table.specs.declared.Found.{Found}
 use Rattle.table.specs.declared.Kind.{Kind}
 use Rattle.table.specs.declared.Len.{Len}
 use Rattle.tabledata.specs.TableData.{countFits}
-use Rattle.tabledata_reading.specs.Elements.{Counted}
+use Rattle.tabledata_reading.specs.Elements.{Stored}
 
 -- does a count above 0 fit?
 unfoldable pub roomAnd : Kind → Len → ℕ → Bool
@@ -37,6 +37,6 @@ FoundNext place (Shown count next) = next ≡ place
 FoundNext place (Refused n) = Unit {0}
 
 pub record CellShows (c : Column) (count next : ℕ) (scratch : List ℤ) (r : Found) : Type 0 where
-  pub found : (s : List ℕ) (es : List ℤ) → Counted es count scratch → shownIn c es (drop next s) ≡ foundAs s scratch r
+  pub found : (s : List ℕ) (es : List ℤ) → Stored es count scratch → shownIn c es (drop next s) ≡ foundAs s scratch r
   pub few : FoundCount scratch r
   pub place : FoundNext next r

@@ -25,13 +25,13 @@ unfoldable pub cellElements : Shape → List ℕ → Result ℕ (List ℤ × Lis
 cellElements k s = onward (elementsOf k) (characters plain s)
 
 -- the elements are counted; the scratch has those that it has room for
-pub record Counted (es : List ℤ) (count : ℕ) (scratch : List ℤ) : Type 0 where
+pub record Stored (es : List ℤ) (count : ℕ) (scratch : List ℤ) : Type 0 where
   pub all : count ≡ length es
   pub first : take count scratch ≡ take (length scratch) es
 
 abbrev pub TakenAs : Result ℕ (List ℤ × List ℕ) → List ℕ → ℕ → List ℤ → Taken → Type 0
 TakenAs definition s place scratch (Held count next) =
-    (es : List ℤ) × (definition ≡ good (es, drop next s)) × Counted es count scratch × (place ≤ next) × (next ≤ length s)
+    (es : List ℤ) × (definition ≡ good (es, drop next s)) × Stored es count scratch × (place ≤ next) × (next ≤ length s)
 TakenAs definition s place scratch (Taken.Refused n) = definition ≡ bad n
 
 pub record Takes (definition : Result ℕ (List ℤ × List ℕ)) (s : List ℕ) (place : ℕ) (entry exit : List ℤ) (r : Taken) : Type 0 where
@@ -48,7 +48,7 @@ pub record Passed (s : List ℕ) (from next : ℕ) (w : List ℕ) : Type 0 where
 
 pub record Copied (s : List ℕ) (from count : ℕ) (entry exit : List ℤ) (next : ℕ) : Type 0 where
   pub passed : Passed s from next (take (next - from) (drop from s))
-  pub counted : (es : List ℤ) → Counted es count entry → Counted (es ++ map pos (take (next - from) (drop from s))) (count + (next - from)) exit
+  pub stored : (es : List ℤ) → Stored es count entry → Stored (es ++ map pos (take (next - from) (drop from s))) (count + (next - from)) exit
   pub low : from ≤ next
   pub high : next ≤ length s
   pub long : length exit ≡ length entry

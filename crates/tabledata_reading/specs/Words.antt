@@ -13,7 +13,7 @@ use Rattle.table.specs.Bytes.{isWhite, notEmpty}
 use Rattle.table.specs.Result.{Result, _>>=_, bad, every, good}
 use Rattle.tabledata.specs.TableData.{allText, characters, integerWord, lower, plain}
 use Rattle.tabledata_reading.specs.Characters.{spoiledNumber}
-use Rattle.tabledata_reading.specs.Elements.{Counted, Passed, onward}
+use Rattle.tabledata_reading.specs.Elements.{Passed, Stored, onward}
 use Rattle.tabledata_reading.specs.declared.elements.Added.the-variants.{NoWord, To}
 use Rattle.tabledata_reading.specs.declared.elements.Added.{Added}
 use Rattle.tabledata_reading.specs.declared.integers.Numeral.{Numeral}
@@ -80,7 +80,7 @@ pub record PieceIs (s : List ℕ) (from : ℕ) (r : Piece) : Type 0 where
 
 abbrev pub AddedAs : (List ℕ → Result ℕ ℤ) → List ℕ → ℕ → List ℤ → List ℤ → Added → Type 0
 AddedAs f w count entry exit (To n) =
-    (fs : List ℤ) × (every f (notEmpty (w ∷ [])) ≡ good fs) × ((es : List ℤ) → Counted es count entry → Counted (es ++ fs) n exit)
+    (fs : List ℤ) × (every f (notEmpty (w ∷ [])) ≡ good fs) × ((es : List ℤ) → Stored es count entry → Stored (es ++ fs) n exit)
 AddedAs f w count entry exit NoWord = every f (notEmpty (w ∷ [])) ≡ bad 11
 
 abbrev pub AddedMost : ℕ → Added → Type 0
@@ -103,13 +103,13 @@ pub record NumeralIs (s : List ℕ) (from : ℕ) (r : Numeral) : Type 0 where
   pub found : NumeralAs s from r
 
 -- a word that means z
-abbrev pub Means : Integer → ℤ → List ℕ → Type 0
-Means kind z w = (1 ≤ length w) × (integerWord (isSigned kind) (size kind) w ≡ good z)
+abbrev pub WordOf : Integer → ℤ → List ℕ → Type 0
+WordOf kind z w = (1 ≤ length w) × (integerWord (isSigned kind) (size kind) w ≡ good z)
 
 -- the quick way reads a word that ends before a space or with the cell, or leaves it to the careful way
 abbrev pub QuickWordAs : Integer → List ℕ → ℕ → QuickWord → Type 0
-QuickWordAs kind s from (QuickWord.Cut z next) = CutAt (Means kind z) s from next
-QuickWordAs kind s from (QuickWord.Last z next) = LastAt (Means kind z) s from next
+QuickWordAs kind s from (QuickWord.Cut z next) = CutAt (WordOf kind z) s from next
+QuickWordAs kind s from (QuickWord.Last z next) = LastAt (WordOf kind z) s from next
 QuickWordAs kind s from QuickWord.Careful = Unit {0}
 
 pub record QuickWordIs (kind : Integer) (s : List ℕ) (from : ℕ) (r : QuickWord) : Type 0 where

@@ -36,7 +36,7 @@ fn name_means(name: &[u8]) -> Reference
 }
 
 // One digit more.
-fn with_digit(value: u32, hex: bool, digit: u8) -> u32
+fn one_digit_more(value: u32, hex: bool, digit: u8) -> u32
     requires { ⌜ (value < 268435456) × (digit < 16) ⌝ }
     ensures { λ r. ⌜ r ≡ value * baseIn hex + digit ⌝ }
 {
@@ -72,7 +72,7 @@ fn number_means(name: &[u8], from: usize, hex: bool) -> Reference
         if base(hex) <= d {
             return Reference::Unknown;
         }
-        value = with_digit(value, hex, d);
+        value = one_digit_more(value, hex, d);
         i += 1;
     }
     Reference::Means(value)

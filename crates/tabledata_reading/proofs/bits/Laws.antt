@@ -169,7 +169,7 @@ module _ {s : List ℕ} {from i n : ℕ} {closed : Bool} {entry l : List ℤ} (r
     es = r .es;
     means = (r .means .0, bits-white (r .w) (r .means .0) (r .es) closed n c (r .means .1) h);
     passed = passed-then (r .passed) (passed-code (t .found) (white-text c h));
-    counted = r .counted;
+    stored = r .stored;
     long = r .long;
     few = omega (arith, r .few, t .within .0);
     low = omega (arith, r .low, t .within .0);

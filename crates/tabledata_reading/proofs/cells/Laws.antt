@@ -22,7 +22,7 @@ use Rattle.tabledata.proofs.Laws.{nil-elements}
 use Rattle.tabledata.specs.TableData.{allText, characters, countFits, plain, readText, textCell, textElements}
 use Rattle.tabledata_reading.specs.Cells.{CellShows, FoundCount, FoundNext, roomAnd, shownIn}
 use Rattle.tabledata_reading.specs.Characters.{OpeningIs}
-use Rattle.tabledata_reading.specs.Elements.{Counted, Takes, cellElements, elementsOf, onward}
+use Rattle.tabledata_reading.specs.Elements.{Stored, Takes, cellElements, elementsOf, onward}
 use Rattle.tabledata_reading.specs.declared.characters.Opening.the-variants.{Content, Empty}
 use Rattle.tabledata_reading.specs.declared.characters.Opening.{Opening}
 use Rattle.tabledata_reading.specs.declared.elements.Taken.the-variants.{Held}
@@ -57,7 +57,7 @@ pub room-few : (c : Column) (n : ℕ) → roomAnd (c .kind) (c .len) n ≡ true 
 unfolding roomAnd
 room-few c n e = leb-true n (bound (c .len)) (and-both (roomFits (shape (c .kind)) (roomIn (c .len) n) n) (leb n (bound (c .len))) e .1)
 
-module _ (c : Column) {es : List ℤ} {n : ℕ} {l : List ℤ} (rest : List ℕ) (p : Counted es n l) where
+module _ (c : Column) {es : List ℤ} {n : ℕ} {l : List ℤ} (rest : List ℕ) (p : Stored es n l) where
   pub shown-none : n ≡ 0 → shownIn c es rest ≡ good (null, rest)
   shown-none e = go es (omega (arith, p .all))
     where

@@ -9,8 +9,8 @@ use Rattle.table.specs.Result.{good}
 use Rattle.table.specs.Shape.{Text}
 use Rattle.tabledata.specs.TableData.{textElements}
 use Rattle.tabledata_reading.proofs.characters.Passing.{passed-then}
-use Rattle.tabledata_reading.proofs.elements.Laws.{ReadTo, counted-more}
-use Rattle.tabledata_reading.specs.Elements.{Copied, Counted}
+use Rattle.tabledata_reading.proofs.elements.Laws.{ReadTo, stored-more}
+use Rattle.tabledata_reading.specs.Elements.{Copied, Stored}
 
 -- what characters mean
 abbrev pub CharsAre : List ℕ → List ℤ → Type 0
@@ -27,8 +27,8 @@ map-append (c ∷ w) v = ap (λ (l : List ℤ). pos c ∷ l) (map-append w v)
 pub chars-more : (w v : List ℕ) (es : List ℤ) → CharsAre w es → CharsAre (w ++ v) (es ++ map pos v)
 chars-more w v es e = rw (e, map-append w v)
 
-pub counted-char : (es : List ℤ) (w : List ℕ) (c n : ℕ) (l : List ℤ) → Counted (es ++ map pos w) n l → Counted (es ++ map pos (w ++ (c ∷ []))) (n + 1) (set l n (pos c))
-counted-char es w c n l p = rw (map-append w (c ∷ []), ← append-assoc) (counted-more (es ++ map pos w) n l (pos c) p)
+pub stored-char : (es : List ℤ) (w : List ℕ) (c n : ℕ) (l : List ℤ) → Stored (es ++ map pos w) n l → Stored (es ++ map pos (w ++ (c ∷ []))) (n + 1) (set l n (pos c))
+stored-char es w c n l p = rw (map-append w (c ∷ []), ← append-assoc) (stored-more (es ++ map pos w) n l (pos c) p)
 
 pub chars-copied : {s : List ℕ} {from i n j : ℕ} {entry l m : List ℤ} → ReadTo CharsAre s from i n entry l → Copied s i n l m j → ReadTo CharsAre s from j (n + (j - i)) entry m
 chars-copied r k = record {
@@ -36,7 +36,7 @@ chars-copied r k = record {
   es = _;
   means = chars-more (r .w) _ (r .es) (r .means);
   passed = passed-then (r .passed) (k .passed);
-  counted = k .counted (r .es) (r .counted);
+  stored = k .stored (r .es) (r .stored);
   long = k .long ∙ r .long;
   few = omega (arith, r .few, k .low);
   low = omega (arith, r .low, k .low);

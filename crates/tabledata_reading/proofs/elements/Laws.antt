@@ -18,7 +18,7 @@ use Rattle.table.specs.Shape.{Shape}
 use Rattle.tabledata.specs.TableData.{allText, characters, isText, plain, textElements}
 use Rattle.tabledata_reading.proofs.characters.Passing.{onward-bad, onward-broken, onward-end, passed-code, passed-none, passed-then, text-not-all}
 use Rattle.tabledata_reading.specs.Characters.{ItemIs, spoiledNumber}
-use Rattle.tabledata_reading.specs.Elements.{Counted, Passed, Takes, cellElements, elementsOf, onward}
+use Rattle.tabledata_reading.specs.Elements.{Passed, Stored, Takes, cellElements, elementsOf, onward}
 use Rattle.tabledata_reading.specs.Words.{NoTextAt}
 use Rattle.tabledata_reading.specs.declared.characters.Item.the-variants.{Code, End}
 use Rattle.tabledata_reading.specs.declared.elements.Taken.the-variants.{Held}
@@ -26,11 +26,11 @@ use Rattle.tabledata_reading.specs.declared.elements.Taken.{Taken}
 
 -- ---- elements in the scratch
 
-pub counted-none : (l : List ℤ) → Counted [] 0 l
-counted-none l = record { all = refl; first = sym (take-nil (length l)) }
+pub stored-none : (l : List ℤ) → Stored [] 0 l
+stored-none l = record { all = refl; first = sym (take-nil (length l)) }
 
-pub counted-more : (es : List ℤ) (n : ℕ) (l : List ℤ) (x : ℤ) → Counted es n l → Counted (es ++ (x ∷ [])) (n + 1) (set l n x)
-counted-more es n l x p = record { all = omega (arith, p .all, length-append es (x ∷ [])); first = go (ltb n (length l)) refl }
+pub stored-more : (es : List ℤ) (n : ℕ) (l : List ℤ) (x : ℤ) → Stored es n l → Stored (es ++ (x ∷ [])) (n + 1) (set l n x)
+stored-more es n l x p = record { all = omega (arith, p .all, length-append es (x ∷ [])); first = go (ltb n (length l)) refl }
   where
     low : n < length l → take (n + 1) (set l n x) ≡ take (length (set l n x)) (es ++ (x ∷ []))
     low h =
@@ -47,8 +47,8 @@ counted-more es n l x p = record { all = omega (arith, p .all, length-append es 
     go false e = high (ltb-false n (length l) e)
 
 -- after a store, of a value that is x
-pub put-more : {es : List ℤ} {n : ℕ} {l m : List ℤ} {y x : ℤ} → Counted es n l → m ≡ set l n y → y ≡ x → Counted (es ++ (x ∷ [])) (n + 1) m
-put-more {es} {n} {l} {x = x} p e q = rw (e, q) (counted-more es n l x p)
+pub put-more : {es : List ℤ} {n : ℕ} {l m : List ℤ} {y x : ℤ} → Stored es n l → m ≡ set l n y → y ≡ x → Stored (es ++ (x ∷ [])) (n + 1) m
+put-more {es} {n} {l} {x = x} p e q = rw (e, q) (stored-more es n l x p)
 
 -- ---- what was passed over has no value of the kind, whatever follows
 
@@ -67,7 +67,7 @@ pub record ReadTo (As : List ℕ → List ℤ → Type 0) (s : List ℕ) (from i
   pub es : List ℤ
   pub means : As w es
   pub passed : Passed s from i w
-  pub counted : Counted es count scratch
+  pub stored : Stored es count scratch
   pub long : length scratch ≡ length entry
   pub few : count ≤ i
   pub low : from ≤ i
@@ -79,7 +79,7 @@ read-none {from = from} a h = record {
   es = [];
   means = a;
   passed = passed-none;
-  counted = counted-none _;
+  stored = stored-none _;
   long = refl;
   few = omega arith;
   low = le-refl from;
@@ -103,7 +103,7 @@ module _ {As : List ℕ → List ℤ → Type 0} {s : List ℕ} {from i n : ℕ}
       r .es,
       read-on k ∙ ap (onward (λ cs. elementsOf k (r .w ++ cs))) (t .found) ∙ onward-end (λ cs. elementsOf k (r .w ++ cs)) (drop next s)
           ∙ rw (append-nil (r .w), r .passed .text, e),
-      r .counted,
+      r .stored,
       omega (arith, r .low, t .within .0),
       t .within .1,
     );
@@ -127,7 +127,7 @@ module _ {As : List ℕ → List ℤ → Type 0} {s : List ℕ} {from i n : ℕ}
     es = _;
     means = a;
     passed = passed-then (r .passed) (passed-code (t .found) h);
-    counted = put-more (r .counted) e q;
+    stored = put-more (r .stored) e q;
     long = ap length e ∙ simp length-set (r .long);
     few = omega (arith, r .few, t .within .0);
     low = omega (arith, r .low, t .within .0);

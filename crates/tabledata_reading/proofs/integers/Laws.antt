@@ -26,7 +26,7 @@ use Rattle.tabledata_reading.proofs.characters.Passing.{WordTo, passed-
 use Rattle.tabledata_reading.proofs.elements.Laws.{put-more}
 use Rattle.tabledata_reading.specs.Characters.{ItemIs}
 use Rattle.tabledata_reading.specs.Elements.{Passed}
-use Rattle.tabledata_reading.specs.Words.{Adds, CutAt, LastAt, Means, begunForm}
+use Rattle.tabledata_reading.specs.Words.{Adds, CutAt, LastAt, WordOf, begunForm}
 use Rattle.tabledata_reading.specs.declared.characters.Item.the-variants.{Code}
 use Rattle.tabledata_reading.specs.declared.elements.Added.the-variants.{To}
 use Rattle.text.specs.Contracts.{TagIs}
@@ -136,7 +136,7 @@ passed-run (suc n) s i h a =
 
 module _ {k : Integer} {s : List ℕ} {from end : ℕ} {z : ℤ} (q : QuickAt k s from z end) where
   -- the digits are a word that means z
-  quick-to : WordTo (Means k z) s from end
+  quick-to : WordTo (WordOf k z) s from end
   unfolding integerWord
   quick-to =
       let f : from + (end - from) ≡ end = omega (arith, q .later) in
@@ -150,7 +150,7 @@ module _ {k : Integer} {s : List ℕ} {from end : ℕ} {z : ℤ} (q : QuickAt k 
         high = q .within;
       }
 
-  pub quick-cut : end < length s → getD s end 0 ≡ 32 → CutAt (Means k z) s from (end + 1)
+  pub quick-cut : end < length s → getD s end 0 ≡ 32 → CutAt (WordOf k z) s from (end + 1)
   unfolding between isText isWhite
   quick-cut h e =
       let t : ItemIs (characters plain (drop end s)) s end (Code (getD s end 0) (end + 1)) = record {
@@ -159,11 +159,11 @@ module _ {k : Integer} {s : List ℕ} {from end : ℕ} {z : ℤ} (q : QuickAt k 
       } in
       word-cuts quick-to t (ap isText e) (ap isWhite e)
 
-  pub quick-last : {next : ℕ} → TagIs (λ n. after n (bytes "</TD>") (drop end s)) s end (At next) → LastAt (Means k z) s from next
+  pub quick-last : {next : ℕ} → TagIs (λ n. after n (bytes "</TD>") (drop end s)) s end (At next) → LastAt (WordOf k z) s from next
   quick-last t = word-ends quick-to (quick-end t)
 
 -- a word that was read at once adds its integer
-pub quick-adds : (k : Integer) {z y : ℤ} {n : ℕ} {l m : List ℤ} → m ≡ set l n y → y ≡ z → Adds (integerWord (isSigned k) (size k)) (Means k z) n l m (To (n + 1))
+pub quick-adds : (k : Integer) {z y : ℤ} {n : ℕ} {l m : List ℤ} → m ≡ set l n y → y ≡ z → Adds (integerWord (isSigned k) (size k)) (WordOf k z) n l m (To (n + 1))
 quick-adds k {z} e q = record {
   found = λ w t h. (_, added-word (integerWord (isSigned k) (size k)) w (good z) (h .0) (h .1), λ es p. put-more p e q);
   most = omega arith;

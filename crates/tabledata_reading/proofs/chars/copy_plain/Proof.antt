@@ -14,7 +14,7 @@ use mir.Syntax.{w64}
 use Rattle.tabledata.specs.Contracts.{isPlain}
 use Rattle.tabledata_reading.proofs.characters.Laws.{take-more}
 use Rattle.tabledata_reading.proofs.characters.Passing.{passed-none, passed-plain, passed-then}
-use Rattle.tabledata_reading.proofs.chars.Laws.{counted-char}
+use Rattle.tabledata_reading.proofs.chars.Laws.{stored-char}
 use Rattle.tabledata_reading.specs.Elements.{Copied}
 use Rattle.tabledata_reading.proofs.chars.copy_plain.Statement.{statement}
 use Rattle.tabledata_reading.proofs.chars.copy_plain.Tie as tie
@@ -29,7 +29,7 @@ abbrev μ-loop : tie.MeasureT-loop
 loop-holds : tie.Need-loop-holds Inv-loop μ-loop
 loop-holds c =
     let e : c .before .args .from - c .before .args .from ≡ 0 = omega arith in let n : c .before .args .count + 0 ≡ c .before .args .count = omega arith in
-    (omega arith, record { passed = rw e passed-none; counted = λ es p. rw (e, n, append-nil es) p; low = omega arith; high = c .before .pre; long = refl })
+    (omega arith, record { passed = rw e passed-none; stored = λ es p. rw (e, n, append-nil es) p; low = omega arith; high = c .before .pre; long = refl })
 
 same-length : tie.Need-same-length Inv-loop μ-loop
 same-length c = c .before .before .loop .inv .1 .long
@@ -61,9 +61,9 @@ loop-again c =
       sym n,
       record {
         passed = rw more (passed-then (p .1 .passed) (passed-plain s i (at-loop-test .loop-test .taken) (is-plain (c .before))));
-        counted = λ es q.
+        stored = λ es q.
             rw (n, more, toZ-ofZ {w = w64} (record { sfits = c .as-element .ok }), c .as-element .ensures)
-            (counted-char es (take (i - from) (drop from s)) (getD s i 0) (at-loop .loop .k) (at-loop .loop .scratch) (rw (p .0) (p .1 .counted es q)));
+            (stored-char es (take (i - from) (drop from s)) (getD s i 0) (at-loop .loop .k) (at-loop .loop .scratch) (rw (p .0) (p .1 .stored es q)));
         low = omega (arith, p .1 .low);
         high = omega arith;
         long = simp length-set (p .1 .long);

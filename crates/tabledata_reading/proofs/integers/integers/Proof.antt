@@ -11,7 +11,7 @@ use Rattle.tabledata.specs.TableData.{integerWord}
 use Rattle.tabledata_reading.proofs.Words.{WordsAt, word-cut, word-cut-none, word-last, word-last-none, words-start}
 use Rattle.tabledata_reading.proofs.elements.Laws.{ReadTo, read-broken, read-no-text, read-none}
 use Rattle.tabledata_reading.proofs.integers.Laws.{integers-are, quick-adds, whole}
-use Rattle.tabledata_reading.specs.Words.{Adds, CutAt, LastAt, Means, NumeralIs, QuickWordIs}
+use Rattle.tabledata_reading.specs.Words.{Adds, CutAt, LastAt, NumeralIs, QuickWordIs, WordOf}
 use Rattle.words.specs.Words.{feed, fresh}
 use Rattle.tabledata_reading.proofs.integers.integers.Statement.{statement}
 use Rattle.tabledata_reading.proofs.integers.integers.Tie as tie
@@ -25,12 +25,12 @@ abbrev μ-loop : tie.MeasureT-loop
 -- a word that was read at once
 quick-cut : (c : tie.After-put-arg Inv-loop μ-loop) →
     let at-loop = c .before .before .before .before .before in let at-start = at-loop .before .before in
-    let x = c .before .before .z .given .0 in let a = at-start .args in CutAt (Means (a .kind) (x .0)) (now (a .s)) (at-loop .loop .i) (x .1 .0)
+    let x = c .before .before .z .given .0 in let a = at-start .args in CutAt (WordOf (a .kind) (x .0)) (now (a .s)) (at-loop .loop .i) (x .1 .0)
 quick-cut c = subst (QuickWordIs _ _ _) (c .before .before .z .given .1) (c .before .before .before .before .quick-word .ensures) .found
 
 quick-last : (c : tie.After-put-arg2 Inv-loop μ-loop) →
     let at-loop = c .before .before .before .before .before in let at-start = at-loop .before .before in
-    let x = c .before .before .z2 .given .0 in let a = at-start .args in LastAt (Means (a .kind) (x .0)) (now (a .s)) (at-loop .loop .i) (x .1 .0)
+    let x = c .before .before .z2 .given .0 in let a = at-start .args in LastAt (WordOf (a .kind) (x .0)) (now (a .s)) (at-loop .loop .i) (x .1 .0)
 quick-last c = subst (QuickWordIs _ _ _) (c .before .before .z2 .given .1) (c .before .before .before .before .quick-word .ensures) .found
 
 -- a word read letter by letter

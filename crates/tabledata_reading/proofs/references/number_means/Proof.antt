@@ -58,8 +58,8 @@ returns-3 c =
     digits at-if2 ∙ ap (refusedAs (λ f. 10))
     (at-loop .loop .inv .3 ∙ numeral-bad (at-start .args .hex) _ _ _ _ (at-loop-test .loop-test .taken) (at-digit-value .digit-value .ensures) above)
 
-with-digit-requires : tie.Need-with-digit-requires Inv-loop μ-loop
-with-digit-requires c κs =
+one-digit-more-requires : tie.Need-one-digit-more-requires Inv-loop μ-loop
+one-digit-more-requires c κs =
     let at-loop = c .before .before .before .before .before in let at-start = at-loop .before .before .before .before in
     (few-grow _ (at-loop .loop .i - at-start .args .from) (at-loop .loop .inv .2) (omega arith), small-base (at-start .args .hex) _ (below c))
 
@@ -70,8 +70,8 @@ loop-again c =
     let hex = at-start .args .hex in let l = at-loop .loop in let from = at-start .args .from in let small = below (c .before) in (
       search needs,
       search needs,
-      rw (one-later (l .inv .0), c .with-digit .ensures) (grows hex (l .value) _ (l .i - from) (l .inv .2) (small-base hex _ small)),
-      rw (c .with-digit .ensures) (l .inv .3 ∙ numeral-more hex (l .value) _ (l .i) _ (at-loop-test .loop-test .taken) (at-digit-value .digit-value .ensures) small),
+      rw (one-later (l .inv .0), c .one-digit-more .ensures) (grows hex (l .value) _ (l .i - from) (l .inv .2) (small-base hex _ small)),
+      rw (c .one-digit-more .ensures) (l .inv .3 ∙ numeral-more hex (l .value) _ (l .i) _ (at-loop-test .loop-test .taken) (at-digit-value .digit-value .ensures) small),
     )
 
 returns-4 : tie.Need-returns-4 Inv-loop μ-loop
@@ -93,7 +93,7 @@ number-means-spec =
     (λ c κs. search needs)
     (λ c κs. search needs)
     returns-3
-    with-digit-requires
+    one-digit-more-requires
     (λ c. search needs)
     (λ c. search needs)
     loop-again
