@@ -16,8 +16,8 @@ use Rattle.tabledata_reading.specs.Characters.{spoiledNumber}
 use Rattle.tabledata_reading.specs.Elements.{Passed, Stored, onward}
 use Rattle.tabledata_reading.specs.declared.elements.Added.the-variants.{NoWord, To}
 use Rattle.tabledata_reading.specs.declared.elements.Added.{Added}
-use Rattle.tabledata_reading.specs.declared.integers.Numeral.{Numeral}
-use Rattle.tabledata_reading.specs.declared.integers.QuickWord.{QuickWord}
+use Rattle.tabledata_reading.specs.declared.numerals.Numeral.{Numeral}
+use Rattle.tabledata_reading.specs.declared.numerals.QuickWord.{QuickWord}
 use Rattle.tabledata_reading.specs.declared.truths.Piece.the-variants.{Cut, Last, NoText}
 use Rattle.tabledata_reading.specs.declared.truths.Piece.{Piece}
 use Rattle.words.specs.Words.{feed, fresh}

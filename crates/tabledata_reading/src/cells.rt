@@ -4,7 +4,7 @@ use super::characters::Opening;
 use super::characters::open_cell;
 use super::chars::chars;
 use super::elements::Taken;
-use super::integers::integers;
+use super::numerals::integers;
 use super::truths::truths;
 use number::Integer;
 use table::Column;

@@ -4,7 +4,7 @@ mod cells;
 mod characters;
 mod chars;
 mod elements;
-mod integers;
+mod numerals;
 mod references;
 mod tags;
 mod truths;

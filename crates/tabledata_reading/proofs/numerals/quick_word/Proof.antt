@@ -1,4 +1,4 @@
--- `tabledata_reading::integers::quick_word` meets its contract: plain digits, then a space or a bare `</TD>`.
+-- `tabledata_reading::numerals::quick_word` meets its contract: plain digits, then a space or a bare `</TD>`.
 use Prim.Native.Nat.{_+_}
 use native.Mathlib.Omega.{arith}
 use mathlib.Core.Path.{_≡_, subst, sym}
@@ -7,13 +7,13 @@ use borrow.Author.Needs.{needs}
 use denote.Ref.{now}
 use mir.Syntax.{w64}
 use mir.Val.{ofZ, toZ}
-use Rattle.tabledata_reading.proofs.integers.Laws.{quick-cut, quick-last}
+use Rattle.tabledata_reading.proofs.numerals.Laws.{quick-cut, quick-last}
 use Rattle.tabledata_reading.specs.Words.{QuickWordIs}
-use Rattle.tabledata_reading.specs.declared.integers.QuickWord.{QuickWord}
+use Rattle.tabledata_reading.specs.declared.numerals.QuickWord.{QuickWord}
 use Rattle.text.specs.Contracts.{TagIs}
 use Rattle.words.specs.Contracts.{QuickAt, QuickIs}
-use Rattle.tabledata_reading.proofs.integers.quick_word.Statement.{statement}
-use Rattle.tabledata_reading.proofs.integers.quick_word.Tie as tie
+use Rattle.tabledata_reading.proofs.numerals.quick_word.Statement.{statement}
+use Rattle.tabledata_reading.proofs.numerals.quick_word.Tie as tie
 
 -- the digits, and their integer
 digits : (c : tie.After-shared-slice-known2) →

@@ -1,4 +1,4 @@
--- `tabledata_reading::integers::integer_piece` meets its contract. The invariant: the letters passed over are a word so far, as the
+-- `tabledata_reading::numerals::integer_piece` meets its contract. The invariant: the letters passed over are a word so far, as the
 -- integers' reader has it.
 use Prim.Native.Nat.{_-_}
 use native.Mathlib.Omega.{arith}
@@ -11,12 +11,12 @@ use denote.Ref.{now}
 use Rattle.tabledata.proofs.Laws.{text-lt}
 use Rattle.tabledata.specs.TableData.{characters, isText, plain}
 use Rattle.tabledata_reading.proofs.characters.Passing.{WordTo, word-broken, word-cuts, word-ends, word-more, word-no-text, word-none}
-use Rattle.tabledata_reading.proofs.integers.Laws.{fed-letter, feed-start}
+use Rattle.tabledata_reading.proofs.numerals.Laws.{fed-letter, feed-start}
 use Rattle.tabledata_reading.specs.Characters.{ItemIs}
 use Rattle.tabledata_reading.specs.declared.characters.Item.the-variants.{Code}
 use Rattle.words.specs.Words.{feed, fresh}
-use Rattle.tabledata_reading.proofs.integers.integer_piece.Statement.{statement}
-use Rattle.tabledata_reading.proofs.integers.integer_piece.Tie as tie
+use Rattle.tabledata_reading.proofs.numerals.integer_piece.Statement.{statement}
+use Rattle.tabledata_reading.proofs.numerals.integer_piece.Tie as tie
 
 abbrev Inv-loop : tie.InvT-loop
 Inv-loop s from i₀ word₀ i word = WordTo (λ w. word ≡ feed fresh w) s from i

@@ -1,4 +1,4 @@
--- `tabledata_reading::integers::integers` meets its contract. The invariant: the words passed over are the elements so far; a word read at
+-- `tabledata_reading::numerals::integers` meets its contract. The invariant: the words passed over are the elements so far; a word read at
 -- once adds its one element.
 use Prim.Native.Nat.{_-_}
 use native.Mathlib.Omega.{arith}
@@ -10,11 +10,11 @@ use Rattle.number.specs.Contracts.{isSigned, size}
 use Rattle.tabledata.specs.TableData.{integerWord}
 use Rattle.tabledata_reading.proofs.Words.{WordsAt, word-cut, word-cut-none, word-last, word-last-none, words-start}
 use Rattle.tabledata_reading.proofs.elements.Laws.{ReadTo, read-broken, read-no-text, read-none}
-use Rattle.tabledata_reading.proofs.integers.Laws.{integers-are, quick-adds, whole}
+use Rattle.tabledata_reading.proofs.numerals.Laws.{integers-are, quick-adds, whole}
 use Rattle.tabledata_reading.specs.Words.{Adds, CutAt, LastAt, NumeralIs, QuickWordIs, WordOf}
 use Rattle.words.specs.Words.{feed, fresh}
-use Rattle.tabledata_reading.proofs.integers.integers.Statement.{statement}
-use Rattle.tabledata_reading.proofs.integers.integers.Tie as tie
+use Rattle.tabledata_reading.proofs.numerals.integers.Statement.{statement}
+use Rattle.tabledata_reading.proofs.numerals.integers.Tie as tie
 
 abbrev Inv-loop : tie.InvT-loop
 Inv-loop s from kind scratch₀ i₀ count₀ scratch i count = ReadTo (WordsAt (integerWord (isSigned kind) (size kind))) s from i count scratch₀ scratch

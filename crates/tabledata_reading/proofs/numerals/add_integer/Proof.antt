@@ -1,4 +1,4 @@
--- `tabledata_reading::integers::add_integer` meets its contract: a word that was not begun adds nothing, another what it reads as.
+-- `tabledata_reading::numerals::add_integer` meets its contract: a word that was not begun adds nothing, another what it reads as.
 use Prim.Native.Nat.{ℕ}
 use native.Mathlib.Omega.{arith}
 use mathlib.Core.List.{List, [], _∷_, append-nil}
@@ -14,13 +14,13 @@ use Rattle.table.specs.Result.{Result, _>>=_, every, good, refusedAs}
 use Rattle.tabledata.specs.TableData.{integerWord}
 use Rattle.tabledata_reading.proofs.Words.{added-none, added-word}
 use Rattle.tabledata_reading.proofs.elements.Laws.{put-more}
-use Rattle.tabledata_reading.proofs.integers.Laws.{fed-none, fed-some, integer-as}
+use Rattle.tabledata_reading.proofs.numerals.Laws.{fed-none, fed-some, integer-as}
 use Rattle.tabledata_reading.specs.Words.{begunForm}
 use Rattle.words.specs.Contracts.{readingOf}
 use Rattle.words.specs.Words.{feed, fresh, reading}
 use Rattle.words.specs.declared.Word.{Word}
-use Rattle.tabledata_reading.proofs.integers.add_integer.Statement.{statement}
-use Rattle.tabledata_reading.proofs.integers.add_integer.Tie as tie
+use Rattle.tabledata_reading.proofs.numerals.add_integer.Statement.{statement}
+use Rattle.tabledata_reading.proofs.numerals.add_integer.Tie as tie
 
 -- whether the word fed has begun
 begun : (c : tie.After-is-begun) (w : List ℕ) → c .before .args .word ≡ feed fresh w → begunForm (feed fresh w .form) ≡ c .is-begun .result
