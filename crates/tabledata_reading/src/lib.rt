@@ -1,4 +1,4 @@
-// TABLEDATA is read: where a row begins and ends, a cell and what it shows.
+// A cell of TABLEDATA is read, and what it shows.
 mod bits;
 mod cells;
 mod characters;
@@ -6,9 +6,6 @@ mod chars;
 mod elements;
 mod numerals;
 mod references;
-mod tags;
 mod truths;
 
 pub use cells::read_text;
-pub use tags::row_begins;
-pub use tags::row_ends;

@@ -1,11 +1,11 @@
--- `tabledata_reading::tags::row_begins` meets its contract: white space, then the whole tag.
+-- `row_tags::row_begins` meets its contract: white space, then the whole tag.
 use mathlib.Core.Path.{ap}
 use borrow.Author.Needs.{needs}
 use Rattle.table.specs.Bytes.{bytes, tag}
 use Rattle.tabledata.specs.TableData.{open-TR}
 use Rattle.text.proofs.Scan.{tag-from}
-use Rattle.tabledata_reading.proofs.tags.row_begins.Statement.{statement}
-use Rattle.tabledata_reading.proofs.tags.row_begins.Tie as tie
+use Rattle.row_tags.proofs.row_begins.Statement.{statement}
+use Rattle.row_tags.proofs.row_begins.Tie as tie
 
 returns : tie.Need-returns
 unfolding open-TR

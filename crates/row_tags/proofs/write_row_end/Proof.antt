@@ -1,9 +1,9 @@
--- `tabledata_writing::write_row_end` meets its contract.
+-- `row_tags::write_row_end` meets its contract: the bytes are the tag's.
 use borrow.Author.Needs.{needs}
 use Rattle.table.proofs.Wrote.{wrote-long}
 use Rattle.tabledata.specs.TableData.{close-TR}
-use Rattle.tabledata_writing.proofs.write_row_end.Statement.{statement}
-use Rattle.tabledata_writing.proofs.write_row_end.Tie as tie
+use Rattle.row_tags.proofs.write_row_end.Statement.{statement}
+use Rattle.row_tags.proofs.write_row_end.Tie as tie
 
 same-length : tie.Need-same-length
 same-length c = wrote-long ((c .before .before .put-bytes) .ensures)
