@@ -2,22 +2,25 @@
 use Prim.Native.Nat.{_≤_, zero-le, ℕ}
 use native.Mathlib.Nat.{zero-add}
 use native.Mathlib.Omega.{arith}
+use mathlib.Core.Bool.{cond}
 use mathlib.Core.List.{List, [], _++_}
 use mathlib.Core.Path.{_∙_, _≡_, refl}
-use lib.Dec.{lit≤, ltb}
+use lib.Dec.{ltb}
 use lib.ListN.{drop, length}
 use lib.Seq.{take-at}
 use Rattle.demands.proofs.Writing.{Done, EndsAt, done-of, writes}
 use Rattle.demands.specs.Demands.{Accepted, Demand1, Ended, RowsStand, output}
 use Rattle.demands.specs.Tables.{Ends, count, lines, upTo}
-use Rattle.fields.proofs.Refusals.{AtPlace, declare-fails}
+use Rattle.fields.proofs.Front.{front-fails}
+use Rattle.fields.proofs.Refusals.{AtPlace}
 use Rattle.fields.specs.Fields.{declare}
+use Rattle.fields.specs.Front.{front}
 use Rattle.rows.proofs.Laws.{read-stops}
-use Rattle.rows.specs.Convert.{convert, converting, runSized, underColumns}
+use Rattle.rows.specs.Convert.{convert, converting, underColumns}
 use Rattle.rows.specs.Stream.{Table, read, run}
 use Rattle.table.proofs.Laws.{cond-cases}
-use Rattle.table.specs.Outcome.{Outcome, Refusal, accepted, answerOf, at, bufferOf, ending, mostInput, refused, rowsDone, written}
-use Rattle.table.specs.Result.{Fails, Result, bad, fails, good}
+use Rattle.table.specs.Outcome.{Outcome, Refusal, accepted, answerOf, at, bufferOf, ending, mostInput, mostNumber, refused, rowsDone, written}
+use Rattle.table.specs.Result.{Fails, Result, _>>=_, bad, fails, good}
 use Rattle.table.specs.declared.Column.{Column}
 use Rattle.table.specs.declared.Rows.{Rows}
 
@@ -60,7 +63,7 @@ unfolding ending answerOf
 column-of cs t done (accepted r w) out e = zero-le
 column-of cs t done (refused x r w) out e = e .1
 
-number-of : (cs : List Column) (t : Table) (done : ℕ) (o : Outcome) (out : List ℕ) → EndsAt cs t done o → ending o out .answer .number ≤ 17
+number-of : (cs : List Column) (t : Table) (done : ℕ) (o : Outcome) (out : List ℕ) → EndsAt cs t done o → ending o out .answer .number ≤ mostNumber
 unfolding ending answerOf
 number-of cs t done (accepted r w) out e = zero-le
 number-of cs t done (refused x r w) out e = e .0 .1
@@ -99,26 +102,25 @@ too-long from to cs input out =
     }
 
 ended-at : (r : Result Refusal (List Column)) (from to : Rows) (input out : List ℕ)
-    → Ended r from to input out (ending (underColumns r (λ cs. runSized from to cs (length out) input)) out)
-unfolding underColumns runSized
+    → Ended r from to input out (ending (underColumns (r >>= λ cs. cond (ltb mostInput (length input)) (bad (at 0 6)) (good cs)) (λ cs. run from to cs (length out) input)) out)
+unfolding underColumns
 ended-at (good cs) from to input out =
-    cond-cases (λ (o : Outcome). RowsStand cs from to input out (ending o out)) (ltb mostInput (length input)) (refused (at 0 6) 0 []) (run from to cs (length out) input)
+    cond-cases (λ (r : Result Refusal (List Column)). RowsStand cs from to input out (ending (underColumns r (λ cs. run from to cs (length out) input)) out))
+    (ltb mostInput (length input)) (bad (at 0 6)) (good cs)
     (λ _. too-long from to cs input out) (λ _. done-stands from to cs input out (run from to cs (length out) input) (run-done from to cs (length out) input))
 ended-at (bad e) from to input out = record { refused-declarations = unfold ending answerOf in refl; untouched = unfold ending bufferOf written in refl }
 
 numbered-at : (r : Result Refusal (List Column)) (from to : Rows) (input out : List ℕ) → Fails AtPlace r
-    → ending (underColumns r (λ cs. runSized from to cs (length out) input)) out .answer .number ≤ 17
-unfolding underColumns runSized
+    → ending (underColumns r (λ cs. run from to cs (length out) input)) out .answer .number ≤ mostNumber
+unfolding underColumns
 numbered-at (good cs) from to input out f =
-    cond-cases (λ (o : Outcome). ending o out .answer .number ≤ 17) (ltb mostInput (length input)) (refused (at 0 6) 0 []) (run from to cs (length out) input)
-    (λ _. unfold ending answerOf at in lit≤ tt)
-    (λ _. let d = run-done from to cs (length out) input in number-of cs (read from cs input) (d .done) (run from to cs (length out) input) out (d .ended))
+    let d = run-done from to cs (length out) input in number-of cs (read from cs input) (d .done) (run from to cs (length out) input) out (d .ended)
 numbered-at (bad e) from to input out (fails h) = unfold ending answerOf in omega (arith, h .0 .1)
 
 pub demand1 : Demand1 convert
-unfolding convert converting
+unfolding convert converting front
 demand1 =
     record {
-      numbered = λ decls from to input out. numbered-at (declare decls) from to input out (declare-fails decls);
+      numbered = λ decls from to input out. numbered-at (front decls (length input)) from to input out (front-fails decls (length input));
       ended = λ decls from to input out. ended-at (declare decls) from to input out;
     }

@@ -1,6 +1,6 @@
 -- Demand 2 of the converter. What is written reads back since each line does (Writing); acceptance is validity since the outcome is
 -- accepted just where the table ends, every row has a line and the lines have room.
-use Prim.Native.Nat.{_<_, _≤_, ℕ}
+use Prim.Native.Nat.{_≤_, ℕ}
 use native.Mathlib.Nat.{zero-add}
 use native.Mathlib.Omega.{arith}
 use mathlib.Core.Bool.{Bool, false, true}
@@ -8,16 +8,20 @@ use mathlib.Core.List.{List, []}
 use mathlib.Core.Path.{_∙_, _≡_, ap, refl, subst, sym}
 use lib.Dec.{ltb}
 use lib.ListN.{length, length-take}
-use borrow.Author.Tests.{le-ltb, lt-ltb, ltb-false, ltb-true}
+use borrow.Author.Tests.{ltb-false, ltb-true}
 use Rattle.demands.proofs.Demand1.{demand1}
 use Rattle.demands.proofs.Writing.{accepts, lines-good, lines-read, up-to-all}
-use Rattle.demands.specs.Demands.{Accepted, Demand2, Ended, NoRows, RowsStand, ThereAndBack, Valid, output}
+use Rattle.demands.specs.Demands.{Accepted, Demand2, Ended, RowsStand, ThereAndBack, Valid, output}
 use Rattle.demands.specs.Tables.{Ends, count, lines, upTo}
 use Rattle.fields.proofs.Laws.{declare-is}
-use Rattle.fields.proofs.Refusals.{AtPlace, declare-fails}
+use Rattle.fields.proofs.Refusals.{AtPlace}
+use Rattle.fields.proofs.Front.{front-fails, front-oversized, front-undeclared}
 use Rattle.fields.specs.Fields.{declare}
-use Rattle.rows.proofs.Laws.{AllRows, FitsAll, read-fits, rows-weaken, text-rows}
-use Rattle.rows.specs.Convert.{convert, converting, runSized, underColumns}
+use Rattle.fields.specs.Front.{front}
+use Rattle.rows.proofs.Calls.{converts}
+use Rattle.rows.proofs.Sequences.{AllRows, rows-weaken}
+use Rattle.rows.proofs.Laws.{FitsAll, read-fits, text-rows}
+use Rattle.rows.specs.Convert.{convert, converting, underColumns}
 use Rattle.rows.specs.Stream.{Table, read, run, writeCell}
 use Rattle.table.proofs.Laws.{each-weaken, fails-at, holds-at, the}
 use Rattle.table.specs.All.{AreBytes}
@@ -25,7 +29,6 @@ use Rattle.table.specs.Bytes.{ends, same}
 use Rattle.table.specs.Cell.{AreColumns, Each, Fits}
 use Rattle.table.specs.Outcome.{Call, Outcome, Refusal, accepted, answerOf, at, ending, mostInput}
 use Rattle.table.specs.Result.{Result, bad, good}
-use Rattle.table.specs.declared.Answer.{Answer}
 use Rattle.table.specs.declared.Column.{Column}
 use Rattle.table.specs.declared.Rows.{Rows}
 use Rattle.table.specs.declared.Rows.the-variants.{Binary2, TableData}
@@ -41,11 +44,6 @@ pub stands : (decls : List ℕ) (from to : Rows) (input out : List ℕ) (cs : Li
     → RowsStand cs from to input out (convert decls from to input out)
 stands decls from to input out cs q =
     subst (λ (r : Result Refusal (List Column)). Ended r from to input out (convert decls from to input out)) q (demand1 .ended decls from to input out)
-
-pub converts : (decls : List ℕ) (from to : Rows) (input out : List ℕ) (cs : List Column) → declare decls ≡ good cs → length input ≤ mostInput
-    → convert decls from to input out ≡ ending (run from to cs (length out) input) out
-unfolding convert converting underColumns runSized
-converts decls from to input out cs q h = rw (q, le-ltb mostInput (length input) h)
 
 -- ---- acceptance is validity
 
@@ -67,31 +65,20 @@ valid-of decls from to input out cs q h a =
     output-fits : (c : Call) (out : List ℕ) → c .answer .bytes ≤ length out → length (output c) ≤ length out
     output-fits c out h = unfold output in rw length-take (omega arith)
 
--- an input over its size, or refused declarations, are not accepted
-not-sized : (decls : List ℕ) (from to : Rows) (input out : List ℕ) (cs : List Column) → declare decls ≡ good cs → mostInput < length input
-    → ¬ Accepted (convert decls from to input out)
-unfolding convert converting underColumns runSized ending answerOf at
-not-sized decls from to input out cs q h a = six (rw (q, lt-ltb mostInput (length input) h) at a)
-  where
-    six : _≡_ {A = ℕ} 6 0 → ⊥
-    six e = omega arith
-
-not-declared : (decls : List ℕ) (from to : Rows) (input out : List ℕ) (e : Refusal) → declare decls ≡ bad e → ¬ Accepted (convert decls from to input out)
-not-declared decls from to input out e q a =
-    let n : NoRows e out (convert decls from to input out)
-    = subst (λ (r : Result Refusal (List Column)). Ended r from to input out (convert decls from to input out)) q (demand1 .ended decls from to input out) in
-    let p : AtPlace e = fails-at (declare-fails decls) q in
-    absurd (omega (arith, p .0 .0, ap (λ (x : Answer). x .number) (n .refused-declarations), a))
+-- a call that is refused at its front is not accepted
+not-past : (decls : List ℕ) (from to : Rows) (input out : List ℕ) (e : Refusal) → front decls (length input) ≡ bad e → ¬ Accepted (convert decls from to input out)
+unfolding convert converting underColumns ending answerOf
+not-past decls from to input out e q a = let p : AtPlace e = fails-at (front-fails decls (length input)) q in absurd (omega (arith, p .0 .0, rw q at a))
 
 accepted-valid : (decls : List ℕ) (from to : Rows) (input out : List ℕ) → Accepted (convert decls from to input out) → Valid decls from to input (length out)
 accepted-valid decls from to input out a = go (declare decls) refl
   where
     sized : (cs : List Column) → declare decls ≡ good cs → (b : Bool) → ltb mostInput (length input) ≡ b → Valid decls from to input (length out)
-    sized cs q true h = absurd (not-sized decls from to input out cs q (ltb-true mostInput (length input) h) a)
+    sized cs q true h = absurd (not-past decls from to input out (at 0 6) (front-oversized decls (length input) cs q (ltb-true mostInput (length input) h)) a)
     sized cs q false h = valid-of decls from to input out cs q (ltb-false mostInput (length input) h) a
 
     go : (r : Result Refusal (List Column)) → declare decls ≡ r → Valid decls from to input (length out)
-    go (bad e) q = absurd (not-declared decls from to input out e q a)
+    go (bad e) q = absurd (not-past decls from to input out e (front-undeclared decls (length input) e q) a)
     go (good cs) q = sized cs q (ltb mostInput (length input)) refl
 
 pub runs : (from to : Rows) (cs : List Column) (s body : List ℕ) (t : Table) → read from cs s ≡ t → Ends t → lines to cs t ≡ good body

@@ -3,25 +3,30 @@
 use Prim.Native.Nat.{_+_, _<_, suc, zero, ℕ}
 use native.Mathlib.Nat.{add-zero, zero-add}
 use native.Mathlib.Omega.{arith}
-use mathlib.Core.Bool.{true}
+use mathlib.Core.Bool.{Bool, cond, false, true}
 use mathlib.Core.List.{List, [], _++_, append-assoc, append-nil}
 use mathlib.Core.Option.{Option·none-ne-some, some}
 use mathlib.Core.Path.{_∙_, _≡_, ap, refl, subst, sym}
+use lib.Dec.{ltb}
 use lib.ListN.{getD, length}
 use Rattle.demands.proofs.Demand1.{output-of, run-done}
-use Rattle.demands.proofs.Demand2.{converts, declared-columns}
+use Rattle.rows.proofs.Calls.{converts}
+use Rattle.demands.proofs.Demand2.{declared-columns}
 use Rattle.demands.proofs.Unseen.{unseen}
 use Rattle.demands.proofs.Writing.{Done, EndsAt, Writes, all-written, done-of, lines-read, next-row, no-room, unread, unwritten, writes}
 use Rattle.demands.specs.Demands.{Comes, Demand3, RefusedAt, SameFate, Stands, Stream, both-refused, both-written, called}
 use Rattle.demands.specs.Places.{showsAt}
 use Rattle.demands.specs.Tables.{lines, rowAt, upTo}
 use Rattle.fields.specs.Fields.{declare}
-use Rattle.rows.proofs.Laws.{AllRows, FitsAll, Placed, Stops, newline, newline-read, read-fits, read-row, read-stops, row-back}
-use Rattle.rows.specs.Convert.{convert, converting, runSized, underColumns}
-use Rattle.rows.specs.Stream.{Table, finished, read, readF, row, run, stopped, writeRow}
+use Rattle.fields.specs.Front.{front}
+use Rattle.rows.proofs.Sequences.{AllRows, Stops}
+use Rattle.rows.proofs.Laws.{FitsAll, Placed, newline, newline-read, read-fits, read-nothing, read-row, read-stops, row-back}
+use Rattle.rows.specs.Convert.{convert, converting, underColumns}
+use Rattle.rows.specs.Stream.{Table, read, run, writeRow}
+use Rattle.rows.specs.Sequence.{finished, row, stopped}
 use Rattle.table.proofs.Laws.{holds-at}
 use Rattle.table.specs.Cell.{AreColumns, Cell}
-use Rattle.table.specs.Outcome.{Call, Outcome, Refusal, answerOf, at, ending, refused, written}
+use Rattle.table.specs.Outcome.{Call, Outcome, Refusal, answerOf, at, ending, mostInput, refused, written}
 use Rattle.table.specs.Result.{Result, bad, good}
 use Rattle.table.specs.declared.Column.{Column}
 use Rattle.table.specs.declared.Rows.{Rows}
@@ -78,7 +83,7 @@ row-alone : (to : Rows) (cs : List Column) (xs : List Cell) (b : List ℕ) → A
 row-alone to cs xs b i f q =
     ap (read to cs) (sym (append-nil b))
     ∙ read-row to cs i (b ++ []) xs (newline to ++ []) (holds-at (row-back to cs xs (i .each) f) q [])
-    ∙ ap (row xs) (newline-read to cs i [] ∙ (unfold read readF in refl))
+    ∙ ap (row xs) (newline-read to cs i [] ∙ read-nothing to cs)
 
 -- what a stream's row gets of a target that has w for its cells
 abbrev Fate : Rows → List Column → List Cell → Stream → Result Refusal (List ℕ) → Call → Type 0
@@ -123,16 +128,19 @@ same-fate to cs xs s t c d (bad e) f g = both-refused (e .number) (e .column) f 
 
 -- ---- bytes that show nothing
 
-same-run : (to : Rows) (cs : List Column) (room : ℕ) (s t : List ℕ) → length t ≡ length s → read Binary2 cs t ≡ read Binary2 cs s → runSized Binary2 to cs room t ≡ runSized Binary2 to cs room s
-unfolding runSized run
-same-run to cs room s t l e = rw (l, e)
+same-run : (oversized : Bool) (to : Rows) (cs : List Column) (room : ℕ) (s t : List ℕ) → read Binary2 cs t ≡ read Binary2 cs s
+    → underColumns (cond oversized (bad (at 0 6)) (good cs)) (λ cs. run Binary2 to cs room t) ≡ underColumns (cond oversized (bad (at 0 6)) (good cs)) (λ cs. run Binary2 to cs room s)
+unfolding underColumns run
+same-run true to cs room s t e = refl
+same-run false to cs room s t e = rw e
 
 unseen-of : (decls : List ℕ) (to : Rows) (cs : List Column) (s t out : List ℕ) → declare decls ≡ good cs → length t ≡ length s
     → ((i : ℕ) → i < length s → showsAt cs s i ≡ true → getD t i 0 ≡ getD s i 0)
     → convert decls Binary2 to t out ≡ convert decls Binary2 to s out
-unfolding convert converting underColumns
+unfolding convert converting front
 unseen-of decls to cs s t out q l h =
-    rw q (ap (λ (o : Outcome). ending o out) (same-run to cs (length out) s t l (unseen cs s t (declared-columns decls cs q) l h)))
+    rw (q, l)
+    (ap (λ (o : Outcome). ending o out) (same-run (ltb mostInput (length s)) to cs (length out) s t (unseen cs s t (declared-columns decls cs q) l h)))
 
 pub demand3 : Demand3 convert
 demand3 =

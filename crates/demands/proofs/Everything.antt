@@ -4,12 +4,14 @@ use Rattle.base64.specs.Base64.{decode, decodeCall, decoding, dense, encode, en
 use Rattle.binary.specs.Binary.{allZero, atMost, beforeNul, bitBytes, bitOf, bitsOf, bytesOf, canBeEmpty, content, contentBytes, countBytes, countIn, counted, element, elementsBytes, front, groups, nullForm, number, numbers, numbersIn, pack, packed, readBinary, readBinary2, shows, truth, truthByte, unpack, writeBinary, writeBinary2, zeros}
 use Rattle.demands.specs.Cases.{allPass, cameOut, cases, passes, sameAnswer}
 use Rattle.demands.specs.Demands.{output}
-use Rattle.demands.specs.Places.{cellsShow, contentShows, rowShows, showsAt, showsThen, streamShows, streamShowsF, throughNul}
-use Rattle.demands.specs.Tables.{count, lengthThen, lines, rowAt, rowLengths, rowLengthsF, sum, upTo}
+use Rattle.demands.specs.Places.{cellsShow, contentShows, marksOf, rowShows, showsAt, streamShows, throughNul}
+use Rattle.demands.specs.Tables.{count, inOrder, lines, rowAt, rowLength, rowLengths, sum, upTo}
 use Rattle.fields.specs.Fields.{atMostOne, attributeComes, attributes, attributesF, beforeStar, begins, boundedLen, declare, exactlyOne, fieldBody, fieldsF, fieldsThen, isNameByte, judge, kindOf, kinds, lenBefore, lenOf, lengthOf, nameComes, nullOf, nullValue, readAttribute, readField, readValue, readValues, someName, spanName, spanValue, valuesOf}
 use Rattle.number.specs.Number.{decimal, digit, digits, hexadecimal, hexadigit, numeral, ofDigits, ofPattern, pattern, ranged, readInteger, shortest, sized, toDigits, withSign}
-use Rattle.rows.specs.Convert.{convert, converting, runSized, underColumns}
-use Rattle.rows.specs.Stream.{atEnd, bit, fitted, flag, flagsLeft, isEmpty, isOne, read, readCell, readCells, readEnd, readF, readRow, readStart, rowThen, run, write, writeCell, writeCells, writeEnd, writeRow, writeStart, wroteThen}
+use Rattle.rows.specs.Convert.{convert, converting, underColumns}
+use Rattle.rows.specs.Stream.{atEnd, bit, fitted, flag, flagsLeft, isEmpty, isOne, read, readCell, readCells, readEnd, readRow, readStart, run, write, writeCell, writeCells, writeEnd, writeRow, writeStart, wroteThen}
+use Rattle.rows.specs.Sequence.{rowThen, sequence, sequenceF}
+use Rattle.fields.specs.Front.{front as callFront}
 use Rattle.table.specs.Bytes.{after, attach, between, ends, isWhite, notEmpty, pieces, same, skipWhite, tag, words}
 use Rattle.table.specs.Cell.{below, bound, emptyIsNull, isChar, isElement, isNull, isNullList, isScalar, nullElement, nullOfKind, roomFits, roomIn, sameInteger, show}
 use Rattle.table.specs.Outcome.{answerOf, at, bufferOf, ending, mostDeclarations, mostInput, rowsDone, written}
@@ -18,5 +20,5 @@ use Rattle.table.specs.Shape.{half, inRange, last, shape}
 use Rattle.tabledata.specs.TableData.{allText, bitLetter, bitText, bitWords, cellText, characters, close-TD, close-TR, consText, countFits, elementBytes, elementText, emitted, escaped, expanded, follow, formOf, forms, integerWord, isText, lower, named, names, numeric, open-TD, open-TR, readText, spaced, step, tagged, textCell, textElements, truthLetter, truthText, truthWord, writeText}
 
 unfoldable pub everything : ℕ
-unfolding between isWhite same skipWhite after ends tag attach pieces notEmpty words bound isScalar roomIn isChar roomFits nullOfKind nullElement sameInteger isNullList show emptyIsNull isNull below isElement at written rowsDone answerOf bufferOf ending mostInput mostDeclarations every last shape half inRange ofDigits toDigits ofPattern pattern digit hexadigit numeral sized withSign ranged decimal hexadecimal readInteger digits shortest sextet letter isPad dense oneByte twoBytes threeBytes lastFour fours decode encode inRoom sizedInput stepOutcome decoding encoding decodeCall encodeCall truth truthByte bitOf element number bitBytes bitsOf packed pack allZero unpack contentBytes numbers beforeNul numbersIn content front atMost counted countIn shows readBinary2 readBinary countBytes groups bytesOf elementsBytes zeros writeBinary2 canBeEmpty nullForm writeBinary open-TD close-TD open-TR close-TR names named numeric expanded emitted step consText follow characters cellText isText allText lower truthLetter truthWord bitLetter bitWords integerWord textElements countFits textCell readText escaped formOf forms truthText bitText spaced elementText tagged writeText isNameByte spanName someName spanValue readValue readAttribute nameComes attributeComes attributesF attributes valuesOf atMostOne exactlyOne readValues begins fieldBody readField kinds kindOf lengthOf beforeStar boundedLen lenBefore lenOf nullValue nullOf judge fieldsThen fieldsF declare runSized underColumns converting convert readCell flag flagsLeft readCells isOne readStart readEnd readRow isEmpty atEnd rowThen readF read writeCell writeCells bit writeStart writeEnd writeRow fitted wroteThen write run cases sameAnswer cameOut passes allPass output throughNul contentShows cellsShow rowShows showsThen streamShowsF streamShows showsAt count upTo rowAt lines lengthThen rowLengthsF rowLengths sum elementBytes
+unfolding between isWhite same skipWhite after ends tag attach pieces notEmpty words bound isScalar roomIn isChar roomFits nullOfKind nullElement sameInteger isNullList show emptyIsNull isNull below isElement at written rowsDone answerOf bufferOf ending mostInput mostDeclarations every last shape half inRange ofDigits toDigits ofPattern pattern digit hexadigit numeral sized withSign ranged decimal hexadecimal readInteger digits shortest sextet letter isPad dense oneByte twoBytes threeBytes lastFour fours decode encode inRoom sizedInput stepOutcome decoding encoding decodeCall encodeCall truth truthByte bitOf element number bitBytes bitsOf packed pack allZero unpack contentBytes numbers beforeNul numbersIn content front atMost counted countIn shows readBinary2 readBinary countBytes groups bytesOf elementsBytes zeros writeBinary2 canBeEmpty nullForm writeBinary open-TD close-TD open-TR close-TR names named numeric expanded emitted step consText follow characters cellText isText allText lower truthLetter truthWord bitLetter bitWords integerWord textElements countFits textCell readText escaped formOf forms truthText bitText spaced elementText tagged writeText isNameByte spanName someName spanValue readValue readAttribute nameComes attributeComes attributesF attributes valuesOf atMostOne exactlyOne readValues begins fieldBody readField kinds kindOf lengthOf beforeStar boundedLen lenBefore lenOf nullValue nullOf judge fieldsThen fieldsF declare callFront underColumns converting convert readCell flag flagsLeft readCells isOne readStart readEnd readRow isEmpty atEnd rowThen sequenceF sequence read writeCell writeCells bit writeStart writeEnd writeRow fitted wroteThen write run cases sameAnswer cameOut passes allPass output throughNul contentShows cellsShow rowShows streamShows marksOf showsAt count upTo rowAt lines inOrder rowLength rowLengths sum elementBytes
 everything = 0

@@ -1,7 +1,6 @@
 -- Row lengths: a row takes at least a byte, so the bound on rows never ends a stream; and the lengths of an accepted stream's rows, added in
 -- order, give the stream's length, since the rest of one row is where the next begins.
-use Prim.Native.Nat.{_<_, _≤_, suc, zero, ℕ}
-use native.Mathlib.Nat.{le-refl}
+use Prim.Native.Nat.{_-_, _<_, suc, zero, ℕ}
 use native.Mathlib.Omega.{arith}
 use mathlib.Core.Bool.{Bool, cond, false, false≢true, true}
 use mathlib.Core.List.{List, [], _∷_}
@@ -9,15 +8,16 @@ use mathlib.Core.Path.{_≡_, refl, sym}
 use lib.ListN.{length}
 use Rattle.demands.proofs.Demand2.{declared-columns, stands}
 use Rattle.demands.specs.Demands.{Accepted}
-use Rattle.demands.specs.Tables.{Ends, lengthThen, rowLengths, rowLengthsF, sum}
+use Rattle.demands.specs.Tables.{Ends, inOrder, rowLength, rowLengths, sum}
 use Rattle.fields.specs.Fields.{declare}
 use Rattle.rows.proofs.Laws.{fuel, row-less}
 use Rattle.rows.specs.Convert.{convert}
-use Rattle.rows.specs.Stream.{Table, atEnd, finished, isEmpty, read, readF, readRow, rowThen}
+use Rattle.rows.specs.Stream.{Table, atEnd, isEmpty, read, readRow}
+use Rattle.rows.specs.Sequence.{Sequence, finished, rowThen, sequence, sequenceF}
 use Rattle.table.proofs.Laws.{holds-at, holds-weaken}
 use Rattle.table.specs.Cell.{AreColumns, Cell}
 use Rattle.table.specs.Outcome.{Refusal}
-use Rattle.table.specs.Result.{Holds, Result, good, holds, refuses}
+use Rattle.table.specs.Result.{Holds, Result, _>>=_, good, holds, refuses}
 use Rattle.table.specs.declared.Column.{Column}
 use Rattle.table.specs.declared.Rows.{Rows}
 use Rattle.table.specs.declared.Rows.the-variants.{Binary, Binary2}
@@ -27,32 +27,31 @@ pub row-takes-a-byte : (decls : List ℕ) (cs : List Column) → declare decls �
     → readRow from cs s ≡ good (xs, rest) → length rest < length s
 row-takes-a-byte decls cs q from s xs rest e = holds-at (row-less from cs s (declared-columns decls cs q)) e
 
--- fuel never ends a stream: any bound that is at least the length gives the same table
-pub fuel-never-ends : (decls : List ℕ) (cs : List Column) → declare decls ≡ good cs → (from : Rows) (f : ℕ) (s : List ℕ) → length s ≤ f
-    → readF f from cs s ≡ read from cs s
-unfolding read
-fuel-never-ends decls cs q from f s h = fuel from cs (declared-columns decls cs q) f (length s) s h (le-refl _)
+-- fuel never ends a stream: any bound above the length gives the same table
+pub fuel-never-ends : (decls : List ℕ) (cs : List Column) → declare decls ≡ good cs → (from : Rows) (f : ℕ) (s : List ℕ) → length s < f
+    → sequenceF f (atEnd from) (readRow from cs) s ≡ read from cs s
+fuel-never-ends decls cs q from = fuel from cs (declared-columns decls cs q)
 
 -- ---- "The row lengths of an accepted stream, added in order, give the stream's length."
 
 module _ (from : Rows) (cs : List Column) (i : AreColumns cs) (bare : (s : List ℕ) → atEnd from s ≡ true → length s ≡ 0) where
-  lengths-then : (s : List ℕ) (r : Result Refusal (List Cell × List ℕ)) (more : List ℕ → Table) (lengths : List ℕ → List ℕ)
-      → Holds (λ (p : List Cell × List ℕ). (length (p .1) < length s) × (Ends (more (p .1)) → sum (lengths (p .1)) ≡ length (p .1))) r
-      → Ends (rowThen r more) → sum (lengthThen r s lengths) ≡ length s
-  unfolding rowThen lengthThen sum
+  lengths-then : (s : List ℕ) (r : Result Refusal (List Cell × List ℕ)) (more : List ℕ → Table) (lengths : List ℕ → Sequence ℕ)
+      → Holds (λ (p : List Cell × List ℕ). (length (p .1) < length s) × (Ends (more (p .1)) → sum (inOrder (lengths (p .1))) ≡ length (p .1))) r
+      → Ends (rowThen r more) → sum (inOrder (rowThen (r >>= λ p. good (length s - length (p .1), p .1)) lengths)) ≡ length s
+  unfolding rowThen inOrder sum
   lengths-then s r more lengths refuses e = absurd e
   lengths-then s r more lengths (holds h) e = omega (arith, h .0, h .1 e)
 
-  lengths-sum : (f : ℕ) (s : List ℕ) → length s ≤ f → Ends (readF f from cs s) → sum (rowLengthsF f from cs s) ≡ length s
-  unfolding readF rowLengthsF
-  lengths-sum zero s h e = unfold sum in omega arith
-  lengths-sum (suc f) s h e = go (atEnd from s) refl e (holds-weaken (row-less from cs s i) (λ p l. (l, lengths-sum f (p .1) (omega arith))))
+  lengths-sum : (f : ℕ) (s : List ℕ) → Ends (sequenceF f (atEnd from) (readRow from cs) s) → sum (inOrder (sequenceF f (atEnd from) (rowLength from cs) s)) ≡ length s
+  unfolding sequenceF rowLength
+  lengths-sum zero s e = absurd e
+  lengths-sum (suc f) s e = go (atEnd from s) refl e (holds-weaken (row-less from cs s i) (λ p l. (l, lengths-sum f (p .1))))
     where
-      go : (b : Bool) → atEnd from s ≡ b → Ends (cond b finished (rowThen (readRow from cs s) (λ rest. readF f from cs rest)))
-          → Holds (λ (p : List Cell × List ℕ). (length (p .1) < length s) × (Ends (readF f from cs (p .1)) → sum (rowLengthsF f from cs (p .1)) ≡ length (p .1))) (readRow from cs s)
-          → sum (cond b [] (lengthThen (readRow from cs s) s (λ rest. rowLengthsF f from cs rest))) ≡ length s
-      go true q e k = unfold sum in sym (bare s q)
-      go false q e k = lengths-then s (readRow from cs s) (λ rest. readF f from cs rest) (λ rest. rowLengthsF f from cs rest) k e
+      go : (b : Bool) → atEnd from s ≡ b → Ends (cond b finished (rowThen (readRow from cs s) (sequenceF f (atEnd from) (readRow from cs))))
+          → Holds (λ (p : List Cell × List ℕ). (length (p .1) < length s) × (Ends (sequenceF f (atEnd from) (readRow from cs) (p .1)) → sum (inOrder (sequenceF f (atEnd from) (rowLength from cs) (p .1))) ≡ length (p .1))) (readRow from cs s)
+          → sum (inOrder (cond b finished (rowThen (readRow from cs s >>= λ p. good (length s - length (p .1), p .1)) (sequenceF f (atEnd from) (rowLength from cs))))) ≡ length s
+      go true q e k = unfold inOrder sum in sym (bare s q)
+      go false q e k = lengths-then s (readRow from cs s) (sequenceF f (atEnd from) (readRow from cs)) (sequenceF f (atEnd from) (rowLength from cs)) k e
 
 empty-length : (s : List ℕ) → isEmpty s ≡ true → length s ≡ 0
 unfolding isEmpty
@@ -69,9 +68,9 @@ bare-binary2 s h = empty-length s h
 
 lengths-of : (from : Rows) → ((s : List ℕ) → atEnd from s ≡ true → length s ≡ 0) → (decls : List ℕ) (to : Rows) (input out : List ℕ) (cs : List Column) → declare decls ≡ good cs
     → Accepted (convert decls from to input out) → sum (rowLengths from cs input) ≡ length input
-unfolding rowLengths
+unfolding rowLengths sequence
 lengths-of from bare decls to input out cs q a =
-    lengths-sum from cs (declared-columns decls cs q) bare (length input) input (le-refl _) (unfold read in stands decls from to input out cs q .all-rows a .0)
+    lengths-sum from cs (declared-columns decls cs q) bare (suc (length input)) input (unfold read in stands decls from to input out cs q .all-rows a .0)
 
 pub binary-row-lengths : (decls : List ℕ) (to : Rows) (input out : List ℕ) (cs : List Column) → declare decls ≡ good cs
     → Accepted (convert decls Binary to input out) → sum (rowLengths Binary cs input) ≡ length input

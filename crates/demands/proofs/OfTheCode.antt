@@ -1,4 +1,4 @@
--- The demands, of the code: a converter whose every call meets the contract of `rows::convert` is the definition `convert`, call by call, and
+-- The demands, of the code: a converter whose every call meets the contract of `convert::convert` is the definition `convert`, call by call, and
 -- so meets what that meets.
 use Prim.Native.Nat.{ℕ}
 use mathlib.Core.List.{List}

@@ -12,11 +12,12 @@ use lib.Seq.{take-at}
 use borrow.Author.Tests.{ltb-false}
 use Rattle.binary.proofs.Laws.{front-back}
 use Rattle.binary.specs.Binary.{atMost, beforeNul, bitBytes, content, contentBytes, countIn, counted, element, front, numbersIn, readBinary2, shows, unpack}
-use Rattle.demands.specs.Places.{cellsShow, contentShows, rowShows, showsAt, showsThen, streamShows, streamShowsF, throughNul}
+use Rattle.demands.specs.Places.{cellsShow, contentShows, marksOf, rowShows, showsAt, streamShows, throughNul}
 use Rattle.demands.specs.Tables.{count}
 use Rattle.number.specs.Number.{ofDigits}
 use Rattle.rows.proofs.Laws.{read-step}
-use Rattle.rows.specs.Stream.{Table, atEnd, flag, flagsLeft, isEmpty, isOne, read, readCell, readCells, readEnd, readRow, readStart, row, rowThen}
+use Rattle.rows.specs.Stream.{Table, atEnd, flag, flagsLeft, isEmpty, isOne, read, readCell, readCells, readEnd, readRow, readStart}
+use Rattle.rows.specs.Sequence.{Sequence, finished, row, rowThen, sequence, sequenceF}
 use Rattle.table.proofs.Laws.{cond-cases, holds-bind, holds-cond, holds-eq}
 use Rattle.table.specs.Cell.{AreColumns, Cell, show}
 use Rattle.table.specs.Outcome.{Refusal, at}
@@ -338,20 +339,27 @@ row-agree cs s =
     holds-bind (cells-agree cs (map isOne bits) (f .1)) (λ m more.
     holds (one-row cs s (f .0) (f .1) bits (m .0) (m .1) (h .0) (h .1) u more))))
 
-rows-agree : (f : ℕ) (cs : List Column) (s t : List ℕ) → Agree (streamShowsF f cs s) s t → Alike cs s t
-unfolding streamShowsF
-rows-agree zero cs s t a = subst (Alike cs s) (sym (all-seen s t a)) the-same
-rows-agree (suc f) cs s t a = go (rowShows cs s) (row-agree cs s) (rows-agree f cs) a
+same-alike : (cs : List Column) (s t : List ℕ) → t ≡ s → Alike cs s t
+same-alike cs s t e = subst (Alike cs s) (sym e) the-same
+
+abbrev rowsShow : ℕ → List Column → List ℕ → Sequence (List Bool)
+rowsShow f cs = sequenceF f isEmpty (λ s. refusedAs (at 0) (rowShows cs s))
+
+rows-agree : (f : ℕ) (cs : List Column) (s t : List ℕ) → Agree (marksOf (rowsShow f cs s)) s t → Alike cs s t
+unfolding sequenceF marksOf
+rows-agree zero cs s t a = same-alike cs s t a
+rows-agree (suc f) cs s t a = go (isEmpty s) (rowShows cs s) (row-agree cs s) (rows-agree f cs) a
   where
-    go : (r : Result ℕ (List Bool × List ℕ)) → Holds (λ (m : List Bool × List ℕ). (ns : List Bool) (w : List ℕ) → Agree (m .0 ++ ns) s w → RowAgree cs s w (m .1) ns) r
-        → ((s t : List ℕ) → Agree (streamShowsF f cs s) s t → Alike cs s t) → Agree (showsThen s r (λ rest. streamShowsF f cs rest)) s t → Alike cs s t
-    go r refuses ih a = unfold showsThen in subst (Alike cs s) (sym (all-seen s t a)) the-same
-    go r (holds {a = m} h) ih a = unfold showsThen in
-        let x : RowAgree cs s t (m .1) (streamShowsF f cs (m .1)) = h (streamShowsF f cs (m .1)) t a in
+    go : (b : Bool) (r : Result ℕ (List Bool × List ℕ)) → Holds (λ (m : List Bool × List ℕ). (ns : List Bool) (w : List ℕ) → Agree (m .0 ++ ns) s w → RowAgree cs s w (m .1) ns) r
+        → ((s t : List ℕ) → Agree (marksOf (rowsShow f cs s)) s t → Alike cs s t) → Agree (marksOf (cond b finished (rowThen (refusedAs (at 0) r) (rowsShow f cs)))) s t → Alike cs s t
+    go true r h ih a = same-alike cs s t a
+    go false r refuses ih a = unfold rowThen marksOf in same-alike cs s t a
+    go false r (holds {a = m} h) ih a = unfold rowThen marksOf in
+        let x : RowAgree cs s t (m .1) (marksOf (rowsShow f cs (m .1))) = h (marksOf (rowsShow f cs (m .1))) t a in
         subst₂ (λ (y z : List ℕ). Alike cs y z) (sym (x .splits)) (sym (x .splits′)) (a-row (x .flags) (x .bits) (x .long) (x .says) (x .alike-cells) (ih (m .1) (x .left) (x .behind)))
 
 -- two BINARY2 streams that agree at every place that shows something say the same
 pub unseen : (cs : List Column) (s t : List ℕ) → AreColumns cs → length t ≡ length s
     → ((i : ℕ) → i < length s → showsAt cs s i ≡ true → getD t i 0 ≡ getD s i 0) → read Binary2 cs t ≡ read Binary2 cs s
-unfolding showsAt streamShows
-unseen cs s t i l h = sym (alike cs i (rows-agree (length s) cs s t (agree-of (streamShowsF (length s) cs s) s t l h)))
+unfolding showsAt streamShows sequence
+unseen cs s t i l h = sym (alike cs i (rows-agree (suc (length s)) cs s t (agree-of (marksOf (streamShows cs s)) s t l h)))

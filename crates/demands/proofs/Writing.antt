@@ -9,11 +9,13 @@ use lib.ListN.{length, length-append}
 use borrow.Author.Tests.{le-ltb, ltb-false, ltb-true}
 use Rattle.demands.specs.Demands.{output}
 use Rattle.demands.specs.Tables.{Ends, count, lines, upTo}
-use Rattle.rows.proofs.Laws.{AllRows, FitsAll, Placed, Stops, newline, newline-read, read-row, row-back, write-row-fails}
-use Rattle.rows.specs.Stream.{Table, finished, fitted, read, readF, row, stopped, write, writeCell, writeCells, writeRow, wroteThen}
+use Rattle.rows.proofs.Sequences.{AllRows, Stops}
+use Rattle.rows.proofs.Laws.{FitsAll, Placed, newline, newline-read, read-nothing, read-row, row-back, write-row-fails}
+use Rattle.rows.specs.Stream.{Table, fitted, read, write, writeCell, writeCells, writeRow, wroteThen}
+use Rattle.rows.specs.Sequence.{finished, row, stopped}
 use Rattle.table.proofs.Laws.{bind-good, cond-cases, fails-at, good-as, good-bind, holds-at}
 use Rattle.table.specs.Cell.{AreColumns, Cell, Each}
-use Rattle.table.specs.Outcome.{Outcome, Refusal, accepted, at, refused, rowsDone, written}
+use Rattle.table.specs.Outcome.{Outcome, Refusal, accepted, at, mostNumber, refused, rowsDone, written}
 use Rattle.table.specs.Result.{IsGood, Result, _>>=_, bad, good, refusedAs}
 use Rattle.table.specs.declared.Column.{Column}
 use Rattle.table.specs.declared.Rows.{Rows}
@@ -46,7 +48,7 @@ writes to cs room r out (row xs t) = go (writeRow to cs xs) refl (λ b. writes t
 -- how it ends: at the table's end, or with a refusal of reading or of writing
 abbrev pub EndsAt : List Column → Table → ℕ → Outcome → Type 0
 EndsAt cs t done (accepted r out) = Ends t × (done ≡ count t)
-EndsAt cs t done (refused e r out) = Placed 8 17 (length cs) e
+EndsAt cs t done (refused e r out) = Placed 8 mostNumber (length cs) e
 
 pub record Done (to : Rows) (cs : List Column) (room r : ℕ) (out : List ℕ) (t : Table) (o : Outcome) : Type 0 where
   pub done : ℕ
@@ -116,8 +118,7 @@ up-to-all (row xs t) e = ap (row xs) (up-to-all t e)
 -- ---- lines are read back as the rows they were written from
 
 nothing-read : (to : Rows) (cs : List Column) (body : List ℕ) → _≡_ {A = Result Refusal (List ℕ)} (good []) (good body) → read to cs body ≡ finished
-unfolding read readF
-nothing-read to cs body q = let e : [] ≡ body = cc in rw (← e)
+nothing-read to cs body q = let e : [] ≡ body = cc in rw (← e) (read-nothing to cs)
 
 pub lines-read : (to : Rows) (cs : List Column) → AreColumns cs → (m : ℕ) (t : Table) → AllRows (FitsAll cs) t
     → (body : List ℕ) → lines to cs (upTo m t) ≡ good body → read to cs body ≡ upTo m t

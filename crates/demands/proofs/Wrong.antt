@@ -16,8 +16,10 @@ use Rattle.demands.specs.Cases.{nightBinary2, nightDeclared, nightText}
 use Rattle.demands.specs.Demands.{Accepted, Converter, Demand2, Valid, output}
 use Rattle.demands.specs.Tables.{count, rowAt, upTo}
 use Rattle.fields.specs.Fields.{declare}
+use Rattle.rows.proofs.Laws.{read-nothing}
 use Rattle.rows.specs.Convert.{convert}
-use Rattle.rows.specs.Stream.{Table, finished, read, readF, row, stopped}
+use Rattle.rows.specs.Stream.{Table, read}
+use Rattle.rows.specs.Sequence.{finished, row, stopped}
 use Rattle.table.proofs.Laws.{and-both}
 use Rattle.table.specs.All.{All, AreBytes}
 use Rattle.table.specs.Bytes.{bytes}
@@ -124,7 +126,7 @@ module _ (convert : Converter) (d : Demand2 convert) where
     where
       go : (n : ℕ) → upTo n (read TableData nightColumns []) ≡ finished
       go zero = unfold upTo in refl
-      go (suc n) = unfold upTo read readF in refl
+      go (suc n) = unfold upTo in rw (read-nothing TableData nightColumns)
 
   -- the converter that refuses everything
   pub not-the-refuser : ((decls : List ℕ) (from to : Rows) (input out : List ℕ) → ¬ Accepted (convert decls from to input out)) → ⊥
@@ -166,5 +168,5 @@ module _ (convert : Converter) (d : Demand2 convert) where
   pub not-the-inventor : (n : ℕ) → ((decls : List ℕ) (from to : Rows) (input out : List ℕ) → Accepted (convert decls from to input out) → convert decls from to input out .answer .rows ≡ n) → ⊥
   not-the-inventor n wrong =
       let two : 2 ≡ n = sym night-count ∙ wrong nightDecls TableData Binary2 nightText room night-accepted in
-      let none-read : emptyCall .answer .rows ≡ 0 = d .does-all nightDecls TableData Binary2 [] room nightColumns night-declared empty-accepted ∙ (unfold count read readF in refl) in
+      let none-read : emptyCall .answer .rows ≡ 0 = d .does-all nightDecls TableData Binary2 [] room nightColumns night-declared empty-accepted ∙ ap count (read-nothing TableData nightColumns) ∙ (unfold count in refl) in
       absurd (omega (arith, two, wrong nightDecls TableData Binary2 [] room empty-accepted, none-read))

@@ -9,10 +9,11 @@ use lib.ListN.{drop, getD, length, take}
 use Rattle.demands.specs.Places.{showsAt}
 use Rattle.demands.specs.Tables.{Ends, count, lines, rowAt, upTo}
 use Rattle.fields.specs.Fields.{declare}
-use Rattle.rows.specs.Stream.{finished, read, row}
+use Rattle.rows.specs.Sequence.{finished, row}
+use Rattle.rows.specs.Stream.{read}
 use Rattle.table.specs.All.{AreBytes}
 use Rattle.table.specs.Cell.{Cell}
-use Rattle.table.specs.Outcome.{Call, Refusal, accepted, ending, mostInput}
+use Rattle.table.specs.Outcome.{Call, Refusal, accepted, ending, mostInput, mostNumber}
 use Rattle.table.specs.Result.{Result, bad, good}
 use Rattle.table.specs.declared.Column.{Column}
 use Rattle.table.specs.declared.Rows.{Rows}
@@ -60,8 +61,8 @@ Ended (good cs) from to input out c = RowsStand cs from to input out c
 Ended (bad e) from to input out c = NoRows e out c
 
 pub record Demand1 (convert : Converter) : Type 0 where
-  -- the number is one of 0 to 17
-  pub numbered : (decls : List ℕ) (from to : Rows) (input out : List ℕ) → convert decls from to input out .answer .number ≤ 17
+  -- the number is 0 or one of 01's refusals
+  pub numbered : (decls : List ℕ) (from to : Rows) (input out : List ℕ) → convert decls from to input out .answer .number ≤ mostNumber
   pub ended : (decls : List ℕ) (from to : Rows) (input out : List ℕ) → Ended (declare decls) from to input out (convert decls from to input out)
 
 -- ---- demand 2: "It accepts exactly what VOTable 1.4, as narrowed in document 01, calls valid, 01's writing refusals apart, and each row it

@@ -1,4 +1,4 @@
--- The demands, of the code: what is known of a converter every call of which meets the contract of `rows::convert`.
+-- The demands, of the code: what is known of a converter every call of which meets the contract of `convert::convert`.
 use Prim.Native.Nat.{ℕ}
 use mathlib.Core.List.{List}
 use Rattle.demands.specs.Demands.{Converter}

@@ -1,13 +1,15 @@
 -- Which places of a BINARY2 stream show something: all but those "under a null flag, counts excepted, or after the first NUL of a text".
 -- A place is marked true where it shows something.
-use Prim.Native.Nat.{_-_, suc, zero, ℕ}
+use Prim.Native.Nat.{_-_, ℕ}
 use mathlib.Core.Bool.{Bool, cond, false, true}
 use mathlib.Core.List.{List, [], _++_, _∷_, map}
 use lib.Dec.{eqb}
 use lib.ListN.{getD, length, replicate}
 use Rattle.binary.specs.Binary.{bitBytes, contentBytes, countIn, front, unpack}
-use Rattle.rows.specs.Stream.{flag, flagsLeft, isOne}
-use Rattle.table.specs.Result.{Result, _>>=_, bad, good}
+use Rattle.rows.specs.Sequence.{Sequence, finished, row, sequence, stopped}
+use Rattle.rows.specs.Stream.{flag, flagsLeft, isEmpty, isOne}
+use Rattle.table.specs.Outcome.{at}
+use Rattle.table.specs.Result.{Result, _>>=_, good, refusedAs}
 use Rattle.table.specs.Shape.{Bits, Shape, Text, Truths, Whole, shape}
 use Rattle.table.specs.declared.Column.{Column}
 
@@ -41,18 +43,15 @@ rowShows cs s = do
   (marks, rest) ← cellsShow cs (map isOne bits) t
   good (replicate (length p) true ++ marks, rest)
 
--- row after row; from the first that cannot be told apart on, all shows
-unfoldable pub showsThen : List ℕ → Result ℕ (List Bool × List ℕ) → (List ℕ → List Bool) → List Bool
-showsThen s (good p) more = p .0 ++ more (p .1)
-showsThen s (bad n) more = replicate (length s) true
+-- row after row, up to the first that cannot be told apart
+unfoldable pub streamShows : List Column → List ℕ → Sequence (List Bool)
+streamShows cs s = sequence isEmpty (λ t. refusedAs (at 0) (rowShows cs t)) s
 
-unfoldable pub streamShowsF : ℕ → List Column → List ℕ → List Bool
-streamShowsF zero cs s = replicate (length s) true
-streamShowsF (suc f) cs s = showsThen s (rowShows cs s) (λ rest. streamShowsF f cs rest)
+unfoldable pub marksOf : Sequence (List Bool) → List Bool
+marksOf finished = []
+marksOf (stopped e) = []
+marksOf (row marks more) = marks ++ marksOf more
 
-unfoldable pub streamShows : List Column → List ℕ → List Bool
-streamShows cs s = streamShowsF (length s) cs s
-
--- does place i show something?
+-- does place i show something? Past the rows that can be told apart all shows.
 unfoldable pub showsAt : List Column → List ℕ → ℕ → Bool
-showsAt cs s i = getD (streamShows cs s) i true
+showsAt cs s i = getD (marksOf (streamShows cs s)) i true

@@ -1,13 +1,13 @@
 -- What the demands say of a table that was read: its end, its rows, their lines.
 use Prim.Native.Nat.{_+_, _-_, suc, zero, ℕ}
-use mathlib.Core.Bool.{cond}
 use mathlib.Core.List.{List, [], _++_, _∷_}
 use mathlib.Core.Option.{Option, none, some}
 use lib.ListN.{length}
-use Rattle.rows.specs.Stream.{Table, atEnd, finished, readRow, row, stopped, writeRow}
+use Rattle.rows.specs.Sequence.{Sequence, finished, row, sequence, stopped}
+use Rattle.rows.specs.Stream.{Table, atEnd, readRow, writeRow}
 use Rattle.table.specs.Cell.{Cell}
 use Rattle.table.specs.Outcome.{Refusal}
-use Rattle.table.specs.Result.{Result, _>>=_, bad, good}
+use Rattle.table.specs.Result.{Result, _>>=_, good}
 use Rattle.table.specs.declared.Column.{Column}
 use Rattle.table.specs.declared.Rows.{Rows}
 
@@ -43,17 +43,18 @@ lines to cs finished = good []
 lines to cs (stopped e) = good []
 lines to cs (row xs t) = writeRow to cs xs >>= λ b. lines to cs t >>= λ r. good (b ++ r)
 
--- the lengths of the rows of a stream, in order: what each took of it
-unfoldable pub lengthThen : Result Refusal (List Cell × List ℕ) → List ℕ → (List ℕ → List ℕ) → List ℕ
-lengthThen (good p) s more = (length s - length (p .1)) ∷ more (p .1)
-lengthThen (bad e) s more = []
+-- what each row of a stream gives, in order
+unfoldable pub inOrder : {A : Type 0} → Sequence A → List A
+inOrder finished = []
+inOrder (stopped e) = []
+inOrder (row x more) = x ∷ inOrder more
 
-unfoldable pub rowLengthsF : ℕ → Rows → List Column → List ℕ → List ℕ
-rowLengthsF zero from cs s = []
-rowLengthsF (suc f) from cs s = cond (atEnd from s) [] (lengthThen (readRow from cs s) s (λ rest. rowLengthsF f from cs rest))
+-- the length of a row: what it took of the stream
+unfoldable pub rowLength : Rows → List Column → List ℕ → Result Refusal (ℕ × List ℕ)
+rowLength from cs s = readRow from cs s >>= λ p. good (length s - length (p .1), p .1)
 
 unfoldable pub rowLengths : Rows → List Column → List ℕ → List ℕ
-rowLengths from cs s = rowLengthsF (length s) from cs s
+rowLengths from cs s = inOrder (sequence (atEnd from) (rowLength from cs) s)
 
 unfoldable pub sum : List ℕ → ℕ
 sum [] = 0

@@ -21,9 +21,11 @@ use Rattle.grammar.specs.Declarations.{Declares}
 use Rattle.grammar.specs.Exact.{BothWays, InGrammar, tableOf}
 use Rattle.grammar.specs.Valid.{HasForm, HaveForms, Spells}
 use Rattle.number.specs.Number.{sized}
-use Rattle.rows.proofs.Laws.{AllRows, FitsAll, read-fits}
+use Rattle.rows.proofs.Sequences.{AllRows}
+use Rattle.rows.proofs.Laws.{FitsAll, read-fits}
 use Rattle.rows.specs.Convert.{convert}
-use Rattle.rows.specs.Stream.{Table, finished, read, row, stopped, writeCell, writeCells, writeEnd, writeRow, writeStart}
+use Rattle.rows.specs.Stream.{Table, read, writeCell, writeCells, writeEnd, writeRow, writeStart}
+use Rattle.rows.specs.Sequence.{finished, row, stopped}
 use Rattle.table.proofs.Laws.{each-weaken, holds-at, the}
 use Rattle.table.specs.All.{AreBytes}
 use Rattle.table.specs.Bytes.{ends}

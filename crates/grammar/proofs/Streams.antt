@@ -16,7 +16,8 @@ use Rattle.grammar.specs.Exact.{tableOf}
 use Rattle.grammar.specs.Text.{TextCells, TextRow, TextTable, cells-end, cells-then, table-end, table-row, text-row}
 use Rattle.grammar.specs.Words.{Tag, White, a-tag}
 use Rattle.rows.proofs.Laws.{read-row, read-step}
-use Rattle.rows.specs.Stream.{Table, atEnd, finished, flag, flagsLeft, isEmpty, isOne, read, readCell, readCells, readEnd, readRow, readStart, row, rowThen, stopped}
+use Rattle.rows.specs.Stream.{Table, atEnd, flag, flagsLeft, isEmpty, isOne, read, readCell, readCells, readEnd, readRow, readStart}
+use Rattle.rows.specs.Sequence.{finished, row, rowThen, stopped}
 use Rattle.table.proofs.Laws.{holds-as, holds-at, holds-bind, holds-weaken, no-white}
 use Rattle.table.specs.All.{All, AreBytes}
 use Rattle.table.specs.Bytes.{bytes, skipWhite, tag}

@@ -14,8 +14,10 @@ use Rattle.binary.specs.Binary.{bitBytes, bytesOf, canBeEmpty, contentBytes, co
 use Rattle.demands.specs.Tables.{lines}
 use Rattle.number.proofs.Laws.{all-to, of-lt, pattern-lt}
 use Rattle.number.specs.Number.{ofDigits, toDigits}
-use Rattle.rows.proofs.Laws.{AllRows, FitsAll}
-use Rattle.rows.specs.Stream.{Table, bit, finished, row, stopped, writeCell, writeCells, writeEnd, writeRow, writeStart}
+use Rattle.rows.proofs.Sequences.{AllRows}
+use Rattle.rows.proofs.Laws.{FitsAll}
+use Rattle.rows.specs.Stream.{Table, bit, writeCell, writeCells, writeEnd, writeRow, writeStart}
+use Rattle.rows.specs.Sequence.{finished, row, stopped}
 use Rattle.table.proofs.Laws.{all-append, all-drop, all-replicate, all-take, holds-as, holds-bind, holds-cond}
 use Rattle.table.specs.All.{All, AreBytes}
 use Rattle.table.specs.Cell.{AreColumns, Cell, Fits, IsColumn, fits-shown, isElement, isNull, null, nullElement, roomIn, shown}

@@ -8,7 +8,8 @@ use Rattle.demands.specs.Tables.{lines}
 use Rattle.grammar.specs.Base64Text.{Base64Text}
 use Rattle.grammar.specs.Declarations.{Declares}
 use Rattle.grammar.specs.Valid.{HaveForms, Spells}
-use Rattle.rows.specs.Stream.{Table, finished, row}
+use Rattle.rows.specs.Stream.{Table}
+use Rattle.rows.specs.Sequence.{finished, row}
 use Rattle.table.specs.Cell.{Cell}
 use Rattle.table.specs.Outcome.{accepted, ending}
 use Rattle.table.specs.Result.{good}

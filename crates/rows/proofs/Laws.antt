@@ -240,6 +240,13 @@ module _ (from : Rows) (cs : List Column) (i : AreColumns cs) where
   pub read-step : (s : List ℕ) → read from cs s ≡ cond (atEnd from s) finished (rowThen (readRow from cs s) (read from cs))
   read-step = within-step from cs (columns-within cs i)
 
+-- "zero bytes are zero rows, accepted"
+pub read-nothing : (from : Rows) (cs : List Column) → read from cs [] ≡ finished
+unfolding read sequence sequenceF atEnd isEmpty skipWhite
+read-nothing TableData cs = refl
+read-nothing Binary cs = refl
+read-nothing Binary2 cs = refl
+
 -- ---- a row is never read at the end
 
 tag-some : (u : List ℕ) → Holds (λ (t : List ℕ). isEmpty u ≡ false) (tag 10 open-TR u)
