@@ -1,4 +1,4 @@
-// Declarations to a column list: "FIELD elements with only white space around them". The text is read in place, by index.
+// Declarations to a column list: "FIELD elements with only white space around them"; and the front of a call. The text is read in place, by index.
 mod attributes;
 mod columns;
 mod elements;

@@ -22,9 +22,9 @@ use Rattle.table.specs.Bytes.{skipWhite, tag}
 use Rattle.table.specs.Result.{Result, _>>=_, good}
 use Rattle.table.specs.declared.Rows.{Rows}
 use Rattle.table.specs.declared.Rows.the-variants.{Binary, Binary2, TableData}
-use Rattle.tabledata_reading.specs.Tags.{TagIs, TagWithin, tagAs}
+use Rattle.text.specs.Contracts.{TagIs, TagWithin, tagAs}
 use Rattle.tabledata.specs.TableData.{close-TR, open-TR}
-use Rattle.tabledata_reading.specs.declared.Tag.{Tag}
+use Rattle.text.specs.declared.Tag.{Tag}
 
 -- ---- the end of the input
 
@@ -44,28 +44,28 @@ empty-drop (b ∷ s) (suc i) h = suc-eqb i (length s) ∙ empty-drop s i (omega 
 
 -- ---- the end of a row
 
-module _ (s : List ℕ) (place : ℕ) (r : Tag) (t : TagIs (tag 10 close-TR (skipWhite (drop place s))) s place r) where
+module _ (s : List ℕ) (place : ℕ) (r : Tag) (t : TagIs (λ n. tag n close-TR (skipWhite (drop place s))) s place r) where
   pub closed-text : (next : ℕ) → r ≡ Tag.At next → Closes TableData s place (Close.Closed next)
   unfolding readEnd
-  closed-text next e = record { closed = t .found ∙ ap (tagAs s) e; within = subst (TagWithin s place) e (t .within) }
+  closed-text next e = record { closed = t .found 10 ∙ ap (tagAs 10 s) e; within = subst (TagWithin s place) e (t .within) }
 
   pub open-text : r ≡ Tag.Broken → Closes TableData s place (Close.Refused 10)
   unfolding readEnd
-  open-text e = record { closed = t .found ∙ ap (tagAs s) e; within = tt }
+  open-text e = record { closed = t .found 10 ∙ ap (tagAs 10 s) e; within = tt }
 
 pub closed-here : (from : Rows) (s : List ℕ) (place : ℕ) → readEnd from (drop place s) ≡ good (drop place s) → place ≤ length s → Closes from s place (Close.Closed place)
 closed-here from s place e h = record { closed = e; within = (le-refl place, h) }
 
 -- ---- the start of a row
 
-module _ (s : List ℕ) (place : ℕ) (count : ℕ) (r : Tag) (t : TagIs (tag 10 open-TR (skipWhite (drop place s))) s place r) where
+module _ (s : List ℕ) (place : ℕ) (count : ℕ) (r : Tag) (t : TagIs (λ n. tag n open-TR (skipWhite (drop place s))) s place r) where
   pub begun-text : (next : ℕ) → r ≡ Tag.At next → Begins TableData count s place (Begin.Row 0 next)
   unfolding readStart flagsIn
-  begun-text next e = record { begun = rw (t .found ∙ ap (tagAs s) e); within = subst (TagWithin s place) e (t .within) }
+  begun-text next e = record { begun = rw (t .found 10 ∙ ap (tagAs 10 s) e); within = subst (TagWithin s place) e (t .within) }
 
   pub unbegun-text : r ≡ Tag.Broken → Begins TableData count s place (Begin.Refused 10)
   unfolding readStart
-  unbegun-text e = record { begun = rw (t .found ∙ ap (tagAs s) e); within = tt }
+  unbegun-text e = record { begun = rw (t .found 10 ∙ ap (tagAs 10 s) e); within = tt }
 
 pub begun-binary : (s : List ℕ) (place count : ℕ) → place ≤ length s → Begins Binary count s place (Begin.Row 0 place)
 unfolding readStart flagsIn

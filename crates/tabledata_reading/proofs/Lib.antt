@@ -1,5 +1,1 @@
-mod Scan
-mod Machine
 mod Words
-mod OneWord
-mod WholeWords

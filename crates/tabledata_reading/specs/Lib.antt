@@ -1,2 +1,5 @@
-pub mod Tags
-pub mod Contracts
+pub mod References
+pub mod Characters
+pub mod Elements
+pub mod Words
+pub mod Cells

@@ -1,4 +1,4 @@
-// A cell of TABLEDATA is measured and written, and so are the tags of a row.
+// A cell of TABLEDATA is measured and written.
 use table::Column;
 use table::Kind;
 use table::Size;
@@ -7,15 +7,14 @@ use tabledata::is_text;
 use text::put_bytes;
 ghost use Prim.Native.Nat.{_+_, _≤_};
 ghost use Rattle.number.specs.Number.{shortest};
-ghost use Rattle.table.specs.Bytes.{bytes};
 ghost use Rattle.table.specs.Contracts.{formBytes, held, sizeAs, sizeOf};
 ghost use Rattle.table.specs.Shape.{Bits, Text, shape};
 ghost use Rattle.table.specs.Wrote.{Wrote};
-ghost use Rattle.tabledata.specs.TableData.{bitText, close-TR, elementBytes, formOf, forms, joined, open-TR, spaced, textBytes, truthText, writeText};
+ghost use Rattle.tabledata.specs.TableData.{bitText, elementBytes, formOf, forms, joined, spaced, textBytes, truthText, writeText};
 ghost use Rattle.tabledata_writing.specs.Contracts.{formSize, sizeWith};
 ghost use lib.IntN.{pos};
 ghost use lib.ListN.{drop, length, take};
-ghost use mathlib.Core.List.{[], _++_, _∷_, map};
+ghost use mathlib.Core.List.{[], _∷_, map};
 ghost use mathlib.Core.Path.{_≡_};
 
 // ---- a cell is measured
@@ -266,19 +265,4 @@ pub fn write_text(
     let from = put_bytes(out, at, b"<TD>");
     let next = put_elements(kind, count, scratch, out, from);
     put_bytes(out, next, b"</TD>")
-}
-
-// "one line per row, byte 10 at its end, nothing else between tags"
-pub fn write_row_start(out: &mut [u8], at: usize) -> usize
-    requires { ⌜ at + 4 ≤ length (now out) ⌝ }
-    ensures { λ r. ⌜ Wrote (now (out .entry)) at (open-TR ++ bytes ">") (now (out .exit)) r ⌝ }
-{
-    put_bytes(out, at, b"<TR>")
-}
-
-pub fn write_row_end(out: &mut [u8], at: usize) -> usize
-    requires { ⌜ at + 6 ≤ length (now out) ⌝ }
-    ensures { λ r. ⌜ Wrote (now (out .entry)) at (close-TR ++ bytes ">\n") (now (out .exit)) r ⌝ }
-{
-    put_bytes(out, at, b"</TR>\n")
 }
