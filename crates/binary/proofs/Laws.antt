@@ -56,7 +56,7 @@ pub length-pack : (bits : List ℕ) → length (pack bits) ≡ bitBytes (length 
 unfolding pack
 length-pack bits = length-packed _ _
 
-allZero-zeros : (n : ℕ) → allZero (replicate n 0) ≡ true
+pub allZero-zeros : (n : ℕ) → allZero (replicate n 0) ≡ true
 unfolding allZero
 allZero-zeros zero = refl
 allZero-zeros (suc n) = allZero-zeros n
@@ -256,7 +256,7 @@ zeros-back c rest i =
 
 -- ---- room
 
-room-self : (k : Shape) (m : ℕ) → roomFits k m m ≡ true
+pub room-self : (k : Shape) (m : ℕ) → roomFits k m m ≡ true
 unfolding roomFits
 room-self k m = cond-cases (λ (b : Bool). b ≡ true) (isChar k) (leb m m) (eqb m m) (λ _. le-leb m m (le-refl m)) (λ _. eq-eqb m m refl)
 

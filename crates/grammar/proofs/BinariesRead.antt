@@ -11,7 +11,7 @@ use lib.ListN.{drop, length, length-append, length-drop, length-take, replicate,
 use lib.Seq.{drop-at, take-at}
 use borrow.Author.Tests.{eqb-false, eqb-true, le-ltb, lt-ltb, ltb-false, ltb-true, ne-eqb}
 use Rattle.binary.proofs.Digits.{every-bits}
-use Rattle.binary.proofs.Laws.{front-back}
+use Rattle.binary.proofs.Laws.{allZero-zeros, front-back}
 use Rattle.binary.specs.Binary.{allZero, atMost, beforeNul, bitBytes, bitsOf, content, contentBytes, countIn, counted, element, front, numbers, numbersIn, readBinary, readBinary2, shows, truth, unpack}
 use Rattle.grammar.proofs.Fronts.{Front}
 use Rattle.grammar.proofs.ShownRead.{shows-is, shows-read}
@@ -82,11 +82,6 @@ packed-is (b ∷ s) a =
     let e : ofDigits 2 0 (toDigits 2 8 b) ≡ b = of-to 2 (lit< tt) 8 b (a .0) in
     packed-then (length-to 2 8 b) (all-to 2 (lit< tt) 8 b) (rw e at m) (packed-is s (a .1))
 
-zeros-read : (n : ℕ) → allZero (replicate n 0) ≡ true
-unfolding allZero
-zeros-read zero = refl
-zeros-read (suc n) = zeros-read n
-
 zeros-are : (s : List ℕ) → allZero s ≡ true → s ≡ replicate (length s) 0
 unfolding allZero
 zeros-are [] h = refl
@@ -100,7 +95,7 @@ bits-long (b ∷ s) = length-append (toDigits 2 8 b) (bitsOf s) ∙ omega (arith
 pub bits-in-read : {n : ℕ} {s bits : List ℕ} → BitsIn n s bits → unpack n s ≡ good bits
 unfolding unpack
 bits-in-read {n} (bits-in {bits = bits} p l m r) =
-    rw (packed-read r, drop-at bits (replicate p 0) n l, take-at bits (replicate p 0) n l, zeros-read p)
+    rw (packed-read r, drop-at bits (replicate p 0) n l, take-at bits (replicate p 0) n l, allZero-zeros p)
 
 pub bits-in-is : (n : ℕ) (s : List ℕ) → length s ≡ (n + 7) / 8 → AreBytes s → Holds (BitsIn n s) (unpack n s)
 unfolding unpack

@@ -8,7 +8,8 @@ use mathlib.Core.Path.{_∙_, _≡_, ap, refl, subst, sym}
 use lib.Dec.{eqb, leb, lit≤}
 use lib.IntN.{ℤ}
 use lib.ListN.{length}
-use borrow.Author.Tests.{eq-eqb, eqb-false, eqb-true, le-leb, leb-true, ne-eqb}
+use borrow.Author.Tests.{eqb-false, eqb-true, le-leb, leb-true, ne-eqb}
+use Rattle.binary.proofs.Laws.{room-self}
 use Rattle.grammar.proofs.Fronts.{after-is, digit-is, digit-read, ends-is, ends-word, hexadigit-is, hexadigit-read, numeral-all, numeral-some, sized-is, sized-read, skip-is, skip-stays, skip-white, tag-is, tag-read}
 use Rattle.grammar.proofs.ShownRead.{shows-is, shows-read}
 use Rattle.grammar.proofs.WordsRead.{OneWord, bit-letters-dark, bits-are, bits-read, integer-is, integer-read, integer-word, no-word, one-word, one-word-of, same-is, spaced-is, spaced-read, three-bytes, truth-is, truth-read, truth-word, two-words, words-blank, words-trimmed, words-white}
@@ -294,10 +295,6 @@ elements-are (Whole g v) cs =
 elements-are Text cs = holds text-chars
 
 -- ---- how many
-
-room-self : (k : Shape) (m : ℕ) → roomFits k m m ≡ true
-unfolding roomFits
-room-self k m = cond-cases (λ (b : Bool). b ≡ true) (isChar k) (leb m m) (eqb m m) (λ _. le-leb m m (le-refl m)) (λ _. eq-eqb m m refl)
 
 many-read : {k : Shape} {l : Len} {m : ℕ} → Many k l m → (roomFits k (roomIn l m) m && leb m (bound l)) ≡ true
 unfolding roomIn bound roomFits isChar
