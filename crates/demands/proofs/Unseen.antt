@@ -1,5 +1,5 @@
--- Bytes that show nothing change nothing. Two BINARY2 streams that agree at every place that shows something split alike into flags, counts
--- and contents (`Alike`), and each content shows the same; so the same rows are read.
+-- Bytes that show nothing change nothing. Two BINARY2 streams that agree at every place that shows something (`Agree`) have the same flags and
+-- counts, and contents that show the same; so both read the same row and agree behind it (`Both`).
 use Prim.Native.Nat.{_+_, _-_, _<_, suc, zero, ℕ}
 use native.Mathlib.Omega.{arith}
 use mathlib.Core.Bool.{Bool, cond, false, true}
@@ -35,21 +35,6 @@ seen Bits false p = p
 seen (Whole g v) false p = p
 seen Text false p = beforeNul p
 
--- two runs of a row's cells that differ only in bytes that show nothing; counts are the same
-data CellsAlike : List Column → List Bool → List ℕ → List ℕ → Type 0 where
-  no-cell : {fs : List Bool} → CellsAlike [] fs [] []
-  a-cell : {c : Column} {cs : List Column} {fs : List Bool} (n : ℕ) (count p q : List ℕ) {ps qs : List ℕ}
-      → ((t : List ℕ) → countIn (c .len) (count ++ t) ≡ good (n, t))
-      → length p ≡ contentBytes (shape (c .kind)) n → length q ≡ contentBytes (shape (c .kind)) n
-      → seen (shape (c .kind)) (flag fs) p ≡ seen (shape (c .kind)) (flag fs) q
-      → CellsAlike cs (flagsLeft fs) ps qs → CellsAlike (c ∷ cs) fs (count ++ (p ++ ps)) (count ++ (q ++ qs))
-
--- two BINARY2 streams that do
-data Alike (cs : List Column) : List ℕ → List ℕ → Type 0 where
-  the-same : {s : List ℕ} → Alike cs s s
-  a-row : (flags bits : List ℕ) {p q s t : List ℕ} → length flags ≡ bitBytes (length cs) → ((u : List ℕ) → readFlags (length cs) (flags ++ u) ≡ good (bits, u))
-      → CellsAlike cs (map isOne bits) p q → Alike cs s t → Alike cs (flags ++ (p ++ s)) (flags ++ (q ++ t))
-
 content-seen : (k : Shape) (n : ℕ) (p q : List ℕ) → seen k false p ≡ seen k false q → content k n p ≡ content k n q
 unfolding seen content numbersIn
 content-seen Truths n p q e = ap (content Truths n) e
@@ -67,59 +52,47 @@ data Both {E A : Type 0} (s t : List ℕ) : Result E (A × List ℕ) → Result 
   give : {a : A} → Both s t (good (a, s)) (good (a, t))
   refuse : {e : E} → Both s t (bad e) (bad e)
 
+both-then : {A B : Type 0} {s t : List ℕ} (f : A → B) (a b : Result Refusal (A × List ℕ)) → Both s t a b → Both s t (a >>= λ p. good (f (p .0), p .1)) (b >>= λ p. good (f (p .0), p .1))
+both-then f a b give = give
+both-then f a b refuse = refuse
+
 cell-reads : (c : Column) (f : Bool) (n : ℕ) (count p rest : List ℕ) → ((t : List ℕ) → countIn (c .len) (count ++ t) ≡ good (n, t)) → length p ≡ contentBytes (shape (c .kind)) n
     → readBinary2 c f (count ++ (p ++ rest)) ≡ (shows c f n p >>= λ x. good (x, rest))
 unfolding readBinary2
 cell-reads c f n count p rest h l = rw (h (p ++ rest), front-back (contentBytes (shape (c .kind)) n) p rest l)
 
-cells-both : {cs : List Column} {fs : List Bool} {p q : List ℕ} → CellsAlike cs fs p q → (k : ℕ) (s t : List ℕ) → Both s t (readCells Binary2 cs fs k (p ++ s)) (readCells Binary2 cs fs k (q ++ t))
+cells-both : (c : Column) (cs : List Column) (fs : List Bool) (s t u v : List ℕ) {rest left : List ℕ} (k : ℕ) (r : Result ℕ Cell)
+    → readBinary2 c (flag fs) s ≡ (r >>= λ x. good (x, u)) → readBinary2 c (flag fs) t ≡ (r >>= λ x. good (x, v))
+    → Both rest left (readCells Binary2 cs (flagsLeft fs) (k + 1) u) (readCells Binary2 cs (flagsLeft fs) (k + 1) v)
+    → Both rest left (readCells Binary2 (c ∷ cs) fs k s) (readCells Binary2 (c ∷ cs) fs k t)
 unfolding readCells readCell
-cells-both no-cell k s t = give
-cells-both {fs = fs} (a-cell {c = c} {cs = cs} n count p q {ps = ps} {qs = qs} h l m e a) k s t =
-    rw (append-assoc, append-assoc, append-assoc, append-assoc, cell-reads c (flag fs) n count p (ps ++ s) h l, cell-reads c (flag fs) n count q (qs ++ t) h m, shows-seen c (flag fs) n p q e)
-    (go (shows c (flag fs) n q) (cells-both a (k + 1) s t))
-  where
-    again : (x : Cell) (a b : Result Refusal (List Cell × List ℕ)) → Both s t a b → Both s t (a >>= λ xs. good (x ∷ xs .0, xs .1)) (b >>= λ xs. good (x ∷ xs .0, xs .1))
-    again x a b give = give
-    again x a b refuse = refuse
+cells-both c cs fs s t u v k (bad n) e f b = rw (e, f) refuse
+cells-both c cs fs s t u v k (good x) e f b = rw (e, f) (both-then (λ (xs : List Cell). x ∷ xs) _ _ b)
 
-    go : (r : Result ℕ Cell) → Both s t (readCells Binary2 cs (flagsLeft fs) (k + 1) (ps ++ s)) (readCells Binary2 cs (flagsLeft fs) (k + 1) (qs ++ t))
-        → Both s t
-        (refusedAs {A = Cell × List ℕ} (at k) (r >>= λ x. good (x, ps ++ s)) >>= λ x. readCells Binary2 cs (flagsLeft fs) (k + 1) (x .1) >>= λ xs. good (x .0 ∷ xs .0, xs .1))
-        (refusedAs {A = Cell × List ℕ} (at k) (r >>= λ x. good (x, qs ++ t)) >>= λ x. readCells Binary2 cs (flagsLeft fs) (k + 1) (x .1) >>= λ xs. good (x .0 ∷ xs .0, xs .1))
-    go (good x) b = again x _ _ b
-    go (bad n) b = refuse
-
-row-both : (cs : List Column) (flags bits p q s t : List ℕ) → ((u : List ℕ) → readFlags (length cs) (flags ++ u) ≡ good (bits, u))
-    → CellsAlike cs (map isOne bits) p q → Both s t (readRow Binary2 cs (flags ++ (p ++ s))) (readRow Binary2 cs (flags ++ (q ++ t)))
+row-both : (cs : List Column) (s t bits u v : List ℕ) {rest left : List ℕ} → readFlags (length cs) s ≡ good (bits, u) → readFlags (length cs) t ≡ good (bits, v)
+    → Both rest left (readCells Binary2 cs (map isOne bits) 0 u) (readCells Binary2 cs (map isOne bits) 0 v) → Both rest left (readRow Binary2 cs s) (readRow Binary2 cs t)
 unfolding readRow readStart readEnd
-row-both cs flags bits p q s t u a =
-    rw (u (p ++ s), u (q ++ t))
-    (go (readCells Binary2 cs (map isOne bits) 0 (p ++ s)) (readCells Binary2 cs (map isOne bits) 0 (q ++ t)) (cells-both a 0 s t))
-  where
-    go : (a b : Result Refusal (List Cell × List ℕ)) → Both s t a b
-        → Both s t (a >>= λ x. refusedAs (at (length cs)) (good (x .1)) >>= λ rest. good (x .0, rest)) (b >>= λ x. refusedAs (at (length cs)) (good (x .1)) >>= λ rest. good (x .0, rest))
-    go a b give = give
-    go a b refuse = refuse
-
-some-flags : (n : ℕ) (flags s : List ℕ) → 0 < n → length flags ≡ bitBytes n → isEmpty (flags ++ s) ≡ false
-unfolding isEmpty bitBytes
-some-flags n [] s h l = absurd (omega arith)
-some-flags n (b ∷ flags) s h l = refl
+row-both cs s t bits u v e f b = rw (e, f) (both-then (λ (xs : List Cell). xs) _ _ b)
 
 then-both : (s t : List ℕ) (a b : Result Refusal (List Cell × List ℕ)) (f : List ℕ → Table) → f s ≡ f t → Both s t a b → rowThen a f ≡ rowThen b f
 unfolding rowThen
 then-both s t a b f e (give {a = x}) = ap (row x) e
 then-both s t a b f e refuse = refl
 
-alike : (cs : List Column) → AreColumns cs → {s t : List ℕ} → Alike cs s t → read Binary2 cs s ≡ read Binary2 cs t
+same-empty : (s t : List ℕ) → length t ≡ length s → isEmpty s ≡ isEmpty t
+unfolding isEmpty
+same-empty [] [] l = refl
+same-empty [] (b ∷ t) l = absurd (omega arith)
+same-empty (b ∷ s) [] l = absurd (omega arith)
+same-empty (b ∷ s) (c ∷ t) l = refl
+
+stream-both : (cs : List Column) → AreColumns cs → (s t : List ℕ) {rest left : List ℕ} → length t ≡ length s → Both rest left (readRow Binary2 cs s) (readRow Binary2 cs t)
+    → read Binary2 cs rest ≡ read Binary2 cs left → read Binary2 cs s ≡ read Binary2 cs t
 unfolding atEnd
-alike cs i the-same = refl
-alike cs i (a-row flags bits {p = p} {q = q} {s = s} {t = t} l u a r) =
-    read-step Binary2 cs i (flags ++ (p ++ s))
-    ∙ rw (some-flags (length cs) flags (p ++ s) (i .some) l)
-    (then-both s t _ _ (read Binary2 cs) (alike cs i r) (row-both cs flags bits p q s t u a)
-    ∙ sym (read-step Binary2 cs i (flags ++ (q ++ t)) ∙ rw (some-flags (length cs) flags (q ++ t) (i .some) l)))
+stream-both cs i s t {rest} {left} l b e =
+    read-step Binary2 cs i s
+    ∙ ap₂ (λ (x : Bool) (y : Table). cond x finished y) (same-empty s t l) (then-both rest left (readRow Binary2 cs s) (readRow Binary2 cs t) (read Binary2 cs) e b)
+    ∙ sym (read-step Binary2 cs i t)
 
 -- ---- a cell's parts
 
@@ -152,7 +125,7 @@ count-splits (Fixed n) s = holds (refl, λ t. refl)
 count-splits (Bounded n) s = counted-splits n s
 count-splits Free s = counted-splits 4096 s
 
--- ---- from places that show something to streams that are alike
+-- ---- from places that show something to what is read
 
 -- two texts agree where the marks say so, and past them
 abbrev Agree : List Bool → List ℕ → List ℕ → Type 0
@@ -242,14 +215,11 @@ length-content Bits false p = length-replicate _ _
 length-content (Whole g v) false p = length-replicate _ _
 length-content Text false p = length-through p
 
+-- both read the same cells, and behind them agree where the marks say so
 record CellsAgree (cs : List Column) (fs : List Bool) (s t rest : List ℕ) (ns : List Bool) : Type 0 where
-  cells : List ℕ
-  others : List ℕ
   left : List ℕ
-  splits : s ≡ cells ++ rest
-  splits′ : t ≡ others ++ left
-  alike-cells : CellsAlike cs fs cells others
   behind : Agree ns rest left
+  both : (k : ℕ) → Both rest left (readCells Binary2 cs fs k s) (readCells Binary2 cs fs k t)
 
 part-length : (a s t : List ℕ) → s ≡ a ++ t → length (replicate (length s - length t) true) ≡ length a
 part-length a s t e = length-replicate (length s - length t) true ∙ omega (arith, ap length e, length-append a t)
@@ -274,23 +244,22 @@ one-cell c cs fs s n t p u m rest h g l more ns w a =
     let third : CellsAgree cs (flagsLeft fs) u (second .left) rest ns = more ns (second .left) (second .rest) in
     let same-count : first .other ≡ count
     = all-seen count (first .other) (subst (λ (x : ℕ). Agree (replicate x true) count (first .other)) (sym (length-replicate (length s - length t) true) ∙ long) (first .here)) in
+    let other : List ℕ = second .other in
+    let e′ : w ≡ count ++ (other ++ second .left) = first .splits ∙ ap₂ _++_ same-count (second .splits) in
+    let same-shown : shows c (flag fs) n other ≡ shows c (flag fs) n p = sym (shows-seen c (flag fs) n p other (content-agree k (flag fs) p other (second .here))) in
     record {
-      cells = count ++ (p ++ third .cells);
-      others = count ++ (second .other ++ third .others);
       left = third .left;
-      splits = e ∙ ap (λ (x : List ℕ). count ++ x) (ap (λ (x : List ℕ). p ++ x) (third .splits) ∙ sym (append-assoc p (third .cells) rest)) ∙ sym (append-assoc count (p ++ third .cells) rest);
-      splits′ =
-          first .splits ∙ ap₂ _++_ same-count (second .splits ∙ ap (λ (x : List ℕ). second .other ++ x) (third .splits′) ∙ sym (append-assoc (second .other) (third .others) (third .left)))
-          ∙ sym (append-assoc count (second .other ++ third .others) (third .left));
-      alike-cells = a-cell n count p (second .other) (h .1) l
-          (agree-length inside p (second .other) (second .here) ∙ l) (content-agree k (flag fs) p (second .other) (second .here)) (third .alike-cells);
       behind = third .behind;
+      both = λ j. cells-both c cs fs s w u (second .left) j (shows c (flag fs) n p) (ap (readBinary2 c (flag fs)) e ∙ cell-reads c (flag fs) n count p u (h .1) l)
+          (ap (readBinary2 c (flag fs)) e′ ∙ cell-reads c (flag fs) n count other (second .left) (h .1) (agree-length inside p other (second .here) ∙ l)
+          ∙ ap (λ (r : Result ℕ Cell). r >>= λ x. good (x, second .left)) same-shown)
+          (third .both (j + 1));
     }
 
 cells-agree : (cs : List Column) (fs : List Bool) (s : List ℕ)
     → Holds (λ (m : List Bool × List ℕ). (ns : List Bool) (w : List ℕ) → Agree (m .0 ++ ns) s w → CellsAgree cs fs s w (m .1) ns) (cellsShow cs fs s)
-unfolding cellsShow
-cells-agree [] fs s = holds (λ ns w a. record { cells = []; others = []; left = w; splits = refl; splits′ = refl; alike-cells = no-cell; behind = a })
+unfolding cellsShow readCells
+cells-agree [] fs s = holds (λ ns w a. record { left = w; behind = a; both = λ k. give })
 cells-agree (c ∷ cs) fs s =
     holds-bind (count-splits (c .len) s) (λ n h.
     holds-bind (front-splits (contentBytes (shape (c .kind)) (n .0)) (n .1)) (λ p g.
@@ -307,47 +276,48 @@ flags-split n s =
 -- a row's marks, and those of what follows it
 abbrev RowAgrees : List Column → List ℕ → List Bool × List ℕ → Type 0
 RowAgrees cs s m =
-    (ns : List Bool) (t : List ℕ) → ((left : List ℕ) → Agree ns (m .1) left → Alike cs (m .1) left) → Agree (m .0 ++ ns) s t → Alike cs s t
+    (ns : List Bool) (t : List ℕ) → ((left : List ℕ) → Agree ns (m .1) left → read Binary2 cs (m .1) ≡ read Binary2 cs left) → Agree (m .0 ++ ns) s t
+    → read Binary2 cs s ≡ read Binary2 cs t
 
-one-row : (cs : List Column) (s flags bits t : List ℕ) (m : List Bool × List ℕ) → s ≡ flags ++ t → length flags ≡ bitBytes (length cs)
+one-row : (cs : List Column) → AreColumns cs → (s flags bits t : List ℕ) (m : List Bool × List ℕ) → s ≡ flags ++ t → length flags ≡ bitBytes (length cs)
     → ((u : List ℕ) → readFlags (length cs) (flags ++ u) ≡ good (bits, u))
     → ((ns : List Bool) (w : List ℕ) → Agree (m .0 ++ ns) t w → CellsAgree cs (map isOne bits) t w (m .1) ns)
     → RowAgrees cs s (replicate (bitBytes (length cs)) true ++ m .0, m .1)
-one-row cs s flags bits t m e l u more ns w behind a =
+one-row cs i s flags bits t m e l u more ns w behind a =
     let marks : List Bool = replicate (length flags) true in
     let a′ : Agree (marks ++ (m .0 ++ ns)) (flags ++ t) w
-    = subst₂ (λ (x : List Bool) (y : List ℕ). Agree x y w) (append-assoc (replicate (bitBytes (length cs)) true) (m .0) ns ∙ ap (λ (k : ℕ). replicate k true ++ (m .0 ++ ns)) (sym l)) e a in
+    = subst₂ (λ (x : List Bool) (y : List ℕ). Agree x y w)
+    (append-assoc (replicate (bitBytes (length cs)) true) (m .0) ns ∙ ap (λ (k : ℕ). replicate k true ++ (m .0 ++ ns)) (sym l)) e a in
     let first : Cut marks (m .0 ++ ns) flags t w = cut marks (m .0 ++ ns) flags t w (length-replicate (length flags) true) a′ in
     let second : CellsAgree cs (map isOne bits) t (first .left) (m .1) ns = more ns (first .left) (first .rest) in
-    subst₂ (λ (x y : List ℕ). Alike cs x y) (sym (e ∙ ap (λ (x : List ℕ). flags ++ x) (second .splits)))
-    (sym (first .splits ∙ ap₂ _++_ (all-seen flags (first .other) (first .here)) (second .splits′)))
-    (a-row flags bits l u (second .alike-cells) (behind (second .left) (second .behind)))
+    let e′ : w ≡ flags ++ first .left = first .splits ∙ ap (λ (x : List ℕ). x ++ first .left) (all-seen flags (first .other) (first .here)) in
+    stream-both cs i s w (agree-length ((replicate (bitBytes (length cs)) true ++ m .0) ++ ns) s w a)
+    (row-both cs s w bits t (first .left) (ap (readFlags (length cs)) e ∙ u t) (ap (readFlags (length cs)) e′ ∙ u (first .left)) (second .both 0))
+    (behind (second .left) (second .behind))
 
-row-agree : (cs : List Column) (s : List ℕ) → Holds (RowAgrees cs s) (rowShows cs s)
+row-agree : (cs : List Column) → AreColumns cs → (s : List ℕ) → Holds (RowAgrees cs s) (rowShows cs s)
 unfolding rowShows
-row-agree cs s =
+row-agree cs i s =
     holds-bind (flags-split (length cs) s) (λ f h.
-    holds-bind (cells-agree cs (map isOne (f .0)) (f .1)) (λ m more. holds (one-row cs s (h .0) (f .0) (f .1) m (h .1) (h .2) (h .3) more)))
-
-same-alike : (cs : List Column) (s t : List ℕ) → t ≡ s → Alike cs s t
-same-alike cs s t e = subst (Alike cs s) (sym e) the-same
+    holds-bind (cells-agree cs (map isOne (f .0)) (f .1)) (λ m more. holds (one-row cs i s (h .0) (f .0) (f .1) m (h .1) (h .2) (h .3) more)))
 
 abbrev rowsShow : ℕ → List Column → List ℕ → Sequence (List Bool)
 rowsShow f cs = sequenceF f isEmpty (λ s. refusedAs (at 0) (rowShows cs s))
 
-rows-agree : (f : ℕ) (cs : List Column) (s t : List ℕ) → Agree (marksOf (rowsShow f cs s)) s t → Alike cs s t
+rows-agree : (f : ℕ) (cs : List Column) → AreColumns cs → (s t : List ℕ) → Agree (marksOf (rowsShow f cs s)) s t → read Binary2 cs s ≡ read Binary2 cs t
 unfolding sequenceF marksOf
-rows-agree zero cs s t a = same-alike cs s t a
-rows-agree (suc f) cs s t a = go (isEmpty s) (rowShows cs s) (row-agree cs s) (rows-agree f cs) a
+rows-agree zero cs i s t a = ap (read Binary2 cs) (sym a)
+rows-agree (suc f) cs i s t a = go (isEmpty s) (rowShows cs s) (row-agree cs i s) (rows-agree f cs i) a
   where
     go : (b : Bool) (r : Result ℕ (List Bool × List ℕ)) → Holds (RowAgrees cs s) r
-        → ((s t : List ℕ) → Agree (marksOf (rowsShow f cs s)) s t → Alike cs s t) → Agree (marksOf (cond b finished (rowThen (refusedAs (at 0) r) (rowsShow f cs)))) s t → Alike cs s t
-    go true r h more a = same-alike cs s t a
-    go false r refuses more a = unfold rowThen marksOf in same-alike cs s t a
+        → ((s t : List ℕ) → Agree (marksOf (rowsShow f cs s)) s t → read Binary2 cs s ≡ read Binary2 cs t)
+        → Agree (marksOf (cond b finished (rowThen (refusedAs (at 0) r) (rowsShow f cs)))) s t → read Binary2 cs s ≡ read Binary2 cs t
+    go true r h more a = ap (read Binary2 cs) (sym a)
+    go false r refuses more a = unfold rowThen marksOf in ap (read Binary2 cs) (sym a)
     go false r (holds {a = m} h) more a = unfold rowThen marksOf in h (marksOf (rowsShow f cs (m .1))) t (more (m .1)) a
 
 -- two BINARY2 streams that agree at every place that shows something say the same
 pub unseen : (cs : List Column) (s t : List ℕ) → AreColumns cs → length t ≡ length s
     → ((i : ℕ) → i < length s → showsAt cs s i ≡ true → getD t i 0 ≡ getD s i 0) → read Binary2 cs t ≡ read Binary2 cs s
 unfolding showsAt streamShows sequence
-unseen cs s t i l h = sym (alike cs i (rows-agree (suc (length s)) cs s t (agree-of (marksOf (streamShows cs s)) s t l h)))
+unseen cs s t i l h = sym (rows-agree (suc (length s)) cs i s t (agree-of (marksOf (streamShows cs s)) s t l h))
