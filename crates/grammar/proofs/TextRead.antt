@@ -295,14 +295,13 @@ unfolding roomFits
 room-self k m = cond-cases (λ (b : Bool). b ≡ true) (isChar k) (leb m m) (eqb m m) (λ _. le-leb m m (le-refl m)) (λ _. eq-eqb m m refl)
 
 many-read : {k : Shape} {l : Len} {m : ℕ} → Many k l m → (roomFits k (roomIn l m) m && leb m (bound l)) ≡ true
-unfolding roomIn bound roomFits isChar
+unfolding roomFits
 many-read {k} (many-fixed {n = n}) = rw (room-self k n, le-leb n n (le-refl n))
 many-read (many-shorter {n = n} {m = m} e h) = rw (e, le-leb m n h)
 many-read {k} (many-bounded {n = n} {m = m} h) = rw (room-self k m, le-leb m n h)
 many-read {k} (many-free {m = m} h) = rw (room-self k m, le-leb m 4096 h)
 
 many-is : (k : Shape) (l : Len) (m : ℕ) → (roomFits k (roomIn l m) m && leb m (bound l)) ≡ true → Many k l m
-unfolding roomIn bound
 many-is k (Fixed n) m h = go k (and-both (roomFits k n m) (leb m n) h .0)
   where
     go : (k : Shape) → roomFits k n m ≡ true → Many k (Fixed n) m

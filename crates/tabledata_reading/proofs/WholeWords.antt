@@ -22,7 +22,7 @@ use Rattle.words.specs.declared.Word.{Word}
 use Rattle.table.proofs.Laws.{NoWhite, all-weaken, and-both, bad-good, cond-cases, nil-not-null, no-white}
 use Rattle.table.specs.All.{All}
 use Rattle.table.specs.Bytes.{after, between, bytes, ends, isWhite, skipWhite, tag, words}
-use Rattle.table.specs.Cell.{Cell, bound, emptyIsNull, isChar, isNullList, null, nullElement, roomFits, roomIn, show, shown}
+use Rattle.table.specs.Cell.{Cell, bound, emptyIsNull, isNullList, null, nullElement, roomFits, roomIn, show, shown}
 use Rattle.table.specs.Contracts.{Reads}
 use Rattle.table.specs.Result.{Result, _>>=_, bad, every, good, refusedAs}
 use Rattle.table.specs.Shape.{Bits, Shape, Text, Truths, Whole, Width, last, shape}
@@ -195,7 +195,7 @@ module _ (c : Column) (es : List ℤ) (n : ℕ) (l : List ℤ) (rest : List ℕ)
 
 -- elements that have their own room fill it
 pub room-own : (k : Shape) (m n : ℕ) → (roomFits k m m && leb m n) ≡ leb m n
-unfolding roomFits isChar
+unfolding roomFits
 room-own Truths m n = rw (eq-eqb m m refl)
 room-own Bits m n = rw (eq-eqb m m refl)
 room-own (Whole g v) m n = rw (eq-eqb m m refl)
