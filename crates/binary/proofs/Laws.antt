@@ -191,7 +191,7 @@ room-filled k n m h = go (isChar k) h
 
 module _ (n : ℕ) (ns : List ℕ) where
   pub numbers-back : (k : Shape) → roomFits k n (length ns) ≡ true → All (IsNumber k) ns → numbersIn k n (bytesOf k n ns) ≡ good ns
-  unfolding numbersIn bytesOf roomFits isChar
+  unfolding numbersIn bytesOf roomFits
   numbers-back Truths h a = rw (← eqb-true (length ns) n h) (ap good (numbers-groups 1 ns a))
   numbers-back Bits h a = rw (← eqb-true (length ns) n h) (unpack-pack ns a)
   numbers-back (Whole g v) h a = rw (← eqb-true (length ns) n h) (ap good (numbers-groups (suc (last v)) ns a))
@@ -199,7 +199,7 @@ module _ (n : ℕ) (ns : List ℕ) where
 
   -- fewer elements than have room: characters are filled up
   pub filled-length : (k : Shape) → length ns ≤ n → length (bytesOf k n ns) ≡ filledBytes k n (length ns)
-  unfolding bytesOf filledBytes contentBytes isChar
+  unfolding bytesOf filledBytes contentBytes
   filled-length Truths h = length-groups 1 ns ∙ omega arith
   filled-length Bits h = length-pack ns
   filled-length (Whole g v) h = length-groups (suc (last v)) ns
@@ -223,7 +223,7 @@ front-back n p rest h =
     rw (take-at p rest n h, drop-at p rest n h, le-ltb (length (p ++ rest)) n (simp length-append (omega arith)))
 
 pub count-back : (l : Len) (m : ℕ) (t : List ℕ) → bound l ≤ 4096 → m ≤ bound l → countIn l (countBytes l m ++ t) ≡ good (roomIn l m, t)
-unfolding countIn countBytes roomIn bound counted atMost
+unfolding countIn countBytes counted atMost
 count-back (Fixed n) m t b h = refl
 count-back (Bounded n) m t b h =
     rw (front-back 4 (toDigits 256 4 m) t (length-to 256 4 m), of-to 256 (lit< tt) 4 m (omega arith), le-ltb n m h)
@@ -232,7 +232,7 @@ count-back Free m t b h =
 
 -- "a 4-byte unsigned count of elements, not bytes": two shorts are counted as 2
 counts-elements : take 4 (elementsBytes (record { kind = Short; len = Free; null = Undeclared }) (pos 7 ∷ pos 8 ∷ [])) ≡ 0 ∷ 0 ∷ 0 ∷ 2 ∷ []
-unfolding elementsBytes countBytes toDigits contentBytes shape last
+unfolding elementsBytes countBytes toDigits contentBytes
 counts-elements = refl
 
 pub elements-back : (c : Column) (es : List ℤ) (rest : List ℕ) → IsColumn c → Elements c es
@@ -261,7 +261,6 @@ unfolding roomFits
 room-self k m = cond-cases (λ (b : Bool). b ≡ true) (isChar k) (leb m m) (eqb m m) (λ _. le-leb m m (le-refl m)) (λ _. eq-eqb m m refl)
 
 room-of : (k : Shape) (l : Len) (n m : ℕ) → roomIn l n ≡ n → roomFits k n m ≡ true → roomFits k (roomIn l m) m ≡ true
-unfolding roomIn
 room-of k (Fixed n′) n m q h = rw q h
 room-of k (Bounded n′) n m q h = room-self k m
 room-of k Free n m q h = room-self k m
@@ -280,7 +279,7 @@ none-some h = let q : _≡_ {A = ℕ} 0 1 = cc in omega arith
 -- a null element's column is a scalar
 pub scalar-room : (k : Shape) (l : Len) (o : Option ℤ) (z : ℤ) → cond (isScalar l) o none ≡ some z
     → (roomFits k (roomIn l 1) 1 ≡ true) × (1 ≤ bound l)
-unfolding isScalar roomIn bound roomFits
+unfolding roomFits
 scalar-room k (Fixed n) o z h = go (eqb n 1) refl h
   where
     go : (b : Bool) → eqb n 1 ≡ b → cond b o none ≡ some z → (roomFits k n 1 ≡ true) × (1 ≤ n)
@@ -290,7 +289,7 @@ scalar-room k (Bounded n) o z h = absurd (none-some h)
 scalar-room k Free o z h = absurd (none-some h)
 
 pub empty-room : (k : Shape) (l : Len) → canBeEmpty k l ≡ true → roomFits k (roomIn l 0) 0 ≡ true
-unfolding canBeEmpty roomFits roomIn
+unfolding canBeEmpty roomFits
 empty-room k (Fixed n) h = rw h (le-leb 0 n zero-le)
 empty-room k (Bounded n) h = room-self k 0
 empty-room k Free h = room-self k 0
@@ -300,7 +299,7 @@ Back1 c x b = (rest : List ℕ) → readBinary c (b ++ rest) ≡ good (x, rest)
 
 -- "Null in BINARY: the declared null": a short's -99
 declared-null-written : writeBinary (record { kind = Short; len = Fixed 1; null = Declared (negsuc 98) }) null ≡ good (0xFF ∷ 0x9D ∷ [])
-unfolding writeBinary nullForm nullElement isScalar nullOfKind elementsBytes countBytes bytesOf groups number pattern toDigits shape last roomIn zeros contentBytes
+unfolding writeBinary nullForm nullElement elementsBytes countBytes bytesOf groups number pattern toDigits zeros contentBytes
 declared-null-written = refl
 
 null-back : (c : Column) (o : Option ℤ) → nullElement c ≡ o → IsColumn c → Holds (Back1 c null) (nullForm c o)
@@ -335,7 +334,7 @@ abbrev Counted : Len → ℕ × List ℕ → Type 0
 Counted l p = (roomIn l (p .0) ≡ p .0) × (p .0 ≤ bound l) × AreBytes (p .1)
 
 count-is : (l : Len) (s : List ℕ) → AreBytes s → Holds (Counted l) (countIn l s)
-unfolding countIn roomIn bound
+unfolding countIn
 count-is (Fixed n) s a = holds (refl, le-refl n, a)
 count-is (Bounded n) s a = holds-weaken (counted-is n s a) (λ p h. (refl, h .0, h .1))
 count-is Free s a = holds-weaken (counted-is 4096 s a) (λ p h. (refl, h .0, h .1))
@@ -367,7 +366,7 @@ beforeNul-are (b ∷ s) =
     (λ _. (tt, zero-le)) (λ f. ((omega (arith, eqb-false b 0 f), beforeNul-are s .0), omega (arith, beforeNul-are s .1)))
 
 in-is : (k : Shape) (n : ℕ) (s : List ℕ) → length s ≡ contentBytes k n → AreBytes s → Holds (Numbers k n) (numbersIn k n s)
-unfolding numbersIn contentBytes roomFits isChar unpack bitBytes
+unfolding numbersIn contentBytes roomFits unpack bitBytes
 in-is Truths n s h a = let r = read-numbers 1 n s (omega arith) a in holds (r .0, eq-eqb _ _ (r .1))
 in-is Bits n s h a =
     holds-cond (allZero (drop n (bitsOf s)))
@@ -412,7 +411,7 @@ counted-less most s =
     holds-bind (front-less 4 s) (λ p h. holds-cond (ltb most (ofDigits 256 0 (p .0))) (λ _. refuses) (λ _. holds (omega arith)))
 
 count-less : (k : Shape) (l : Len) (s : List ℕ) → 1 ≤ bound l → Holds (λ (p : ℕ × List ℕ). length (p .1) < length s + contentBytes k (p .0)) (countIn l s)
-unfolding countIn bound
+unfolding countIn
 count-less k (Fixed n) s h = holds {a = (n, s)} (omega (arith, content-some k n h))
 count-less k (Bounded n) s h = holds-weaken (counted-less n s) (λ p g. omega arith)
 count-less k Free s h = holds-weaken (counted-less 4096 s) (λ p g. omega arith)

@@ -1,5 +1,7 @@
 // A cell of BINARY and BINARY2, read into the scratch.
+use number::Elements;
 use number::Integer;
+use number::elements_of;
 use table::Column;
 use table::Found;
 use table::Kind;
@@ -109,23 +111,12 @@ fn read_characters(part: &[u8], scratch: &mut [i64]) -> Content
     Content::Filled(k)
 }
 
-fn integer_bytes(kind: Integer) -> usize
-    ensures { λ r. ⌜ (r ≡ size kind) × (r ≤ 8) ⌝ }
-{
-    match kind {
-        Integer::UnsignedByte => 1,
-        Integer::Short => 2,
-        Integer::Int => 4,
-        Integer::Long => 8,
-    }
-}
-
 // One loop for every width: the compiler makes a loop for each kind of it.
 fn read_integers(part: &[u8], n: usize, kind: Integer, scratch: &mut [i64]) -> Content
     requires { ⌜ (n * size kind ≤ length (now part)) × (n ≤ length (now scratch)) ⌝ }
     ensures { λ r. ⌜ Fills (content (Whole (isSigned kind) (widthOf kind)) n (now (part .entry))) n (now (scratch .entry)) (now (scratch .exit)) r ⌝ }
 {
-    let w = integer_bytes(kind);
+    let w = number::integer_bytes(kind);
     let mut k: usize = 0;
     while k < n {
         let z = integers::read_integer(part, k * w, kind);
@@ -176,14 +167,11 @@ fn read_content(part: &[u8], n: usize, kind: Kind, scratch: &mut [i64]) -> Conte
     requires { ⌜ (length (now part) ≡ contentBytes (shape kind) n) × (n ≤ 4096) × (4096 ≤ length (now scratch)) ⌝ }
     ensures { λ r. ⌜ Fills (content (shape kind) n (now (part .entry))) n (now (scratch .entry)) (now (scratch .exit)) r ⌝ }
 {
-    match kind {
-        Kind::Boolean => read_truths(part, scratch),
-        Kind::Bit => read_bits(part, n, scratch),
-        Kind::UnsignedByte => read_integers(part, n, Integer::UnsignedByte, scratch),
-        Kind::Short => read_integers(part, n, Integer::Short, scratch),
-        Kind::Int => read_integers(part, n, Integer::Int, scratch),
-        Kind::Long => read_integers(part, n, Integer::Long, scratch),
-        Kind::Char => read_characters(part, scratch),
+    match elements_of(kind) {
+        Elements::Truths => read_truths(part, scratch),
+        Elements::Bits => read_bits(part, n, scratch),
+        Elements::Text => read_characters(part, scratch),
+        Elements::Whole(integer) => read_integers(part, n, integer, scratch),
     }
 }
 

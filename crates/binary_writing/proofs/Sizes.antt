@@ -28,7 +28,7 @@ use native.Mathlib.Omega.{arith}
 -- ---- elements
 
 pub filled-char : (k : Shape) (n m : ℕ) → isChar k ≡ true → filledBytes k n m ≡ n
-unfolding filledBytes contentBytes isChar
+unfolding filledBytes contentBytes
 filled-char Truths n m h = absurd (false≢true h)
 filled-char Bits n m h = absurd (false≢true h)
 filled-char (Whole g v) n m h = absurd (false≢true h)
@@ -44,25 +44,23 @@ filled-self k m = ap (contentBytes k) (cond-cases (λ (n : ℕ). n ≡ m) (isCha
 
 module _ (c : Column) (n m : ℕ) where
   pub elements-fixed : c .len ≡ Fixed n → elementsSize c m ≡ filledBytes (shape (c .kind)) n m
-  unfolding elementsSize countBytes roomIn
+  unfolding elementsSize countBytes
   elements-fixed e = rw e (zero-add _)
 
   pub elements-bounded : c .len ≡ Bounded n → elementsSize c m ≡ 4 + contentBytes (shape (c .kind)) m
-  unfolding elementsSize countBytes roomIn
+  unfolding elementsSize countBytes
   elements-bounded e = rw (e, length-to 256 4 m, filled-self (shape (c .kind)) m)
 
 pub elements-free : (c : Column) (m : ℕ) → c .len ≡ Free → elementsSize c m ≡ 4 + contentBytes (shape (c .kind)) m
-unfolding elementsSize countBytes roomIn
+unfolding elementsSize countBytes
 elements-free c m e = rw (e, length-to 256 4 m, filled-self (shape (c .kind)) m)
 
 pub room-bound : (l : Len) (m : ℕ) → m ≤ bound l → roomIn l m ≤ bound l
-unfolding roomIn bound
 room-bound (Fixed n) m h = le-refl n
 room-bound (Bounded n) m h = h
 room-bound Free m h = h
 
 pub has-room : (l : Len) (m : ℕ) → m ≤ bound l → m ≤ roomIn l m
-unfolding roomIn bound
 has-room (Fixed n) m h = h
 has-room (Bounded n) m h = le-refl m
 has-room Free m h = le-refl m
@@ -85,15 +83,15 @@ held-length c count scratch few h =
 
 module _ (c : Column) (n m : ℕ) where
   pub room-fixed : c .len ≡ Fixed n → roomSize c m ≡ contentBytes (shape (c .kind)) n
-  unfolding roomSize countBytes roomIn
+  unfolding roomSize countBytes
   room-fixed e = rw e (zero-add _)
 
   pub room-bounded : c .len ≡ Bounded n → roomSize c m ≡ 4 + contentBytes (shape (c .kind)) m
-  unfolding roomSize countBytes roomIn
+  unfolding roomSize countBytes
   room-bounded e = rw (e, length-to 256 4 m)
 
 pub room-free : (c : Column) (m : ℕ) → c .len ≡ Free → roomSize c m ≡ 4 + contentBytes (shape (c .kind)) m
-unfolding roomSize countBytes roomIn
+unfolding roomSize countBytes
 room-free c m e = rw (e, length-to 256 4 m)
 
 pub zeros-length : (c : Column) → length (zeros c) ≡ roomSize c 0

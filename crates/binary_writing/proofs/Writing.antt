@@ -8,7 +8,7 @@ use Rattle.number.proofs.Laws.{length-to, low-pattern, of-append, pattern-lt, p
 use Rattle.number.specs.Contracts.{size}
 use Rattle.number.specs.Number.{ofDigits, pattern, toDigits}
 use Rattle.table.proofs.Laws.{last-le}
-use Rattle.table.specs.Cell.{bound, isChar, nullElement, nullOfKind, roomIn, shown}
+use Rattle.table.specs.Cell.{bound, nullElement, nullOfKind, roomIn, shown}
 use Rattle.table.specs.Contracts.{held}
 use Rattle.table.specs.Outcome.{at}
 use Rattle.table.specs.Result.{bad, good}
@@ -89,7 +89,7 @@ empty-bytes (Whole g v) n e = rw (e, zero-mul (suc (last v)))
 empty-bytes Text n e = rw e
 
 empty-room-bytes : (k : Shape) (l : Len) → canBeEmpty k l ≡ true → bytesOf k (roomIn l 0) [] ≡ replicate (contentBytes k (roomIn l 0)) 0
-unfolding roomIn canBeEmpty isChar bytesOf contentBytes
+unfolding canBeEmpty bytesOf contentBytes
 empty-room-bytes k (Bounded n) h = empty-bytes k 0 refl
 empty-room-bytes k Free h = empty-bytes k 0 refl
 empty-room-bytes Truths (Fixed n) h = absurd (false≢true h)

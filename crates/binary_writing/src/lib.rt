@@ -1,17 +1,20 @@
 // A cell of BINARY and BINARY2: measured, and written from the scratch.
+use number::Elements;
 use number::Integer;
+use number::elements_of;
 use table::Column;
 use table::Kind;
 use table::Len;
 use table::Null;
 use table::Size;
+use table::is_char;
 ghost use mathlib.Core.List.{map};
 ghost use mathlib.Core.Path.{_≡_};
 ghost use Prim.Native.Nat.{_*_, _+_, _-_, _^_, _<_, _≤_};
 ghost use lib.ListN.{drop, length, replicate, take};
 ghost use Rattle.number.specs.Contracts.{size};
 ghost use Rattle.number.specs.Number.{ofDigits, pattern};
-ghost use Rattle.table.specs.Cell.{bound, isChar, nullElement, roomIn};
+ghost use Rattle.table.specs.Cell.{bound, nullElement, roomIn};
 ghost use Rattle.table.specs.Contracts.{formBytes, held, sizeAs, sizeOf};
 ghost use Rattle.table.specs.Shape.{shape};
 ghost use Rattle.table.specs.Wrote.{Wrote};
@@ -20,20 +23,6 @@ ghost use Rattle.binary.specs.Contracts.{filledBytes};
 ghost use Rattle.binary_writing.specs.Contracts.{elementsSize, roomSize};
 
 // ---- a cell is measured
-
-fn is_char(kind: Kind) -> bool
-    ensures { λ r. ⌜ r ≡ isChar (shape kind) ⌝ }
-{
-    match kind {
-        Kind::Boolean => false,
-        Kind::Bit => false,
-        Kind::UnsignedByte => false,
-        Kind::Short => false,
-        Kind::Int => false,
-        Kind::Long => false,
-        Kind::Char => true,
-    }
-}
 
 // "fixed char filled up with NUL; variable char with the shown length"
 fn elements_size(column: Column, count: usize) -> usize
@@ -241,14 +230,11 @@ fn put_content(
     requires { ⌜ (count ≤ room) × (count ≤ length (now scratch)) × (at + filledBytes (shape kind) room count ≤ length (now out)) ⌝ }
     ensures { λ r. ⌜ Wrote (now (out .entry)) at (bytesOf (shape kind) room (map (number (shape kind)) (take count (now (scratch .entry))))) (now (out .exit)) r ⌝ }
 {
-    match kind {
-        Kind::Boolean => put_truths(count, scratch, out, at),
-        Kind::Bit => put_bits(count, scratch, out, at),
-        Kind::UnsignedByte => put_integers(Integer::UnsignedByte, count, scratch, out, at),
-        Kind::Short => put_integers(Integer::Short, count, scratch, out, at),
-        Kind::Int => put_integers(Integer::Int, count, scratch, out, at),
-        Kind::Long => put_integers(Integer::Long, count, scratch, out, at),
-        Kind::Char => {
+    match elements_of(kind) {
+        Elements::Truths => put_truths(count, scratch, out, at),
+        Elements::Bits => put_bits(count, scratch, out, at),
+        Elements::Whole(integer) => put_integers(integer, count, scratch, out, at),
+        Elements::Text => {
             let next = put_integers(Integer::UnsignedByte, count, scratch, out, at);
             put_zeros(room - count, out, next)
         }

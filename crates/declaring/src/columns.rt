@@ -11,7 +11,9 @@ use crate::attributes::Value;
 use crate::elements::Element;
 use crate::spans::Class;
 use crate::spans::span_end;
+use number::Elements;
 use number::Integer;
+use number::elements_of;
 use table::Column;
 use table::Kind;
 use table::Len;
@@ -186,14 +188,11 @@ fn null_value(t: &[u8], kind: Integer) -> NullRead
 fn null_of(t: &[u8], kind: Kind) -> NullRead
     ensures { λ r. ⌜ nullOfScalar (shape kind) (now (t .entry)) ≡ nullRead r ⌝ }
 {
-    match kind {
-        Kind::Boolean => NullRead::Counts(Null::Undeclared),
-        Kind::Bit => NullRead::Counts(Null::Undeclared),
-        Kind::UnsignedByte => null_value(t, Integer::UnsignedByte),
-        Kind::Short => null_value(t, Integer::Short),
-        Kind::Int => null_value(t, Integer::Int),
-        Kind::Long => null_value(t, Integer::Long),
-        Kind::Char => NullRead::Counts(Null::Undeclared),
+    match elements_of(kind) {
+        Elements::Truths => NullRead::Counts(Null::Undeclared),
+        Elements::Bits => NullRead::Counts(Null::Undeclared),
+        Elements::Text => NullRead::Counts(Null::Undeclared),
+        Elements::Whole(integer) => null_value(t, integer),
     }
 }
 

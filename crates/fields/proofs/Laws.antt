@@ -44,17 +44,17 @@ abbrev Room : Len → Type 0
 Room l = (1 ≤ bound l) × (bound l ≤ 4096)
 
 bounded-is : (t : List ℕ) → Holds Room (boundedLen t)
-unfolding boundedLen bound
+unfolding boundedLen
 bounded-is [] = holds {a = Free} (lit≤ tt, lit≤ tt)
 bounded-is (b ∷ t) = holds-bind (length-is (b ∷ t)) (λ n h. holds h)
 
 before-is : (o : Option (List ℕ)) (s : List ℕ) → Holds Room (lenBefore o s)
-unfolding lenBefore bound
+unfolding lenBefore
 before-is (some t) s = bounded-is t
 before-is none s = holds-bind (length-is s) (λ n h. holds h)
 
 len-is : (o : Option (List ℕ)) → Holds Room (lenOf o)
-unfolding lenOf bound
+unfolding lenOf
 len-is none = holds {a = Fixed 1} (lit≤ tt, lit≤ tt)
 len-is (some s) = before-is (beforeStar s) s
 
@@ -78,7 +78,7 @@ is-value : (P : ℤ → Type 0) (y z : ℤ) → P y → some y ≡ some z → P 
 is-value P y z p e = subst P (cc) p
 
 null-is : (k : Shape) (l : Len) (n : Null) → Value k n → NullIs k l n
-unfolding nullOfKind isElement below
+unfolding isElement below
 null-is Truths l n v z h = is-value (λ (z : ℤ). isElement Truths z ≡ true) (pos 2) z refl (scalar-some (isScalar l) _ z h)
 null-is Bits l n v z h = absurd (Option·none-ne-some z (scalar-some (isScalar l) _ z h))
 null-is Text l n v z h = absurd (Option·none-ne-some z (scalar-some (isScalar l) _ z h))

@@ -58,7 +58,7 @@ empty-written c none h = rw h tt
 empty-written c (some z) h = tt
 
 chars-empty : (l : Len) → canBeEmpty Text l ≡ true
-unfolding canBeEmpty isChar
+unfolding canBeEmpty
 chars-empty (Fixed n) = refl
 chars-empty (Bounded n) = refl
 chars-empty Free = refl
@@ -77,7 +77,6 @@ form-written {c} (form-binary-chars h) = empty-written c (nullElement c) (rw h (
 form-written form-binary2 = tt
 
 is-chars : (k : Shape) → isChar k ≡ true → k ≡ Text
-unfolding isChar
 is-chars Truths h = absurd (false≢true h)
 is-chars Bits h = absurd (false≢true h)
 is-chars (Whole g v) h = absurd (false≢true h)

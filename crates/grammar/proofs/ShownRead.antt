@@ -17,7 +17,7 @@ use Rattle.table.specs.declared.Null.{Null}
 use Rattle.table.specs.declared.Null.the-variants.{Declared, Undeclared}
 
 pub stands-for-read : {c : Column} {z : ℤ} → StandsForNull c z → nullElement c ≡ some z
-unfolding nullElement isScalar nullOfKind
+unfolding nullElement
 stands-for-read (null-declared l k n) = rw (l, k, n)
 stands-for-read (null-unknown l k) = rw (l, k)
 
@@ -26,20 +26,20 @@ unfolding nullElement
 stands-for-is c z e = by-length (c .len) refl e
   where
     by-null : c .len ≡ Fixed 1 → (k : Shape) → shape (c .kind) ≡ k → (n : Null) → c .null ≡ n → nullOfKind k n ≡ some z → StandsForNull c z
-    by-null l Truths k n m e = unfold nullOfKind in subst (StandsForNull c) (cc e) (null-unknown l k)
-    by-null l Bits k n m e = unfold nullOfKind in absurd (Option·none-ne-some z e)
-    by-null l Text k n m e = unfold nullOfKind in absurd (Option·none-ne-some z e)
-    by-null l (Whole g v) k Undeclared m e = unfold nullOfKind in absurd (Option·none-ne-some z e)
-    by-null l (Whole g v) k (Declared y) m e = unfold nullOfKind in subst (StandsForNull c) (cc e) (null-declared l k m)
+    by-null l Truths k n m e = subst (StandsForNull c) (cc e) (null-unknown l k)
+    by-null l Bits k n m e = absurd (Option·none-ne-some z e)
+    by-null l Text k n m e = absurd (Option·none-ne-some z e)
+    by-null l (Whole g v) k Undeclared m e = absurd (Option·none-ne-some z e)
+    by-null l (Whole g v) k (Declared y) m e = subst (StandsForNull c) (cc e) (null-declared l k m)
 
     by-length : (l : Len) → c .len ≡ l → cond (isScalar l) (nullOfKind (shape (c .kind)) (c .null)) none ≡ some z → StandsForNull c z
-    by-length (Fixed n) q e = unfold isScalar in scalar (eqb n 1) refl e
+    by-length (Fixed n) q e = scalar (eqb n 1) refl e
       where
         scalar : (b : Bool) → eqb n 1 ≡ b → cond b (nullOfKind (shape (c .kind)) (c .null)) none ≡ some z → StandsForNull c z
         scalar true h e = by-null (q ∙ ap Fixed (eqb-true n 1 h)) (shape (c .kind)) refl (c .null) refl e
         scalar false h e = absurd (Option·none-ne-some z e)
-    by-length (Bounded n) q e = unfold isScalar in absurd (Option·none-ne-some z e)
-    by-length Free q e = unfold isScalar in absurd (Option·none-ne-some z e)
+    by-length (Bounded n) q e = absurd (Option·none-ne-some z e)
+    by-length Free q e = absurd (Option·none-ne-some z e)
 
 same-integer-is : (a b : ℤ) → sameInteger a b ≡ true → a ≡ b
 unfolding sameInteger

@@ -19,7 +19,7 @@ use Rattle.number.specs.Number.{digit, hexadigit, numeral, sized}
 use Rattle.table.proofs.Laws.{and-both, between-is, between-yes, cond-cases, holds-as, holds-bind, holds-cond, holds-else, holds-weaken, nil-not-null, no-white, or-either}
 use Rattle.table.specs.All.{All}
 use Rattle.table.specs.Bytes.{after, between, bytes, ends, isWhite, same, skipWhite, tag, words}
-use Rattle.table.specs.Cell.{Cell, bound, emptyIsNull, isChar, isNullList, null, nullElement, roomFits, roomIn, show, shown}
+use Rattle.table.specs.Cell.{Cell, bound, emptyIsNull, isNullList, null, nullElement, roomFits, roomIn, show, shown}
 use Rattle.table.specs.Outcome.{at}
 use Rattle.table.specs.Result.{Holds, Result, _>>=_, bad, good, holds, orElse, refuses}
 use Rattle.table.specs.Shape.{Bits, Shape, Text, Truths, Whole, last, shape}
@@ -297,21 +297,20 @@ elements-are Text cs = holds text-chars
 -- ---- how many
 
 many-read : {k : Shape} {l : Len} {m : ℕ} → Many k l m → (roomFits k (roomIn l m) m && leb m (bound l)) ≡ true
-unfolding roomIn bound roomFits isChar
+unfolding roomFits
 many-read {k} (many-fixed {n = n}) = rw (room-self k n, le-leb n n (le-refl n))
 many-read (many-shorter {n = n} {m = m} e h) = rw (e, le-leb m n h)
 many-read {k} (many-bounded {n = n} {m = m} h) = rw (room-self k m, le-leb m n h)
 many-read {k} (many-free {m = m} h) = rw (room-self k m, le-leb m 4096 h)
 
 many-is : (k : Shape) (l : Len) (m : ℕ) → (roomFits k (roomIn l m) m && leb m (bound l)) ≡ true → Many k l m
-unfolding roomIn bound
 many-is k (Fixed n) m h = go k (and-both (roomFits k n m) (leb m n) h .0)
   where
     go : (k : Shape) → roomFits k n m ≡ true → Many k (Fixed n) m
-    go Truths h = unfold roomFits isChar in rw (eqb-true m n h) many-fixed
-    go Bits h = unfold roomFits isChar in rw (eqb-true m n h) many-fixed
-    go (Whole g v) h = unfold roomFits isChar in rw (eqb-true m n h) many-fixed
-    go Text h = unfold roomFits isChar in many-shorter refl (leb-true m n h)
+    go Truths h = unfold roomFits in rw (eqb-true m n h) many-fixed
+    go Bits h = unfold roomFits in rw (eqb-true m n h) many-fixed
+    go (Whole g v) h = unfold roomFits in rw (eqb-true m n h) many-fixed
+    go Text h = unfold roomFits in many-shorter refl (leb-true m n h)
 many-is k (Bounded n) m h = many-bounded (leb-true m n (and-both (roomFits k m m) (leb m n) h .1))
 many-is k Free m h = many-free (leb-true m 4096 (and-both (roomFits k m m) (leb m 4096) h .1))
 

@@ -1,16 +1,16 @@
 -- Rows that are passed over, one after the other: the count for the whole stream is the count of going on from here. Cited by pass_rows.
 use Prim.Native.Nat.{_+_, _<_, _≤_, ℕ}
 use native.Mathlib.Omega.{arith}
-use mathlib.Core.Bool.{cond, false, true}
+use mathlib.Core.Bool.{false, true}
 use mathlib.Core.List.{List}
-use mathlib.Core.Path.{_∙_, _≡_, ap, refl}
+use mathlib.Core.Path.{_∙_, _≡_, refl}
 use lib.ListN.{drop, length}
 use Rattle.rows.proofs.Laws.{within-step}
 use Rattle.rows.specs.Bounds.{Within}
 use Rattle.rows.specs.Sequence.{rowThen}
 use Rattle.rows.specs.Stream.{atEnd, passed, read, readRow}
 use Rattle.table.specs.Cell.{Cell}
-use Rattle.table.specs.Outcome.{Outcome, accepted, answerOf, at, refused}
+use Rattle.table.specs.Outcome.{answerOf, at}
 use Rattle.table.specs.Result.{bad, good}
 use Rattle.table.specs.declared.Column.{Column}
 use Rattle.table.specs.declared.Rows.{Rows}

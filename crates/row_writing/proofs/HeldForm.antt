@@ -1,5 +1,5 @@
 -- What is held is taken back: the cells that were read, each within its column's bound, and written as they are.
-use Prim.Native.Nat.{_+_, _-_, _<_, _≤_, suc, zero, ℕ}
+use Prim.Native.Nat.{_+_, _-_, _<_, _≤_, ℕ}
 use native.Mathlib.Omega.{arith}
 use mathlib.Core.Bool.{Bool, false, true}
 use mathlib.Core.List.{List, [], _++_, _∷_, append-assoc, append-nil}
@@ -14,7 +14,7 @@ use Rattle.row_writing.specs.Contracts.{FewIn, HeldAt, HeldWithin, cellF
 use Rattle.rows.specs.Stream.{flag, flagsLeft, writeCell, writeCells}
 use Rattle.table.specs.Cell.{Cell, bound, null, shown}
 use Rattle.table.specs.Outcome.{at}
-use Rattle.table.specs.Result.{Result, good, refusedAs}
+use Rattle.table.specs.Result.{good, refusedAs}
 use Rattle.table.specs.declared.Column.{Column}
 use Rattle.table.specs.declared.Rows.{Rows}
 

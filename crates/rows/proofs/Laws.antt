@@ -59,7 +59,7 @@ abbrev bare : Column → Column
 bare c = record { kind = c .kind; len = c .len; null = Undeclared }
 
 bare-null : (k : Shape) (scalar : Bool) (z : ℤ) → cond scalar (nullOfKind k Undeclared) none ≡ some z → isElement k z ≡ true
-unfolding nullOfKind isElement below
+unfolding isElement below
 bare-null Truths true z q = let e : z ≡ pos 2 = cc in rw e
 bare-null Truths false z q = absurd (Option·none-ne-some z q)
 bare-null Bits true z q = absurd (Option·none-ne-some z q)

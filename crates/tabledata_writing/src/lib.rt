@@ -1,4 +1,6 @@
 // A cell of TABLEDATA is measured and written.
+use number::Elements;
+use number::elements_of;
 use table::Column;
 use table::Kind;
 use table::Size;
@@ -87,14 +89,11 @@ pub fn size_text(column: Column, null: bool, count: usize, scratch: &[i64]) -> S
         return Size::NoForm(14);
     }
     let kind = column.kind;
-    match kind {
-        Kind::Boolean => Size::Bytes(2 * count + 8),
-        Kind::Bit => Size::Bytes(count + 9),
-        Kind::UnsignedByte => Size::Bytes(integers_size(count, scratch)),
-        Kind::Short => Size::Bytes(integers_size(count, scratch)),
-        Kind::Int => Size::Bytes(integers_size(count, scratch)),
-        Kind::Long => Size::Bytes(integers_size(count, scratch)),
-        Kind::Char => chars_size(count, scratch),
+    match elements_of(kind) {
+        Elements::Truths => Size::Bytes(2 * count + 8),
+        Elements::Bits => Size::Bytes(count + 9),
+        Elements::Text => chars_size(count, scratch),
+        Elements::Whole(_) => Size::Bytes(integers_size(count, scratch)),
     }
 }
 
@@ -235,14 +234,11 @@ fn put_elements(kind: Kind, count: usize, scratch: &[i64], out: &mut [u8], at: u
     requires { ⌜ (count ≤ length (now scratch)) × (at + length (elementBytes (shape kind) (take count (now scratch))) ≤ length (now out)) ⌝ }
     ensures { λ r. ⌜ Wrote (now (out .entry)) at (elementBytes (shape kind) (take count (now (scratch .entry)))) (now (out .exit)) r ⌝ }
 {
-    match kind {
-        Kind::Boolean => put_truths(count, scratch, out, at),
-        Kind::Bit => put_bits(count, scratch, out, at),
-        Kind::UnsignedByte => put_integers(count, scratch, out, at),
-        Kind::Short => put_integers(count, scratch, out, at),
-        Kind::Int => put_integers(count, scratch, out, at),
-        Kind::Long => put_integers(count, scratch, out, at),
-        Kind::Char => put_chars(count, scratch, out, at),
+    match elements_of(kind) {
+        Elements::Truths => put_truths(count, scratch, out, at),
+        Elements::Bits => put_bits(count, scratch, out, at),
+        Elements::Text => put_chars(count, scratch, out, at),
+        Elements::Whole(_) => put_integers(count, scratch, out, at),
     }
 }
 

@@ -21,7 +21,7 @@ use Rattle.table.proofs.Bytes.{between-no}
 use Rattle.table.proofs.Laws.{between-yes}
 use Rattle.table.specs.Bytes.{between}
 use Rattle.table.specs.Result.{Fails, Holds, Result, _>>=_, bad, fails, gives, good, holds, refuses}
-use Rattle.table.specs.Shape.{half, inRange, last}
+use Rattle.table.specs.Shape.{half, inRange}
 use Rattle.number.specs.declared.Integer.the-variants.{Int, Long, Short, UnsignedByte}
 use Rattle.number.specs.declared.Integer.{Integer}
 use Rattle.words.specs.declared.Form.{Form}
@@ -47,28 +47,28 @@ digit-or refuses (fails e) f g = g (ap bad e)
 -- ---- the range of a kind, by its largest
 
 pub up-in : (k : Integer) (n : ℕ) → n ≤ top k → inRange (isSigned k) (size k) (pos n) ≡ true
-unfolding inRange half last
+unfolding inRange half
 up-in UnsignedByte n h = lt-ltb n 256 (omega arith)
 up-in Short n h = lt-ltb n 32768 (omega arith)
 up-in Int n h = lt-ltb n 2147483648 (omega arith)
 up-in Long n h = lt-ltb n 9223372036854775808 (omega arith)
 
 pub up-out : (k : Integer) (n : ℕ) → top k < n → inRange (isSigned k) (size k) (pos n) ≡ false
-unfolding inRange half last
+unfolding inRange half
 up-out UnsignedByte n h = le-ltb n 256 (omega arith)
 up-out Short n h = le-ltb n 32768 (omega arith)
 up-out Int n h = le-ltb n 2147483648 (omega arith)
 up-out Long n h = le-ltb n 9223372036854775808 (omega arith)
 
 pub down-in : (k : Integer) (n : ℕ) → isSigned k ≡ true → n ≤ top k → inRange (isSigned k) (size k) (negsuc n) ≡ true
-unfolding inRange half last
+unfolding inRange half
 down-in UnsignedByte n g h = absurd (false≢true g)
 down-in Short n g h = lt-ltb n 32768 (omega arith)
 down-in Int n g h = lt-ltb n 2147483648 (omega arith)
 down-in Long n g h = lt-ltb n 9223372036854775808 (omega arith)
 
 pub down-out : (k : Integer) (n : ℕ) → top k < n → inRange (isSigned k) (size k) (negsuc n) ≡ false
-unfolding inRange half last
+unfolding inRange half
 down-out UnsignedByte n h = refl
 down-out Short n h = le-ltb n 32768 (omega arith)
 down-out Int n h = le-ltb n 2147483648 (omega arith)

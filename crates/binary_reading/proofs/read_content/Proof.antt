@@ -1,159 +1,83 @@
--- `binary::read_content` meets its contract: in each arm the kind is known, so its shape is, and the part has the length that it asks for.
+-- binary_reading::read_content: what the elements are says the shape of the kind, and so the length of the part.
 use Rattle.binary_reading.proofs.Cells.{content-text, content-truths, fills-as}
 use Rattle.binary.specs.Binary.{bitBytes, contentBytes}
-use Rattle.table.specs.Shape.{last, shape}
-use Rattle.table.specs.declared.Kind.{Kind}
+use Rattle.number.proofs.Laws.{shape-of}
+use Rattle.number.specs.Contracts.{shapeAs}
+use Rattle.number.specs.declared.Elements.{Elements}
+use Rattle.table.specs.Shape.{Shape}
 use borrow.Author.Needs.{needs}
-use mathlib.Core.Path.{_∙_, ap}
+use denote.Ref.{now}
+use lib.ListN.{length}
+use mathlib.Core.Path.{_∙_, _≡_, ap}
 use native.Mathlib.Omega.{arith}
 use Rattle.binary_reading.proofs.read_content.Statement.{statement}
 use Rattle.binary_reading.proofs.read_content.Tie as tie
 
-enum-told : tie.Need-enum-told
-enum-told c = search needs
+long : (c : tie.After-elements-of) {e : Elements} → c .elements-of .result ≡ e
+    → let a = c .before .before .args in length (now (a .part)) ≡ contentBytes (shapeAs e) (a .n)
+long c told =
+    let start = c .before .before in
+    start .pre .0 ∙ ap (λ (k : Shape). contentBytes k (start .args .n)) (shape-of (c .elements-of .ensures) told)
 
 read-truths-requires : tie.Need-read-truths-requires
-unfolding contentBytes shape last bitBytes
-read-truths-requires c κs =
-    let e = c .before .before .before .before .pre .0 ∙ ap (λ (k : Kind). contentBytes (shape k) (c .before .before .before .before .args .n)) (c .before .enum-told .given .1) in
-    omega (arith, e)
-
-enum-told-2 : tie.Need-enum-told-2
-enum-told-2 c = search needs
+unfolding contentBytes
+read-truths-requires c κs = omega (arith, long (c .before .before .before) (c .before .enum-told .given .1))
 
 read-bits-requires : tie.Need-read-bits-requires
-unfolding contentBytes shape last bitBytes
+unfolding contentBytes bitBytes
 read-bits-requires c κs =
-    let e = c .before .before .before .before .pre .0 ∙ ap (λ (k : Kind). contentBytes (shape k) (c .before .before .before .before .args .n)) (c .before .enum-told2 .given .1) in
-    (omega (arith, e), omega (arith, e), omega (arith, e))
-
-enum-told-3 : tie.Need-enum-told-3
-enum-told-3 c = search needs
-
-read-integers-requires : tie.Need-read-integers-requires
-unfolding contentBytes shape last bitBytes
-read-integers-requires c κs =
-    let e = c .before .before .before .before .pre .0 ∙ ap (λ (k : Kind). contentBytes (shape k) (c .before .before .before .before .args .n)) (c .before .enum-told3 .given .1) in
-    (omega (arith, e), omega arith)
-
-enum-told-4 : tie.Need-enum-told-4
-enum-told-4 c = search needs
-
-read-integers-requires-2 : tie.Need-read-integers-requires-2
-unfolding contentBytes shape last bitBytes
-read-integers-requires-2 c κs =
-    let e = c .before .before .before .before .pre .0 ∙ ap (λ (k : Kind). contentBytes (shape k) (c .before .before .before .before .args .n)) (c .before .enum-told4 .given .1) in
-    (omega (arith, e), omega arith)
-
-enum-told-5 : tie.Need-enum-told-5
-enum-told-5 c = search needs
-
-read-integers-requires-3 : tie.Need-read-integers-requires-3
-unfolding contentBytes shape last bitBytes
-read-integers-requires-3 c κs =
-    let e = c .before .before .before .before .pre .0 ∙ ap (λ (k : Kind). contentBytes (shape k) (c .before .before .before .before .args .n)) (c .before .enum-told5 .given .1) in
-    (omega (arith, e), omega arith)
-
-enum-told-6 : tie.Need-enum-told-6
-enum-told-6 c = search needs
-
-read-integers-requires-4 : tie.Need-read-integers-requires-4
-unfolding contentBytes shape last bitBytes
-read-integers-requires-4 c κs =
-    let e = c .before .before .before .before .pre .0 ∙ ap (λ (k : Kind). contentBytes (shape k) (c .before .before .before .before .args .n)) (c .before .enum-told6 .given .1) in
-    (omega (arith, e), omega arith)
-
-enum-told-7 : tie.Need-enum-told-7
-enum-told-7 c = search needs
+    let e = long (c .before .before .before) (c .before .enum-told2 .given .1) in (omega (arith, e), omega (arith, e), omega (arith, e))
 
 read-characters-requires : tie.Need-read-characters-requires
-unfolding contentBytes shape last bitBytes
-read-characters-requires c κs =
-    let e = c .before .before .before .before .pre .0 ∙ ap (λ (k : Kind). contentBytes (shape k) (c .before .before .before .before .args .n)) (c .before .enum-told7 .given .1) in
-    omega (arith, e)
+unfolding contentBytes
+read-characters-requires c κs = omega (arith, long (c .before .before .before) (c .before .enum-told3 .given .1))
 
-same-length : tie.Need-same-length
-same-length c = c .before .read-truths .ensures .long
+read-integers-requires : tie.Need-read-integers-requires
+unfolding contentBytes
+read-integers-requires c κs = (omega (arith, long (c .before .before .before .before) (c .before .before .integer .given .1)), omega arith)
 
 returns : tie.Need-returns
-unfolding contentBytes shape
+unfolding contentBytes
 returns c =
-    let e = c .before .before .before .before .before .before .pre .0 ∙ ap (λ (k : Kind). contentBytes (shape k) (c .before .before .before .before .before .before .args .n)) (c .before .before .before .enum-told .given .1) in
-    rw (c .before .before .before .enum-told .given .1) (fills-as (content-truths _ _ e) e (c .before .read-truths .ensures))
-
-same-length-2 : tie.Need-same-length-2
-same-length-2 c = c .before .read-bits .ensures .long
+    let at-told = c .before .before .before in let at-elements = at-told .before .before in
+    let e = long at-elements (at-told .enum-told .given .1) in
+    rw (shape-of (at-elements .elements-of .ensures) (at-told .enum-told .given .1)) (fills-as (content-truths _ _ e) e (c .before .read-truths .ensures))
 
 returns-2 : tie.Need-returns-2
-unfolding shape
-returns-2 c = rw (c .before .before .before .enum-told2 .given .1) (c .before .read-bits .ensures)
-
-same-length-3 : tie.Need-same-length-3
-same-length-3 c = c .before .read-integers .ensures .long
+returns-2 c =
+    let at-told = c .before .before .before in
+    rw (shape-of (at-told .before .before .elements-of .ensures) (at-told .enum-told2 .given .1)) (c .before .read-bits .ensures)
 
 returns-3 : tie.Need-returns-3
-unfolding shape
-returns-3 c = rw (c .before .before .before .enum-told3 .given .1) (c .before .read-integers .ensures)
-
-same-length-4 : tie.Need-same-length-4
-same-length-4 c = c .before .read-integers2 .ensures .long
+unfolding contentBytes
+returns-3 c =
+    let at-told = c .before .before .before in let at-elements = at-told .before .before in
+    rw (shape-of (at-elements .elements-of .ensures) (at-told .enum-told3 .given .1))
+    (fills-as (content-text _ _) (long at-elements (at-told .enum-told3 .given .1)) (c .before .read-characters .ensures))
 
 returns-4 : tie.Need-returns-4
-unfolding shape
-returns-4 c = rw (c .before .before .before .enum-told4 .given .1) (c .before .read-integers2 .ensures)
-
-same-length-5 : tie.Need-same-length-5
-same-length-5 c = c .before .read-integers3 .ensures .long
-
-returns-5 : tie.Need-returns-5
-unfolding shape
-returns-5 c = rw (c .before .before .before .enum-told5 .given .1) (c .before .read-integers3 .ensures)
-
-same-length-6 : tie.Need-same-length-6
-same-length-6 c = c .before .read-integers4 .ensures .long
-
-returns-6 : tie.Need-returns-6
-unfolding shape
-returns-6 c = rw (c .before .before .before .enum-told6 .given .1) (c .before .read-integers4 .ensures)
-
-same-length-7 : tie.Need-same-length-7
-same-length-7 c = c .before .read-characters .ensures .long
-
-returns-7 : tie.Need-returns-7
-unfolding contentBytes shape
-returns-7 c =
-    let e = c .before .before .before .before .before .before .pre .0 ∙ ap (λ (k : Kind). contentBytes (shape k) (c .before .before .before .before .before .before .args .n)) (c .before .before .before .enum-told7 .given .1) in
-    rw (c .before .before .before .enum-told7 .given .1) (fills-as (content-text _ _) e (c .before .read-characters .ensures))
+returns-4 c =
+    let at-told = c .before .before .before .before in
+    rw (shape-of (at-told .before .before .elements-of .ensures) (at-told .integer .given .1)) (c .before .read-integers .ensures)
 
 pub read-content-spec : {M : Type 1} → statement M
 read-content-spec =
     tie.close
     (tie.spec
-    enum-told
+    (λ c κs. search needs)
+    (λ c. search needs)
     read-truths-requires
-    enum-told-2
+    (λ c. search needs)
     read-bits-requires
-    enum-told-3
-    read-integers-requires
-    enum-told-4
-    read-integers-requires-2
-    enum-told-5
-    read-integers-requires-3
-    enum-told-6
-    read-integers-requires-4
-    enum-told-7
+    (λ c. search needs)
     read-characters-requires
-    same-length
+    (λ c. search needs)
+    read-integers-requires
+    (λ c. search needs)
     returns
-    same-length-2
+    (λ c. search needs)
     returns-2
-    same-length-3
+    (λ c. search needs)
     returns-3
-    same-length-4
-    returns-4
-    same-length-5
-    returns-5
-    same-length-6
-    returns-6
-    same-length-7
-    returns-7)
+    (λ c. search needs)
+    returns-4)

@@ -1,6 +1,5 @@
 -- `binary::read_count` meets its contract: in each arm the length is known.
 use Rattle.binary.specs.Binary.{countIn}
-use Rattle.table.specs.Cell.{bound}
 use borrow.Author.Needs.{needs}
 use mathlib.Core.Path.{refl}
 use native.Mathlib.Nat.{le-refl}
@@ -23,15 +22,15 @@ count-up-to-requires-2 : tie.Need-count-up-to-requires-2
 count-up-to-requires-2 c κs = search needs
 
 returns : tie.Need-returns
-unfolding countIn bound
+unfolding countIn
 returns c = rw (c .before .len .given .1) (record { found = refl; within = (le-refl _, c .before .before .before .before .pre, le-refl _) })
 
 returns-2 : tie.Need-returns-2
-unfolding countIn bound
+unfolding countIn
 returns-2 c = rw (c .before .before .len2 .given .1) (c .count-up-to .ensures)
 
 returns-3 : tie.Need-returns-3
-unfolding countIn bound
+unfolding countIn
 returns-3 c = rw (c .before .enum-told .given .1) (c .count-up-to2 .ensures)
 
 pub read-count-spec : {M : Type 1} → statement M

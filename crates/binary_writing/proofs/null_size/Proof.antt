@@ -2,7 +2,8 @@
 use Prim.Native.Nat.{zero-le}
 use Rattle.binary_writing.proofs.Sizes.{elements-length, zeros-length}
 use Rattle.binary_writing.proofs.Writing.{empty-zeros, null-bound, null-empty, null-none, null-some}
-use Rattle.table.specs.Contracts.{nullAs, sizeOf}
+use Rattle.table.specs.Cell.{nullAs}
+use Rattle.table.specs.Contracts.{sizeOf}
 use Rattle.table.specs.Result.{good}
 use borrow.Author.Needs.{needs}
 use lib.ListN.{length}

@@ -3,7 +3,8 @@ use Prim.Native.Nat.{ℕ}
 use Rattle.binary_writing.proofs.Writing.{empty-zeros, null-bound, null-empty, null-none, null-some}
 use Rattle.binary.specs.Binary.{elementsBytes}
 use Rattle.table.proofs.Wrote.{wrote-as}
-use Rattle.table.specs.Contracts.{formBytes, nullAs}
+use Rattle.table.specs.Cell.{nullAs}
+use Rattle.table.specs.Contracts.{formBytes}
 use Rattle.table.specs.Result.{Result}
 use borrow.Author.Needs.{needs}
 use lib.Dec.{lit≤}

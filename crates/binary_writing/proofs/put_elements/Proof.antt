@@ -1,11 +1,11 @@
 -- `binary_writing::put_elements` meets its contract: the count, then the content, with room for as many as the column has.
+use Rattle.table.specs.Shape.{shape}
 use Prim.Native.Nat.{ℕ}
 use Rattle.binary_writing.proofs.Sizes.{has-room, held-length}
 use Rattle.binary_writing.proofs.Writing.{elements-as}
 use Rattle.binary.specs.Contracts.{filledBytes}
 use Rattle.binary_writing.specs.Contracts.{elementsSize}
 use Rattle.table.proofs.Wrote.{wrote-as, wrote-then}
-use Rattle.table.specs.Shape.{shape}
 use borrow.Author.Needs.{needs}
 use denote.Ref.{now}
 use mathlib.Core.Path.{_∙_, ap}

@@ -1,11 +1,11 @@
 -- `binary_writing::put_null` meets its contract: a count of 0, then zeros.
+use Rattle.table.specs.Shape.{shape}
 use Prim.Native.Nat.{zero-le}
 use Rattle.binary_writing.proofs.Sizes.{room-bound, zeros-length}
 use Rattle.binary_writing.proofs.Writing.{zeros-as}
 use Rattle.binary.specs.Binary.{contentBytes}
 use Rattle.binary_writing.specs.Contracts.{roomSize}
 use Rattle.table.proofs.Wrote.{wrote-as, wrote-then}
-use Rattle.table.specs.Shape.{shape}
 use borrow.Author.Needs.{needs}
 use mathlib.Core.Path.{_∙_, ap}
 use native.Mathlib.Omega.{arith}

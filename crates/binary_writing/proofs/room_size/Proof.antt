@@ -1,7 +1,6 @@
 -- `binary_writing::room_size` meets its contract: in each arm the length is known, and a count takes four bytes.
 use Prim.Native.Nat.{_+_, ℕ}
 use Rattle.binary_writing.proofs.Sizes.{room-bounded, room-fixed, room-free}
-use Rattle.table.specs.Cell.{bound}
 use Rattle.table.specs.Outcome.{at}
 use borrow.Author.Needs.{needs}
 use mathlib.Core.Path.{_∙_, ap, sym}
@@ -13,7 +12,6 @@ enum-known-len : tie.Need-enum-known-len
 enum-known-len c = search needs
 
 content-bytes-requires : tie.Need-content-bytes-requires
-unfolding bound
 content-bytes-requires c κs = rw (c .before .len .given .1) at (c .before .before .before .pre .0)
 
 enum-told : tie.Need-enum-told

@@ -13,7 +13,6 @@ use native.Mathlib.Omega.{arith}
 use Rattle.convert.proofs.Converting.{Finished, RowsInv, acceptance, read-refusal, room-refusal, row-done, rows-start, write-refusal}
 use Rattle.convert.proofs.Measuring.{RowMeasured, held-ready, measured-more, measured-start, row-cannot, row-length, row-wrote}
 use Rattle.convert.specs.Contracts.{FormWithin, MeasuredBy}
-use Rattle.convert.specs.declared.Form.{Form}
 use Rattle.table.proofs.ColumnList.{listed-length, listed-next}
 use Rattle.table.specs.ColumnList.{listed, noColumn}
 use Rattle.row_reading.proofs.Parts.{RowRead, begun-within, cells-closed, cells-open, cells-stopped, closed-within, listed-bound, read-end, read-more, read-start, read-stop, row-begun, row-onward, row-unbegun}

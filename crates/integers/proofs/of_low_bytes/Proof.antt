@@ -10,7 +10,6 @@ use Rattle.number.specs.Contracts.{isSigned, size}
 use Rattle.number.specs.Number.{ofPattern}
 use Rattle.number.specs.declared.Integer.{Integer}
 use Rattle.number.proofs.Signed.{widened, widens}
-use Rattle.table.specs.Shape.{last}
 use native.Mathlib.Omega.{arith}
 use borrow.Author.Needs.{needs}
 use Rattle.integers.proofs.of_low_bytes.Statement.{statement}
@@ -27,23 +26,20 @@ cast-result-3 : tie.Need-cast-result-3
 cast-result-3 c = widens w32 (c .int-of .result) tt (record { sfits = c .int-of .ok })
 
 returns : tie.Need-returns
-unfolding last ofPattern
+unfolding ofPattern
 returns c = toZ-pos w64 (omega arith) ∙ sym (ap (low (c .before .before .args .x)) (c .enum-told .given .1))
 
 returns-2 : tie.Need-returns-2
-unfolding last
 returns-2 c =
     widened w16 (c .short-of .result) tt (record { sfits = c .short-of .ok }) ∙ c .short-of .ensures
     ∙ sym (ap (low (c .before .before .before .args .x)) (c .before .enum-told2 .given .1))
 
 returns-3 : tie.Need-returns-3
-unfolding last
 returns-3 c =
     widened w32 (c .int-of .result) tt (record { sfits = c .int-of .ok }) ∙ c .int-of .ensures
     ∙ sym (ap (low (c .before .before .before .args .x)) (c .before .enum-told3 .given .1))
 
 returns-4 : tie.Need-returns-4
-unfolding last
 returns-4 c =
     toZ-ofZ {w = w64} (record { sfits = c .long-of .ok }) ∙ c .long-of .ensures
     ∙ ap (ofPattern true 8) (sym (mod-eq-of-lt (c .before .before .before .fits .x .fits)))

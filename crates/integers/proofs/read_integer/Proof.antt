@@ -10,7 +10,6 @@ use mir.Syntax.{w64}
 use Rattle.number.specs.declared.Integer.{Integer}
 use Rattle.number.specs.Contracts.{isSigned, size}
 use Rattle.number.specs.Number.{ofDigits, ofPattern}
-use Rattle.table.specs.Shape.{last}
 use native.Mathlib.Omega.{arith}
 use borrow.Author.Needs.{needs}
 use Rattle.integers.proofs.read_integer.Statement.{statement}
@@ -21,44 +20,36 @@ abbrev read : List ℕ → ℕ → Integer → ℤ
 read s at kind = ofPattern (isSigned kind) (size kind) (ofDigits 256 0 (take (size kind) (drop at s)))
 
 read-unsigned-byte-requires : tie.Need-read-unsigned-byte-requires
-unfolding last
 read-unsigned-byte-requires c κs = omega (arith, ap size (c .enum-told .given .1))
 
 read-short-requires : tie.Need-read-short-requires
-unfolding last
 read-short-requires c κs = omega (arith, ap size (c .enum-told2 .given .1))
 
 read-int-requires : tie.Need-read-int-requires
-unfolding last
 read-int-requires c κs = omega (arith, ap size (c .enum-told3 .given .1))
 
 read-long-requires : tie.Need-read-long-requires
-unfolding last
 read-long-requires c κs = omega (arith, ap size (c .enum-told4 .given .1))
 
 returns : tie.Need-returns
-unfolding last
 returns c =
     let a = c .before .before .before .before .args in
     toZ-ofZ {w = w64} (record { sfits = c .read-unsigned-byte .ok }) ∙ c .read-unsigned-byte .ensures
     ∙ sym (ap (read (now (a .s)) (a .at)) (c .before .enum-told .given .1))
 
 returns-2 : tie.Need-returns-2
-unfolding last
 returns-2 c =
     let a = c .before .before .before .before .args in
     toZ-ofZ {w = w64} (record { sfits = c .read-short .ok }) ∙ c .read-short .ensures
     ∙ sym (ap (read (now (a .s)) (a .at)) (c .before .enum-told2 .given .1))
 
 returns-3 : tie.Need-returns-3
-unfolding last
 returns-3 c =
     let a = c .before .before .before .before .args in
     toZ-ofZ {w = w64} (record { sfits = c .read-int .ok }) ∙ c .read-int .ensures
     ∙ sym (ap (read (now (a .s)) (a .at)) (c .before .enum-told3 .given .1))
 
 returns-4 : tie.Need-returns-4
-unfolding last
 returns-4 c =
     let a = c .before .before .before .before .args in
     toZ-ofZ {w = w64} (record { sfits = c .read-long .ok }) ∙ c .read-long .ensures

@@ -8,7 +8,6 @@ use Rattle.number.specs.declared.Integer.{Integer}
 use Rattle.number.specs.Contracts.{size}
 use Rattle.number.specs.Number.{pattern, toDigits}
 use Rattle.table.proofs.Wrote.{wrote-as}
-use Rattle.table.specs.Shape.{last}
 use native.Mathlib.Omega.{arith}
 use borrow.Author.Needs.{needs}
 use Rattle.integers.proofs.write_integer.Statement.{statement}
@@ -20,41 +19,33 @@ written : (c : tie.Start) (kind : Integer) → c .args .kind ≡ kind
 written c kind e = ap (λ (z : ℤ). toDigits 256 (size kind) (pattern 8 z)) (toZ-ofZ (c .fits .z)) ∙ sym (ap (λ (k : Integer). toDigits 256 (size k) (pattern 8 (c .args .z))) e)
 
 write-unsigned-byte-requires : tie.Need-write-unsigned-byte-requires
-unfolding last
 write-unsigned-byte-requires c κs = omega (arith, ap size (c .before .enum-told .given .1))
 
 write-short-requires : tie.Need-write-short-requires
-unfolding last
 write-short-requires c κs = omega (arith, ap size (c .before .enum-told2 .given .1))
 
 write-int-requires : tie.Need-write-int-requires
-unfolding last
 write-int-requires c κs = omega (arith, ap size (c .before .enum-told3 .given .1))
 
 write-long-requires : tie.Need-write-long-requires
-unfolding last
 write-long-requires c κs = omega (arith, ap size (c .before .enum-told4 .given .1))
 
 returns : tie.Need-returns
-unfolding last
 returns c =
     wrote-as (written (c .before .before .before .before .before .before .before) _ (c .before .before .before .before .enum-told .given .1))
     (c .before .before .write-unsigned-byte .ensures)
 
 returns-2 : tie.Need-returns-2
-unfolding last
 returns-2 c =
     wrote-as (written (c .before .before .before .before .before .before .before) _ (c .before .before .before .before .enum-told2 .given .1))
     (c .before .before .write-short .ensures)
 
 returns-3 : tie.Need-returns-3
-unfolding last
 returns-3 c =
     wrote-as (written (c .before .before .before .before .before .before .before) _ (c .before .before .before .before .enum-told3 .given .1))
     (c .before .before .write-int .ensures)
 
 returns-4 : tie.Need-returns-4
-unfolding last
 returns-4 c =
     wrote-as (written (c .before .before .before .before .before .before .before) _ (c .before .before .before .before .enum-told4 .given .1))
     (c .before .before .write-long .ensures)

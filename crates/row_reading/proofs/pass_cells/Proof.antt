@@ -12,7 +12,7 @@ use Rattle.row_reading.proofs.Parts.{RowRead, cells-closed, cells-open,
 use Rattle.row_reading.specs.Contracts.{PassesCell, flagsIn}
 use Rattle.rows.specs.Stream.{readCells}
 use Rattle.table.specs.Outcome.{at}
-use Rattle.table.specs.Result.{Result, bad, good}
+use Rattle.table.specs.Result.{bad, good}
 use borrow.Author.Needs.{needs}
 use native.Mathlib.Omega.{arith}
 use Rattle.row_reading.proofs.pass_cells.Statement.{statement}

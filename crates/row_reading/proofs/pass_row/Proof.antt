@@ -1,5 +1,4 @@
 -- row_reading::pass_row: what begins the row, then its cells; each way is one law of Parts.
-use Prim.Native.Nat.{_≤_}
 use mathlib.Core.Path.{refl}
 use denote.Ref.{now}
 use Rattle.table.proofs.ColumnList.{listed-length}

@@ -1,14 +1,13 @@
 -- row_writing::held_at: by the test, what stands at the place is a count, or below zero.
 use Prim.Native.Nat.{_+_, suc, ℕ}
-use mathlib.Core.List.{List, _∷_}
+use mathlib.Core.List.{_∷_}
 use mathlib.Core.Path.{_∙_, _≡_, ap, ap₂, sym}
 use lib.IntN.{natAbs, pos, ℤ}
-use lib.ListN.{drop, getD, length}
+use lib.ListN.{drop, getD}
 use lib.Seq.{drop-cons}
 use lib.Signed.{mag}
 use denote.Ref.{now}
 use mir.Syntax.{w64}
-use native.Mathlib.Numerals.{add-one}
 use native.Mathlib.Omega.{arith}
 use Rattle.number.proofs.Signed.{down, up, up-cast, up-held}
 use borrow.Author.Needs.{needs, sfits-of}

@@ -2,7 +2,7 @@
 use Prim.Native.Nat.{_+_, _-_, _<_, _≤_, ℕ}
 use mathlib.Core.Bool.{false}
 use mathlib.Core.List.{List, _∷_}
-use mathlib.Core.Path.{_∙_, _≡_, ap, subst, sym}
+use mathlib.Core.Path.{_≡_, subst, sym}
 use lib.IntN.{pos, ℤ}
 use lib.ListN.{drop, length, length-drop, take}
 use denote.Ref.{now}

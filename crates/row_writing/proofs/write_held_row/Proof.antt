@@ -1,13 +1,11 @@
 -- row_writing::write_held_row: a row that is held is written: what begins it, then its cells one behind the other (WriteInv: what is left to write gives the whole), then
 -- what ends it.
 use Prim.Native.Nat.{_+_, _-_, _<_, _≤_, suc, ℕ}
-use mathlib.Core.Bool.{Bool, false}
+use mathlib.Core.Bool.{false}
 use mathlib.Core.List.{List, [], _∷_}
-use mathlib.Core.Path.{_∙_, _≡_, ap, refl, subst, sym}
-use lib.IntN.{ℤ}
+use mathlib.Core.Path.{_∙_, _≡_, ap, subst}
 use lib.ListN.{drop, getD, length}
 use lib.Seq.{length-sets, sets}
-use native.Mathlib.Numerals.{add-one}
 use denote.Ref.{now}
 use native.Mathlib.Omega.{arith}
 use Rattle.table.proofs.ColumnList.{listed-length, listed-next}
@@ -17,7 +15,7 @@ use Rattle.row_writing.proofs.RowForm.{WriteInv, write-fits, write-more
 use Rattle.row_reading.proofs.Parts.{listed-bound}
 use Rattle.row_writing.proofs.RowForm.{row-bytes-length, row-stored}
 use Rattle.table.proofs.Wrote.{wrote-long}
-use Rattle.row_writing.specs.Contracts.{HeldWithin, heldForm, heldNext, restOf, startBytes}
+use Rattle.row_writing.specs.Contracts.{HeldWithin, heldForm, heldNext, startBytes}
 use Rattle.rows.specs.Stream.{writeEnd}
 use Rattle.table.specs.declared.Column.{Column}
 use Rattle.row_writing.proofs.write_held_row.Statement.{statement}

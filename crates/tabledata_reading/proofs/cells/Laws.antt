@@ -11,7 +11,7 @@ use lib.ListN.{drop, length, take}
 use lib.Seq.{take-all}
 use borrow.Author.Tests.{eq-eqb, le-leb, leb-true, ne-eqb}
 use Rattle.table.proofs.Laws.{and-both, nil-not-null}
-use Rattle.table.specs.Cell.{Cell, bound, emptyIsNull, isChar, isNullList, null, nullElement, roomFits, roomIn, show, shown}
+use Rattle.table.specs.Cell.{Cell, bound, emptyIsNull, isNullList, null, nullElement, roomFits, roomIn, show, shown}
 use Rattle.table.specs.Contracts.{FoundWithin, Reads}
 use Rattle.table.specs.Result.{Result, _>>=_, bad, good}
 use Rattle.table.specs.Shape.{Bits, Shape, Text, Truths, Whole, shape}
@@ -93,7 +93,7 @@ module _ (c : Column) {es : List ℤ} {n : ℕ} {l : List ℤ} (rest : List ℕ)
 
 -- elements that have their own room fill it
 pub room-own : (k : Shape) (m n : ℕ) → (roomFits k m m && leb m n) ≡ leb m n
-unfolding roomFits isChar
+unfolding roomFits
 room-own Truths m n = rw (eq-eqb m m refl)
 room-own Bits m n = rw (eq-eqb m m refl)
 room-own (Whole g v) m n = rw (eq-eqb m m refl)

@@ -1,13 +1,12 @@
--- `tabledata_writing::size_text` meets its contract: null, nothing, or elements by their kind.
+-- tabledata_writing::size_text: null, nothing, or elements, where what they are says the shape of the kind.
 use Prim.Native.Nat.{_*_, _+_, _≤_, ℕ}
 use native.Mathlib.Omega.{arith}
-use mathlib.Core.Bool.{false, true}
 use mathlib.Core.Path.{_∙_, _≡_, ap, sym}
 use lib.ListN.{length, take}
 use borrow.Author.Needs.{needs}
 use denote.Ref.{now}
+use Rattle.number.proofs.Laws.{shape-of}
 use Rattle.table.specs.Result.{good}
-use Rattle.table.specs.Shape.{W1, W2, W4, W8, shape}
 use Rattle.tabledata_writing.proofs.Writing.{size-none, size-null, size-of-bits, size-of-chars, size-of-truths, size-of-whole, taken-long}
 use Rattle.tabledata_writing.proofs.size_text.Statement.{statement}
 use Rattle.tabledata_writing.proofs.size_text.Tie as tie
@@ -28,53 +27,32 @@ returns-2 c =
     rw (c .before .if1 .left) (sym (size-none (s .args .column) _ (omega (arith, taken s))))
 
 returns-3 : tie.Need-returns-3
-unfolding shape
 returns-3 c =
-    let at-if = c .before .before in let s = at-if .before .before in
+    let at-elements = c .before .before in let at-if = at-elements .before in let s = at-if .before .before in
     rw (at-if .before .if1 .left)
-    (sym (size-of-truths (s .args .column) _ (some at-if) (ap shape (c .enum-told .given .1)) ∙ ap (λ (n : ℕ). good (2 * n + 8)) (taken s)))
+    (sym (size-of-truths (s .args .column) _ (some at-if) (shape-of (at-elements .elements-of .ensures) (c .enum-told .given .1))
+    ∙ ap (λ (n : ℕ). good (2 * n + 8)) (taken s)))
 
 returns-4 : tie.Need-returns-4
-unfolding shape
 returns-4 c =
-    let at-if = c .before .before in let s = at-if .before .before in
+    let at-elements = c .before .before in let at-if = at-elements .before in let s = at-if .before .before in
     rw (at-if .before .if1 .left)
-    (sym (size-of-bits (s .args .column) _ (some at-if) (ap shape (c .enum-told2 .given .1)) ∙ ap (λ (n : ℕ). good (n + 9)) (taken s)))
+    (sym (size-of-bits (s .args .column) _ (some at-if) (shape-of (at-elements .elements-of .ensures) (c .enum-told2 .given .1))
+    ∙ ap (λ (n : ℕ). good (n + 9)) (taken s)))
 
 returns-5 : tie.Need-returns-5
-unfolding shape
 returns-5 c =
-    let at-if = c .before .before .before in
+    let at-elements = c .before .before .before in let at-if = at-elements .before in
     rw (at-if .before .if1 .left)
-    (ap good (c .integers-size .ensures) ∙ sym (size-of-whole (at-if .before .before .args .column) _ (some at-if) false W1 (ap shape (c .before .enum-told3 .given .1))))
+    (c .chars-size .ensures
+    ∙ sym (size-of-chars (at-if .before .before .args .column) _ (some at-if) (shape-of (at-elements .elements-of .ensures) (c .before .enum-told3 .given .1))))
 
 returns-6 : tie.Need-returns-6
-unfolding shape
 returns-6 c =
-    let at-if = c .before .before .before in
+    let at-elements = c .before .before .before in let at-if = at-elements .before in
     rw (at-if .before .if1 .left)
-    (ap good (c .integers-size2 .ensures) ∙ sym (size-of-whole (at-if .before .before .args .column) _ (some at-if) true W2 (ap shape (c .before .enum-told4 .given .1))))
-
-returns-7 : tie.Need-returns-7
-unfolding shape
-returns-7 c =
-    let at-if = c .before .before .before in
-    rw (at-if .before .if1 .left)
-    (ap good (c .integers-size3 .ensures) ∙ sym (size-of-whole (at-if .before .before .args .column) _ (some at-if) true W4 (ap shape (c .before .enum-told5 .given .1))))
-
-returns-8 : tie.Need-returns-8
-unfolding shape
-returns-8 c =
-    let at-if = c .before .before .before in
-    rw (at-if .before .if1 .left)
-    (ap good (c .integers-size4 .ensures) ∙ sym (size-of-whole (at-if .before .before .args .column) _ (some at-if) true W8 (ap shape (c .before .enum-told6 .given .1))))
-
-returns-9 : tie.Need-returns-9
-unfolding shape
-returns-9 c =
-    let at-if = c .before .before .before in
-    rw (at-if .before .if1 .left)
-    (c .chars-size .ensures ∙ sym (size-of-chars (at-if .before .before .args .column) _ (some at-if) (ap shape (c .before .enum-told7 .given .1))))
+    (ap good (c .integers-size .ensures)
+    ∙ sym (size-of-whole (at-if .before .before .args .column) _ (some at-if) _ _ (shape-of (at-elements .elements-of .ensures) (c .before .enum-told4 .given .1))))
 
 pub size-text-spec : {M : Type 1} → statement M
 size-text-spec =
@@ -82,17 +60,12 @@ size-text-spec =
     (tie.spec
     returns
     returns-2
-    (λ c. search needs)
-    (λ c. search needs)
-    (λ c. search needs)
-    (λ c. search needs)
-    (λ c. search needs)
-    (λ c. search needs)
     (λ c κs. search needs)
     (λ c. search needs)
-    (λ c κs. search needs)
     (λ c. search needs)
-    (λ c κs. search needs)
+    (λ c. search needs)
+    (λ c. search needs)
+    (λ c. search needs)
     (λ c. search needs)
     (λ c κs. search needs)
     (λ c. search needs)
@@ -100,7 +73,4 @@ size-text-spec =
     returns-3
     returns-4
     returns-5
-    returns-6
-    returns-7
-    returns-8
-    returns-9)
+    returns-6)

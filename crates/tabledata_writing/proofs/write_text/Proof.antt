@@ -1,4 +1,5 @@
 -- `tabledata_writing::write_text` meets its contract: `<TD/>`, or the text of the elements between the tags.
+use Rattle.table.specs.Shape.{shape}
 use Prim.Native.Nat.{_+_, _≤_}
 use native.Mathlib.Omega.{arith}
 use mathlib.Core.Bool.{Bool, false, true}
@@ -7,7 +8,6 @@ use lib.ListN.{length, take}
 use borrow.Author.Needs.{needs}
 use denote.Ref.{now}
 use Rattle.table.specs.Contracts.{held}
-use Rattle.table.specs.Shape.{shape}
 use Rattle.table.proofs.Wrote.{wrote-as, wrote-long, wrote-then}
 use Rattle.tabledata_writing.proofs.Writing.{text-long, text-tagged}
 use Rattle.tabledata.specs.TableData.{elementBytes, textBytes}

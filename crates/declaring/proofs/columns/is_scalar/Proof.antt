@@ -15,15 +15,12 @@ enum-told-2 : tie.Need-enum-told-2
 enum-told-2 c = search needs
 
 returns : tie.Need-returns
-unfolding isScalar
 returns c = sym (ap isScalar (c .before .len .given .1))
 
 returns-2 : tie.Need-returns-2
-unfolding isScalar
 returns-2 c = search needs
 
 returns-3 : tie.Need-returns-3
-unfolding isScalar
 returns-3 c = search needs
 
 pub is-scalar-spec : {M : Type 1} → statement M
