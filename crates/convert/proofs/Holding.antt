@@ -1,19 +1,26 @@
 -- The scratch that holds the cells of a row: a cell that was read behind its place, with its count put at that place, stands behind those before
 -- it. Cited by measure.
-use Prim.Native.Nat.{_+_, _-_, _<_, suc, zero, ℕ}
+use Prim.Native.Nat.{_+_, _-_, _<_, _≤_, suc, zero, ℕ}
 use native.Mathlib.Omega.{arith}
-use mathlib.Core.Bool.{Bool, cond, false, true}
+use mathlib.Core.Bool.{Bool, false, true}
 use mathlib.Core.List.{List, _++_, _∷_, [], append-nil}
-use mathlib.Core.Path.{_∙_, _≡_, ap, ap₂, refl, sym}
+use mathlib.Core.Path.{_∙_, _≡_, ap, ap₂, refl, subst, sym}
 use lib.Dec.{ltb}
 use lib.IntN.{ℤ}
 use lib.ListN.{drop, length, length-drop, length-set, set, take}
 use lib.Seq.{drop-length, take-length}
+use borrow.Author.Tests.{le-leb, lt-leb, ltb-false, ltb-true}
 use borrow.Rule.Slice.PartMut.{midOf, post-is, putMid, same-len-mid}
-use Rattle.convert.specs.Contracts.{HoldsAs, heldWith, placeOf}
+use Rattle.convert.specs.Contracts.{HoldsAs, holdingOf}
 use Rattle.row_writing.specs.Contracts.{heldCell}
 use Rattle.row_writing.specs.declared.Holding.{Holding}
 use Rattle.table.specs.Cell.{Cell}
+
+holding-held : (held : ℕ) → held ≤ 8192 → holdingOf held ≡ Holding.Holds held
+holding-held held h = rw (le-leb held 8192 h)
+
+holding-lost : (held : ℕ) → 8192 < held → holdingOf held ≡ Holding.Lost
+holding-lost held h = rw (lt-leb held 8192 h)
 
 -- ---- a cell that was read into the scratch behind a place, with its count put at that place
 
@@ -51,13 +58,15 @@ module _ (place : ℕ) (l m : List ℤ) (h : place < length l) (e : length m ≡
       ap₂ take n d ∙ take-length m
 
   -- the cell x stands behind the cells before it, where they are held
-  pub keep : (n : ℕ) (x : Cell) → z ∷ take n m ≡ heldCell x → (holding : Holding) → place ≡ placeOf holding
-      → (cells : List ℤ) → HoldsAs l cells holding → HoldsAs back (cells ++ heldCell x) (heldWith holding n)
-  keep n x e (Holding.Holds held) p cells k = go (ltb held 4096) refl
+  pub keep : (n : ℕ) (x : Cell) → z ∷ take n m ≡ heldCell x → n ≤ 4096 → (held after : ℕ) → (held < 4096 → place ≡ held)
+      → (held < 4096 → after ≡ held + 1 + n) → (4096 ≤ held → 8192 < after)
+      → (cells : List ℤ) → HoldsAs l cells (holdingOf held) → HoldsAs back (cells ++ heldCell x) (holdingOf after)
+  keep n x e few held after p a b cells k = go (ltb held 4096) refl
     where
-      go : (t : Bool) → ltb held 4096 ≡ t → HoldsAs back (cells ++ heldCell x) (cond t (Holding.Holds (held + 1 + n)) Holding.Lost)
+      go : (t : Bool) → ltb held 4096 ≡ t → HoldsAs back (cells ++ heldCell x) (holdingOf after)
       go true q =
-          let here : place ≡ held = p ∙ ap (λ (t : Bool). cond t held 0) q in
-          ap₂ take (ap (λ (i : ℕ). i + 1 + n) (sym here)) back-is ∙ put-held place n l m z h ∙ ap₂ (λ (i : ℕ) (y : List ℤ). take i l ++ y) here e ∙ ap (λ (c : List ℤ). c ++ heldCell x) k
-      go false q = tt
-  keep n x e Holding.Lost p cells k = tt
+          let s : held < 4096 = ltb-true held 4096 q in
+          let before : take held l ≡ cells = subst (HoldsAs l cells) (holding-held held (omega arith)) k in
+          subst (HoldsAs back (cells ++ heldCell x)) (sym (holding-held after (omega (arith, a s))))
+          (ap₂ take (a s ∙ ap (λ (i : ℕ). i + 1 + n) (sym (p s))) back-is ∙ put-held place n l m z h ∙ ap₂ (λ (i : ℕ) (y : List ℤ). take i l ++ y) (p s) e ∙ ap (λ (c : List ℤ). c ++ heldCell x) before)
+      go false q = subst (HoldsAs back (cells ++ heldCell x)) (sym (holding-lost after (b (ltb-false held 4096 q)))) tt

@@ -1,16 +1,17 @@
 -- A row while it is measured (RowMeasured): what its cells so far are written as, the word of its null cells, and what of them the scratch holds.
 -- A cell more is one law (measured-more); once all columns are read, the row has its form, or its refusal in writing. Cited by measure and
 -- convert_rows.
-use Prim.Native.Nat.{_+_, _≤_, suc, ℕ}
+use Prim.Native.Nat.{_*_, _+_, _<_, _≤_, suc, ℕ}
 use native.Mathlib.Numerals.{add-one}
 use native.Mathlib.Omega.{arith}
-use mathlib.Core.Bool.{Bool}
+use mathlib.Core.Bool.{Bool, cond, false, true}
 use mathlib.Core.List.{List, [], _++_, _∷_, append-assoc, append-nil}
 use mathlib.Core.Path.{_∙_, _≡_, ap, refl, subst, sym}
+use lib.Dec.{eqb}
 use lib.IntN.{ℤ}
 use lib.ListN.{drop, drop-of-length-le, length, length-append, take-append-drop}
-use Rattle.convert.specs.Contracts.{FormWithin, Grown, GrownBy, HoldsAs, addedTo, formAs, heldWith}
-use Rattle.convert.specs.declared.Form.{Form}
+use borrow.Author.Tests.{eq-eqb, ne-eqb}
+use Rattle.convert.specs.Contracts.{Grown, GrownBy, HoldsAs, addedTo, formOf, holdingOf}
 use Rattle.convert.specs.declared.Measured.{Measured}
 use Rattle.table.specs.ColumnList.{listed}
 use Rattle.binary.specs.Binary.{flagBit}
@@ -73,31 +74,46 @@ few-more (d ∷ cs) (y ∷ xs) c more x f e g = (f .0, few-more cs xs c more x (
 
 -- ---- one more cell
 
+-- what it takes is added; the first refusal stays
+module _ (m q : Measured) where
+  pub form-bytes : (b : ℕ) → q .number ≡ m .number → q .size ≡ m .size + b → q .column ≡ m .column → formOf q ≡ addedTo (formOf m) (good b)
+  form-bytes b n s c = rw (n, s, c) (go (eqb (m .number) 0))
+    where
+      go : (t : Bool) → cond t (good (m .size + b)) (bad (at (m .column) (m .number))) ≡ addedTo (cond t (good (m .size)) (bad (at (m .column) (m .number)))) (good b)
+      go true = refl
+      go false = refl
+
+  pub form-first : (i k : ℕ) → m .number ≡ 0 → 0 < k → q .number ≡ k → q .column ≡ i → formOf q ≡ addedTo (formOf m) (bad (at i k))
+  form-first i k z p n c = rw (n, c, ne-eqb k 0 (λ e. omega (arith, e, p)), eq-eqb (m .number) 0 z)
+
+  pub form-later : (v : Result Refusal ℕ) → (m .number ≡ 0 → ⊥) → q .number ≡ m .number → q .column ≡ m .column → formOf q ≡ addedTo (formOf m) v
+  form-later v h n c = rw (n, c, ne-eqb (m .number) 0 h)
+
 -- a cell that was measured
 pub grown-of : (to : Rows) (c : Column) (i : ℕ) (m : Measured) (x : Cell) (entry exit : List ℤ) (q : Measured) (b : Bool) (n : ℕ) (size : Size)
     → GrownBy i b n size m q → sizeAs size ≡ sizeOf (writeCell to c x) → b ≡ isNull x → FewIn c x
-    → ((cells : List ℤ) → HoldsAs entry cells (m .holding) → HoldsAs exit (cells ++ heldCell x) (heldWith (m .holding) n)) → Grown to c i m x entry exit q
+    → ((cells : List ℤ) → HoldsAs entry cells (holdingOf (m .held)) → HoldsAs exit (cells ++ heldCell x) (holdingOf (q .held))) → Grown to c i m x entry exit q
 grown-of to c i m x entry exit q b n size g e be few k = record {
   nulls = g .nulls ∙ ap (λ (y : Bool). toDigits 2 i (m .nulls) ++ (flagBit y ∷ [])) be;
-  form = g .form ∙ ap (λ (y : Result ℕ ℕ). addedTo (formAs (m .form)) (refusedAs (at i) y)) e;
+  form = g .form ∙ ap (λ (y : Result ℕ ℕ). addedTo (formOf m) (refusedAs (at i) y)) e;
   short = g .short;
   few = few;
-  held = λ cells h. subst (HoldsAs exit (cells ++ heldCell x)) (sym (g .holding)) (k cells h);
+  held = k;
 }
 
 -- the columns before i are read, and their cells are acc
 pub record RowMeasured (to : Rows) (cols : List Column) (acc : List Cell) (scratch : List ℤ) (m : Measured) (i : ℕ) : Type 0 where
-  pub short : FormWithin i (m .form)
+  pub short : m .size ≤ 100000 * i
   pub w : Result Refusal (List ℕ)
   pub writes : (xs : List Cell) → writeCells to cols (acc ++ xs) 0 ≡ join w (writeCells to (drop i cols) xs i)
-  pub says : formAs (m .form) ≡ lengthOf w
+  pub says : formOf m ≡ lengthOf w
   pub word : toDigits 2 i (m .nulls) ≡ nullBits acc
   pub many : length acc ≡ i
   pub few : FewCells cols acc
-  pub held : HoldsAs scratch (heldRow acc) (m .holding)
+  pub held : HoldsAs scratch (heldRow acc) (holdingOf (m .held))
 
 module _ (to : Rows) (cols : List Column) where
-  pub measured-start : (scratch : List ℤ) (m : Measured) → m ≡ record { nulls = 0; form = Form.Bytes 0; holding = Holding.Holds 0 } → RowMeasured to cols [] scratch m 0
+  pub measured-start : (scratch : List ℤ) (m : Measured) → m ≡ record { nulls = 0; size = 0; number = 0; column = 0; held = 0 } → RowMeasured to cols [] scratch m 0
   unfolding toDigits
   measured-start scratch m e = rw e record {
     short = omega arith;
@@ -134,7 +150,7 @@ module _ (to : Rows) (cols : List Column) where
         word = g .nulls ∙ ap (λ (l : List ℕ). l ++ (flagBit (isNull x) ∷ [])) (inv .word) ∙ nulls-more acc x;
         many = length-append acc (x ∷ []) ∙ ap (λ (n : ℕ). n + 1) (inv .many);
         few = few-more cols acc c (drop (suc i) cols) x (inv .few) (ap (λ (n : ℕ). drop n cols) (inv .many) ∙ e) (g .few);
-        held = subst (λ (l : List ℤ). HoldsAs exit l (q .holding)) (held-row-more acc x) (g .held (heldRow acc) (inv .held));
+        held = subst (λ (l : List ℤ). HoldsAs exit l (holdingOf (q .held))) (held-row-more acc x) (g .held (heldRow acc) (inv .held));
       }
 
 -- ---- all columns of a row are read
@@ -156,37 +172,44 @@ module _ (from to : Rows) (cols : Columns) (flags : ℕ) (s : List ℕ) (body pl
       let e : drop i (listed cols) ≡ [] = drop-of-length-le (listed cols) past in
       ap (λ (xs : List Cell). writeCells to (listed cols) xs 0) (sym (append-nil (read .acc))) ∙ inv .writes [] ∙ rw (e, join-end)
 
-  pub row-cannot : (n k : ℕ) → m .form ≡ Form.Refused n k → writeRow to (listed cols) (read .acc) ≡ bad (at k n)
+  pub row-cannot : (m .number ≡ 0 → ⊥) → writeRow to (listed cols) (read .acc) ≡ bad (at (m .column) (m .number))
   unfolding writeRow
-  row-cannot n k e = rw (write-all, said-cannot (inv .w) n k (sym (ap formAs e) ∙ inv .says))
+  row-cannot h =
+      let f : formOf m ≡ bad (at (m .column) (m .number)) = rw (ne-eqb (m .number) 0 h) in
+      rw (write-all, said-cannot (inv .w) (m .number) (m .column) (sym f ∙ inv .says))
 
   -- the whole scratch: the cells, and whatever is behind them
-  held-whole : (n : ℕ) → m .holding ≡ Holding.Holds n → scratch ≡ heldRow (read .acc) ++ drop n scratch
+  held-whole : (n : ℕ) → holdingOf (m .held) ≡ Holding.Holds n → scratch ≡ heldRow (read .acc) ++ drop n scratch
   held-whole n e =
       sym (take-append-drop n scratch) ∙ ap (λ (y : List ℤ). y ++ drop n scratch) (subst (HoldsAs scratch (heldRow (read .acc))) e (inv .held))
 
   full : length (read .acc) ≡ length (listed cols)
   full = omega (arith, inv .many, read .upto, l)
 
-  pub held-ready : HeldReady (listed cols) scratch (m .holding)
-  held-ready = go (m .holding) refl
+  pub held-ready : HeldReady (listed cols) scratch (holdingOf (m .held))
+  held-ready = go (holdingOf (m .held)) refl
     where
-      go : (h : Holding) → m .holding ≡ h → HeldReady (listed cols) scratch h
+      go : (h : Holding) → holdingOf (m .held) ≡ h → HeldReady (listed cols) scratch h
       go (Holding.Holds n) e = subst (HeldWithin (listed cols)) (sym (held-whole n e)) (held-within (listed cols) (read .acc) (drop n scratch) full (inv .few))
       go Holding.Lost e = tt
 
-  module _ (n : ℕ) (f : m .form ≡ Form.Bytes n) where
+  module _ (z : m .number ≡ 0) where
+    formed : good (m .size) ≡ lengthOf (inv .w)
+    formed =
+        let f : formOf m ≡ good (m .size) = rw (eq-eqb (m .number) 0 z) in
+        sym f ∙ inv .says
+
     cells : List ℕ
-    cells = said-wrote (inv .w) n (sym (ap formAs f) ∙ inv .says) .0
+    cells = said-wrote (inv .w) (m .size) formed .0
 
     cells-wrote : writeCells to (listed cols) (read .acc) 0 ≡ good cells
     unfolding cells
-    cells-wrote = write-all ∙ said-wrote (inv .w) n (sym (ap formAs f) ∙ inv .says) .1
+    cells-wrote = write-all ∙ said-wrote (inv .w) (m .size) formed .1
 
-    cells-put : putForm from to cols flags (drop body s) scratch (m .holding) ≡ cells
-    cells-put = go (m .holding) refl
+    cells-put : putForm from to cols flags (drop body s) scratch (holdingOf (m .held)) ≡ cells
+    cells-put = go (holdingOf (m .held)) refl
       where
-        go : (h : Holding) → m .holding ≡ h → putForm from to cols flags (drop body s) scratch h ≡ cells
+        go : (h : Holding) → holdingOf (m .held) ≡ h → putForm from to cols flags (drop body s) scratch h ≡ cells
         go (Holding.Holds k) e =
             ap (rowForm heldNext to (listed cols) []) (held-whole k e) ∙ held-form to (listed cols) (read .acc) (drop k scratch) 0 cells full cells-wrote
         go Holding.Lost e =
@@ -194,18 +217,18 @@ module _ (from to : Rows) (cols : Columns) (flags : ℕ) (s : List ℕ) (body pl
             (read-end from (listed cols) (flagsIn from (cols .count) flags) s body place i read (omega (arith, l, end))) cells-wrote
 
     -- the row's bytes are those that put_row writes
-    pub row-wrote : writeRow to (listed cols) (read .acc) ≡ good (rowBytes to (cols .count) (m .nulls) (putForm from to cols flags (drop body s) scratch (m .holding)))
+    pub row-wrote : writeRow to (listed cols) (read .acc) ≡ good (rowBytes to (cols .count) (m .nulls) (putForm from to cols flags (drop body s) scratch (holdingOf (m .held))))
     unfolding writeRow rowBytes
     row-wrote =
         let d : toDigits 2 (cols .count) (m .nulls) ≡ nullBits (read .acc) = let k : cols .count ≡ i = omega (arith, read .upto, l) in rw k (inv .word) in
         rw (cells-wrote, start-bytes to (cols .count) (m .nulls) (read .acc) d, cells-put)
 
     -- and this is how many they are
-    pub row-length : length (rowBytes to (cols .count) (m .nulls) (putForm from to cols flags (drop body s) scratch (m .holding)))
-        ≡ length (startBytes to (cols .count) (m .nulls)) + (n + length (writeEnd to))
+    pub row-length : length (rowBytes to (cols .count) (m .nulls) (putForm from to cols flags (drop body s) scratch (holdingOf (m .held))))
+        ≡ length (startBytes to (cols .count) (m .nulls)) + (m .size + length (writeEnd to))
     unfolding rowBytes cells
     row-length =
         length-append (startBytes to (cols .count) (m .nulls)) _
         ∙ ap (λ (k : ℕ). length (startBytes to (cols .count) (m .nulls)) + k)
-        (length-append (putForm from to cols flags (drop body s) scratch (m .holding)) (writeEnd to)
-        ∙ ap (λ (k : ℕ). k + length (writeEnd to)) (ap length cells-put ∙ sym (said-wrote (inv .w) n (sym (ap formAs f) ∙ inv .says) .2)))
+        (length-append (putForm from to cols flags (drop body s) scratch (holdingOf (m .held))) (writeEnd to)
+        ∙ ap (λ (k : ℕ). k + length (writeEnd to)) (ap length cells-put ∙ sym (said-wrote (inv .w) (m .size) formed .2)))

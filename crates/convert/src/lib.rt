@@ -19,18 +19,16 @@ use table::Found;
 use table::Rows;
 use table::Size;
 ghost use mathlib.Core.Path.{_≡_};
-ghost use Prim.Native.Nat.{_+_, _<_, _^_, _≤_};
+ghost use Prim.Native.Nat.{_*_, _+_, _<_, _^_, _≤_};
 ghost use lib.ListN.{drop, length};
 ghost use Rattle.table.specs.Cell.{bound};
-ghost use Rattle.table.specs.Contracts.{sizeAs};
-ghost use Rattle.table.specs.Outcome.{answerOf, at, bufferOf};
-ghost use Rattle.table.specs.Result.{refusedAs};
+ghost use Rattle.table.specs.Outcome.{answerOf, bufferOf};
 ghost use Rattle.table.specs.ColumnList.{listed};
 ghost use Rattle.row_writing.specs.Contracts.{SizeWithin};
 ghost use Rattle.rows.specs.Bounds.{Within};
 ghost use Rattle.rows.specs.Convert.{Converts};
 ghost use Rattle.rows.specs.Stream.{readCell, run};
-ghost use Rattle.convert.specs.Contracts.{FormWithin, GrownBy, MeasuredBy, addedTo, formAs, heldWith, placeOf};
+ghost use Rattle.convert.specs.Contracts.{GrownBy, MeasuredBy, holdingOf};
 
 // A place in the input, where the next row begins.
 struct Cursor {
@@ -77,17 +75,14 @@ impl Progress {
     }
 }
 
-// What a row will be written as, so far: the bytes of its cells, or the first refusal in writing with its column.
-enum Form {
-    Bytes(usize),
-    Refused(u64, usize),
-}
-
-// A row while it is measured: its null cells as a word of flags, what its cells will be written as, and what of them the scratch holds.
+// A row while it is measured: its null cells as a word of flags, the length of its cells as they will be written, the first refusal in writing with
+// its column, and how much of the scratch holds the cells so far. Numbers, and not enums, since they are carried from cell to cell.
 struct Measured {
     nulls: u64,
-    form: Form,
-    holding: Holding,
+    size: usize,
+    number: u64,
+    column: usize,
+    held: usize,
 }
 
 // A cell more: where it ends, and the row with it; or the number of its refusal.
@@ -108,78 +103,90 @@ const MOST_ELEMENTS: usize = 4096;
 
 const SCRATCH: usize = 8192;
 
+// More than the scratch has says that the cells are not held.
+const LOST: usize = SCRATCH + 1;
+
 // What stands in the scratch for a cell that is null, in the place of its count.
 const NULL: i64 = -1;
+
+// The number of no refusal.
+const NONE: u64 = 0;
 
 // ---- a cell of a row
 
 // Where the next cell is held: behind those that are, while a cell of any size has room there.
-fn place_for(holding: Holding) -> usize
-    ensures { λ r. ⌜ (r ≡ placeOf holding) × (r < 4096) ⌝ }
+fn place_for(held: usize) -> usize
+    ensures { λ r. ⌜ (r < 4096) × (held < 4096 → r ≡ held) ⌝ }
 {
-    match holding {
-        Holding::Holds(n) => { if n < MOST_ELEMENTS { n } else { 0 } }
-        Holding::Lost => 0,
-    }
+    if held < MOST_ELEMENTS { held } else { 0 }
 }
 
-// What is held with a cell of n elements more.
-fn held_with(holding: Holding, n: usize) -> Holding
+// How much is held with a cell of n elements more.
+fn held_with(held: usize, n: usize) -> usize
     requires { ⌜ n ≤ 4096 ⌝ }
-    ensures { λ r. ⌜ r ≡ heldWith holding n ⌝ }
+    ensures { λ r. ⌜ (held < 4096 → r ≡ held + 1 + n) × (4096 ≤ held → 8192 < r) ⌝ }
 {
-    match holding {
-        Holding::Holds(h) => {
-            if h < MOST_ELEMENTS {
-                Holding::Holds(h + 1 + n)
-            } else {
-                Holding::Lost
-            }
-        }
-        Holding::Lost => Holding::Lost,
-    }
+    if held < MOST_ELEMENTS { held + 1 + n } else { LOST }
 }
 
-// What column i's cell takes, added; the first refusal stays.
-fn added(form: Form, i: usize, size: Size) -> Form
-    requires { ⌜ FormWithin i form × (i < 64) × SizeWithin size ⌝ }
-    ensures { λ r. ⌜ (formAs r ≡ addedTo (formAs form) (refusedAs (at i) (sizeAs size))) × FormWithin (i + 1) r ⌝ }
+// What the scratch holds.
+fn holding_of(held: usize) -> Holding
+    ensures { λ r. ⌜ r ≡ holdingOf held ⌝ }
 {
-    match form {
-        Form::Bytes(m) => match size {
-            Size::Bytes(n) => Form::Bytes(m + n),
-            Size::NoForm(k) => Form::Refused(k, i),
-        },
-        Form::Refused(k, j) => Form::Refused(k, j),
+    if held <= SCRATCH {
+        return Holding::Holds(held);
     }
+    Holding::Lost
 }
 
 impl Measured {
     fn start() -> Self
-        ensures { λ r. ⌜ r ≡ record { nulls = 0; form = Form.Bytes 0; holding = Holding.Holds 0 } ⌝ }
+        ensures { λ r. ⌜ r ≡ record { nulls = 0; size = 0; number = 0; column = 0; held = 0 } ⌝ }
     {
         Measured {
             nulls: 0,
-            form: Form::Bytes(0),
-            holding: Holding::Holds(0),
+            size: 0,
+            number: NONE,
+            column: 0,
+            held: 0,
         }
     }
 
-    // One more cell: column i's, null or not, of n elements, which takes so much.
+    // One more cell: column i's, null or not, of n elements, which takes so much; the first refusal stays.
     fn after(self, i: usize, null: bool, n: usize, size: Size) -> Measured
-        requires { ⌜ FormWithin i (self .form) × (i < 64) × SizeWithin size × (n ≤ 4096) ⌝ }
+        requires { ⌜ (self .size ≤ 100000 * i) × (i < 64) × SizeWithin size × (n ≤ 4096) ⌝ }
         ensures { λ q. ⌜ GrownBy i null n size self q ⌝ }
     {
-        let word = self.nulls;
-        let so_far = self.form;
-        let held = self.holding;
-        let nulls = add_flag(word, i, null);
-        let form = added(so_far, i, size);
-        let holding = held_with(held, n);
-        Measured {
-            nulls,
-            form,
-            holding,
+        let nulls = add_flag(self.nulls, i, null);
+        let held = held_with(self.held, n);
+        let number = self.number;
+        match size {
+            Size::Bytes(b) => Measured {
+                nulls,
+                size: self.size + b,
+                number,
+                column: self.column,
+                held,
+            },
+            Size::NoForm(k) => {
+                if number == NONE {
+                    Measured {
+                        nulls,
+                        size: self.size,
+                        number: k,
+                        column: i,
+                        held,
+                    }
+                } else {
+                    Measured {
+                        nulls,
+                        size: self.size,
+                        number,
+                        column: self.column,
+                        held,
+                    }
+                }
+            }
         }
     }
 }
@@ -196,12 +203,11 @@ fn measure(
     s: &[u8],
     scratch: &mut [i64],
 ) -> Turn
-    requires { ⌜ (at ≤ length (now s)) × (i < 64) × FormWithin i (m .form) × (bound (column .len) ≤ 4096) × (8192 ≤ length (now scratch)) ⌝ }
+    requires { ⌜ (at ≤ length (now s)) × (i < 64) × (m .size ≤ 100000 * i) × (bound (column .len) ≤ 4096) × (8192 ≤ length (now scratch)) ⌝ }
     ensures { λ t. ⌜ MeasuredBy to column i (readCell from column flagged (drop at (now (s .entry)))) (now (s .entry)) at m (now (scratch .entry)) (now (scratch .exit)) t ⌝ }
     ensures { λ _. ⌜ length (now (scratch .exit)) ≡ length (now (scratch .entry)) ⌝ }
 {
-    let holding = m.holding;
-    let place = place_for(holding);
+    let place = place_for(m.held);
     let first = place + 1;
     let found = read_cell(from, s, at, column, flagged, &mut scratch[first..]);
     match found {
@@ -300,22 +306,15 @@ fn convert_rows(
                 next = a;
             }
         }
-        let form = m.form;
-        let cells: usize;
-        match form {
-            Form::Refused(n, k) => {
-                stop = Stop {
-                    number: n,
-                    row: p.rows,
-                    column: k,
-                };
-                break 'rows;
-            }
-            Form::Bytes(n) => {
-                cells = n;
-            }
+        if m.number != NONE {
+            stop = Stop {
+                number: m.number,
+                row: p.rows,
+                column: m.column,
+            };
+            break 'rows;
         }
-        let size = around + cells;
+        let size = around + m.size;
         let room = out.len() - p.bytes;
         if room < size {
             stop = Stop {

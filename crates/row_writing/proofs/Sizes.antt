@@ -13,8 +13,9 @@ use Rattle.number.proofs.Laws.{length-to}
 use Rattle.number.proofs.Decimal.{shortest-most}
 use Rattle.number.specs.Number.{shortest, toDigits}
 use Rattle.row_writing.specs.Contracts.{SizeWithin, startBytes}
+use Rattle.rows.proofs.Laws.{write-cell-fails}
 use Rattle.rows.specs.Stream.{writeCell}
-use Rattle.table.proofs.Laws.{all-map, bad-good, cond-cases, holds-bind, holds-cond, holds-weaken}
+use Rattle.table.proofs.Laws.{all-map, bad-good, cond-cases, fails-at, holds-bind, holds-cond, holds-weaken}
 use Rattle.table.specs.All.{All}
 use Rattle.table.specs.Bytes.{byte, bytes}
 use Rattle.table.specs.Cell.{Cell, bound, null, shown}
@@ -91,9 +92,13 @@ good-within : (n : ℕ) (x : Result ℕ (List ℕ)) → Holds (λ (b : List ℕ)
 good-within n x (holds {a = b} h) e = let q : n ≡ length b = cc in omega arith
 good-within n x refuses e = absurd (bad-good (sym e))
 
+sized-bad : (n : ℕ) (x : Result ℕ (List ℕ)) → bad n ≡ sizeOf x → x ≡ bad n
+sized-bad n (good b) e = absurd (bad-good e)
+sized-bad n (bad k) e = let q : n ≡ k = cc in rw q
+
 size-within : (to : Rows) (c : Column) (x : Cell) (r : Size) → Holds (λ (b : List ℕ). length b ≤ 100000) (writeCell to c x) → sizeAs r ≡ sizeOf (writeCell to c x) → SizeWithin r
 size-within to c x (Bytes n) h e = good-within n (writeCell to c x) h e
-size-within to c x (NoForm n) h e = tt
+size-within to c x (NoForm n) h e = omega (arith, fails-at (write-cell-fails to c x) (sized-bad n (writeCell to c x) e) .0)
 
 pub sized : (to : Rows) (c : Column) (x : Cell) (r : Size) → bound (c .len) ≤ 4096 → Few c x → sizeAs r ≡ sizeOf (writeCell to c x) → (sizeAs r ≡ sizeOf (writeCell to c x)) × SizeWithin r
 sized to c x r b f e = (e, size-within to c x r (cell-small to c x b f) e)

@@ -1,5 +1,5 @@
 -- What the functions that write rows promise: the bytes of a cell, of a row, and the cells of a row as the scratch holds them.
-use Prim.Native.Nat.{_+_, _≤_, ℕ}
+use Prim.Native.Nat.{_+_, _<_, _≤_, ℕ}
 use mathlib.Core.Bool.{Bool, false}
 use mathlib.Core.List.{List, [], _++_, _∷_}
 use mathlib.Core.Path.{_≡_}
@@ -32,10 +32,10 @@ startBytes TableData count nulls = open-TR ++ bytes ">"
 startBytes Binary count nulls = []
 startBytes Binary2 count nulls = pack (toDigits 2 count nulls)
 
--- no cell takes more than 100,000 bytes
+-- no cell takes more than 100,000 bytes, and no refusal has the number 0
 abbrev pub SizeWithin : Size → Type 0
 SizeWithin (Bytes n) = n ≤ 100000
-SizeWithin (NoForm n) = Unit {0}
+SizeWithin (NoForm n) = 0 < n
 
 -- ---- the cells of a row, held in the scratch
 
