@@ -7,7 +7,7 @@ use lib.ListN.{drop, take}
 use Rattle.binary.specs.Binary.{contentBytes, front, shows}
 use Rattle.number.specs.Number.{ofDigits, ofPattern}
 use Rattle.table.specs.Cell.{Cell}
-use Rattle.table.specs.Result.{Result, good}
+use Rattle.table.specs.Result.{Result, _>>=_, good}
 use Rattle.table.specs.Shape.{shape}
 use Rattle.table.specs.declared.Column.{Column}
 

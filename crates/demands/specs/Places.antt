@@ -9,7 +9,7 @@ use Rattle.binary.specs.Binary.{bitBytes, contentBytes, countIn, front, readFla
 use Rattle.rows.specs.Sequence.{Sequence, finished, row, sequence, stopped}
 use Rattle.rows.specs.Stream.{flag, flagsLeft, isEmpty, isOne}
 use Rattle.table.specs.Outcome.{at}
-use Rattle.table.specs.Result.{Result, good, refusedAs}
+use Rattle.table.specs.Result.{Result, _>>=_, good, refusedAs}
 use Rattle.table.specs.Shape.{Bits, Shape, Text, Truths, Whole, shape}
 use Rattle.table.specs.declared.Column.{Column}
 
