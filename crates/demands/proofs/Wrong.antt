@@ -21,7 +21,7 @@ use Rattle.rows.specs.Stream.{Table, finished, read, readF, row, stopped}
 use Rattle.table.proofs.Laws.{and-both}
 use Rattle.table.specs.All.{All, AreBytes}
 use Rattle.table.specs.Bytes.{bytes}
-use Rattle.table.specs.Cell.{Cell, null, shown}
+use Rattle.table.specs.Cell.{Cell, columnOf, null, shown}
 use Rattle.table.specs.Outcome.{Call}
 use Rattle.table.specs.Result.{good}
 use Rattle.table.specs.declared.Column.{Column}
@@ -36,8 +36,8 @@ use Rattle.table.specs.declared.Rows.the-variants.{Binary2, TableData}
 
 abbrev nightColumns : List Column
 nightColumns =
-    record { kind = Short; len = Fixed 1; null = Declared (negsuc 98) } ∷ record { kind = Kind.Char; len = Fixed 4; null = Undeclared }
-    ∷ record { kind = Boolean; len = Fixed 1; null = Undeclared } ∷ []
+    columnOf Short (Fixed 1) (Declared (negsuc 98)) ∷ columnOf Kind.Char (Fixed 4) Undeclared
+    ∷ columnOf Boolean (Fixed 1) Undeclared ∷ []
 
 abbrev firstRow : List Cell
 firstRow = shown (pos 7 ∷ []) ∷ shown (pos 97 ∷ pos 38 ∷ pos 98 ∷ []) ∷ shown (pos 1 ∷ []) ∷ []

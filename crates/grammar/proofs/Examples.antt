@@ -21,7 +21,7 @@ use Rattle.grammar.specs.Words.{Hexadigit, IntegerWord, hex-small, one-d
 use Rattle.table.proofs.Laws.{and-both, bad-good}
 use Rattle.table.specs.All.{AreBytes}
 use Rattle.table.specs.Bytes.{bytes}
-use Rattle.table.specs.Cell.{AreColumns, Cell, null, shown}
+use Rattle.table.specs.Cell.{AreColumns, Cell, columnOf, null, shown}
 use Rattle.table.specs.Shape.{half}
 use Rattle.table.specs.declared.Column.{Column}
 use Rattle.table.specs.declared.Kind.{Kind}
@@ -71,9 +71,9 @@ night-in-grammar = accepts-exactly (bytes nightDeclared) TableData Binary2 night
 
 abbrev nightColumns : List Column
 nightColumns =
-    record { kind = Short; len = Fixed 1; null = Declared (negsuc 98) }
-    ∷ record { kind = Kind.Char; len = Fixed 4; null = Undeclared }
-    ∷ record { kind = Boolean; len = Fixed 1; null = Undeclared }
+    columnOf Short (Fixed 1) (Declared (negsuc 98))
+    ∷ columnOf Kind.Char (Fixed 4) Undeclared
+    ∷ columnOf Boolean (Fixed 1) Undeclared
     ∷ []
 
 abbrev nightRows : List (List Cell)
