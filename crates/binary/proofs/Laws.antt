@@ -18,7 +18,7 @@ use Rattle.number.specs.Number.{ofDigits, pattern, toDigits}
 use Rattle.table.proofs.Laws.{Numbered, all-append, all-drop, all-replicate, all-take, cond-cases, fails-bind, fails-cond, fails-every, holds-any, holds-bind, holds-cond, holds-weaken, same-self, show-fits}
 use Rattle.table.specs.All.{All, AreBytes}
 use Rattle.table.specs.Bytes.{byte}
-use Rattle.table.specs.Cell.{Cell, Elements, Fits, IsColumn, below, bound, emptyIsNull, fits-null, fits-shown, isChar, isElement, isNull, isNullList, isScalar, null, nullElement, nullOfKind, roomFits, roomIn, show, shown}
+use Rattle.table.specs.Cell.{Cell, Elements, Fits, IsColumn, below, bound, columnOf, emptyIsNull, fits-null, fits-shown, isChar, isElement, isNull, isNullList, isOne, null, nullElement, nullOfKind, roomFits, roomIn, show, shown}
 use Rattle.table.specs.Outcome.{at}
 use Rattle.table.specs.Result.{Fails, Holds, every, fails, gives, good, holds, refuses}
 use Rattle.table.specs.Shape.{Bits, Shape, Text, Truths, Whole, last, shape}
@@ -231,7 +231,7 @@ count-back Free m t b h =
     rw (front-back 4 (toDigits 256 4 m) t (length-to 256 4 m), of-to 256 (lit< tt) 4 m (omega arith), le-ltb 4096 m h)
 
 -- "a 4-byte unsigned count of elements, not bytes": two shorts are counted as 2
-counts-elements : take 4 (elementsBytes (record { kind = Short; len = Free; null = Undeclared }) (pos 7 ∷ pos 8 ∷ [])) ≡ 0 ∷ 0 ∷ 0 ∷ 2 ∷ []
+counts-elements : take 4 (elementsBytes (columnOf Short Free Undeclared) (pos 7 ∷ pos 8 ∷ [])) ≡ 0 ∷ 0 ∷ 0 ∷ 2 ∷ []
 unfolding elementsBytes countBytes toDigits contentBytes
 counts-elements = refl
 
@@ -277,7 +277,7 @@ none-some : {z : ℤ} → none ≡ some z → ⊥
 none-some h = let q : _≡_ {A = ℕ} 0 1 = cc in omega arith
 
 -- a null element's column is a scalar
-pub scalar-room : (k : Shape) (l : Len) (o : Option ℤ) (z : ℤ) → cond (isScalar l) o none ≡ some z
+pub scalar-room : (k : Shape) (l : Len) (o : Option ℤ) (z : ℤ) → cond (isOne l) o none ≡ some z
     → (roomFits k (roomIn l 1) 1 ≡ true) × (1 ≤ bound l)
 unfolding roomFits
 scalar-room k (Fixed n) o z h = go (eqb n 1) refl h
@@ -298,7 +298,7 @@ Back1 : Column → Cell → List ℕ → Type 0
 Back1 c x b = (rest : List ℕ) → readBinary c (b ++ rest) ≡ good (x, rest)
 
 -- "Null in BINARY: the declared null": a short's -99
-declared-null-written : writeBinary (record { kind = Short; len = Fixed 1; null = Declared (negsuc 98) }) null ≡ good (0xFF ∷ 0x9D ∷ [])
+declared-null-written : writeBinary (columnOf Short (Fixed 1) (Declared (negsuc 98))) null ≡ good (0xFF ∷ 0x9D ∷ [])
 unfolding writeBinary nullForm nullElement elementsBytes countBytes bytesOf groups number pattern toDigits zeros contentBytes
 declared-null-written = refl
 

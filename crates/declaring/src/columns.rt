@@ -3,7 +3,6 @@ ghost use mathlib.Core.List.{[], _∷_};
 ghost use mathlib.Core.Path.{_≡_};
 ghost use Rattle.number.specs.Contracts.{isSigned, widthOf};
 ghost use Rattle.table.specs.Bytes.{words};
-ghost use Rattle.table.specs.Cell.{isScalar};
 ghost use Rattle.table.specs.Shape.{shape};
 ghost use Rattle.fields.specs.Fields.{beforeStar, boundedLen, judge, kindOf, kinds, lenBefore, lenOf, lengthOf, nullOf, nullValue};
 ghost use Rattle.declaring.specs.Readers.{ElementIn, ValueIn, asWritten, elementOf, fixedLen, judged, kindRead, lenRead, lengthRead, nullOfScalar, nullRead};
@@ -18,6 +17,8 @@ use table::Column;
 use table::Kind;
 use table::Len;
 use table::Null;
+use table::column_of;
+use table::is_scalar;
 use text::same_bytes;
 use text::skip_white;
 use words::IntegerRead;
@@ -151,16 +152,6 @@ fn read_len(s: &[u8], v: Value) -> LenRead
     }
 }
 
-fn is_scalar(len: Len) -> bool
-    ensures { λ r. ⌜ r ≡ isScalar len ⌝ }
-{
-    match len {
-        Len::Fixed(n) => n == 1,
-        Len::Bounded(_) => false,
-        Len::Free => false,
-    }
-}
-
 // A word "read as a cell of that kind".
 fn null_word(word: &[u8], kind: Integer) -> NullRead
     ensures { λ r. ⌜ nullValue (isSigned kind) (widthOf kind) (now (word .entry) ∷ []) ≡ nullRead r ⌝ }
@@ -197,14 +188,14 @@ fn null_of(t: &[u8], kind: Kind) -> NullRead
 }
 
 // "`null` counts only on scalar integer columns" "Elsewhere it is skipped."
-fn read_null(s: &[u8], v: Value, kind: Kind, len: Len) -> NullRead
+fn read_null(s: &[u8], v: Value, kind: Kind, scalar: bool) -> NullRead
     requires { ⌜ ValueIn (now s) v ⌝ }
-    ensures { λ r. ⌜ nullOf (shape kind) len (asWritten (now (s .entry)) v) ≡ nullRead r ⌝ }
+    ensures { λ r. ⌜ nullOf (shape kind) scalar (asWritten (now (s .entry)) v) ≡ nullRead r ⌝ }
 {
     let Value::Present(start, end) = v else {
         return NullRead::Counts(Null::Undeclared);
     };
-    if is_scalar(len) {
+    if scalar {
         return null_of(&s[start..end], kind);
     }
     NullRead::Counts(Null::Undeclared)
@@ -225,8 +216,9 @@ pub fn judge(s: &[u8], e: Element) -> Judged
         return Judged::Refused(3);
     };
     let n = e.null;
-    let NullRead::Counts(null) = read_null(s, n, kind, len) else {
+    let scalar = is_scalar(column_of(kind, len, Null::Undeclared));
+    let NullRead::Counts(null) = read_null(s, n, kind, scalar) else {
         return Judged::Refused(4);
     };
-    Judged::Declares(Column { kind, len, null })
+    Judged::Declares(column_of(kind, len, null))
 }

@@ -16,11 +16,11 @@ use columns::Judged;
 use columns::judge;
 use elements::FieldRead;
 use elements::read_field;
-use table::Column;
 use table::Columns;
 use table::Kind;
 use table::Len;
 use table::Null;
+use table::column_of;
 use text::skip_white;
 
 // "declarations up to 65,536 bytes", "any row input [..] up to 1,073,741,824 bytes"
@@ -38,11 +38,7 @@ pub struct Declared {
 fn no_columns() -> Columns
     ensures { λ r. ⌜ r ≡ holding [] ⌝ }
 {
-    let none = Column {
-        kind: Kind::Boolean,
-        len: Len::Fixed(0),
-        null: Null::Undeclared,
-    };
+    let none = column_of(Kind::Boolean, Len::Fixed(0), Null::Undeclared);
     let list = [none; 64];
     Columns { list, count: 0 }
 }

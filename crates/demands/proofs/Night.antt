@@ -13,7 +13,7 @@ use Rattle.fields.specs.Fields.{declare}
 use Rattle.table.proofs.Laws.{and-both}
 use Rattle.table.specs.All.{AreBytes}
 use Rattle.table.specs.Bytes.{bytes}
-use Rattle.table.specs.Cell.{Cell, null, shown}
+use Rattle.table.specs.Cell.{Cell, columnOf, null, shown}
 use Rattle.table.specs.Result.{good}
 use Rattle.table.specs.declared.Column.{Column}
 use Rattle.table.specs.declared.Kind.{Kind}
@@ -26,8 +26,7 @@ nightDecls = bytes nightDeclared
 
 abbrev pub nightColumns : List Column
 nightColumns =
-    record { kind = Short; len = Fixed 1; null = Declared (negsuc 98) } ∷ record { kind = Kind.Char; len = Fixed 4; null = Undeclared }
-    ∷ record { kind = Boolean; len = Fixed 1; null = Undeclared } ∷ []
+    columnOf Short (Fixed 1) (Declared (negsuc 98)) ∷ columnOf Kind.Char (Fixed 4) Undeclared ∷ columnOf Boolean (Fixed 1) Undeclared ∷ []
 
 abbrev pub firstRow : List Cell
 firstRow = shown (pos 7 ∷ []) ∷ shown (map pos (bytes "a&b")) ∷ shown (pos 1 ∷ []) ∷ []

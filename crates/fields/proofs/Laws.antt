@@ -16,7 +16,7 @@ use Rattle.number.specs.Number.{Fault, digit, numeral}
 use Rattle.table.proofs.Laws.{and-both, between-is, holds-any, holds-as, holds-bind, holds-cond, holds-weaken}
 use Rattle.table.specs.All.{All}
 use Rattle.table.specs.Bytes.{between, skipWhite, words}
-use Rattle.table.specs.Cell.{AreColumns, IsColumn, below, bound, isElement, isScalar, nullElement, nullOfKind}
+use Rattle.table.specs.Cell.{AreColumns, IsColumn, below, bound, columnOf, isElement, isScalar, nullElement, nullOfKind}
 use Rattle.table.specs.Outcome.{Refusal, at, mostDeclarations}
 use Rattle.table.specs.Result.{Holds, Result, holds, refuses}
 use Rattle.table.specs.Shape.{Bits, Shape, Text, Truths, Whole, Width, inRange, last, shape}
@@ -59,8 +59,8 @@ len-is none = holds {a = Fixed 1} (lit≤ tt, lit≤ tt)
 len-is (some s) = before-is (beforeStar s) s
 
 -- the null that a column shows is an element of it
-abbrev NullIs : Shape → Len → Null → Type 0
-NullIs k l n = (z : ℤ) → cond (isScalar l) (nullOfKind k n) none ≡ some z → isElement k z ≡ true
+abbrev NullIs : Shape → Bool → Null → Type 0
+NullIs k scalar n = (z : ℤ) → cond scalar (nullOfKind k n) none ≡ some z → isElement k z ≡ true
 
 -- a declared null is a value of its kind
 abbrev Value : Shape → Null → Type 0
@@ -77,13 +77,13 @@ scalar-some false o z h = absurd (Option·none-ne-some z h)
 is-value : (P : ℤ → Type 0) (y z : ℤ) → P y → some y ≡ some z → P z
 is-value P y z p e = subst P (cc) p
 
-null-is : (k : Shape) (l : Len) (n : Null) → Value k n → NullIs k l n
+null-is : (k : Shape) (scalar : Bool) (n : Null) → Value k n → NullIs k scalar n
 unfolding isElement below
-null-is Truths l n v z h = is-value (λ (z : ℤ). isElement Truths z ≡ true) (pos 2) z refl (scalar-some (isScalar l) _ z h)
-null-is Bits l n v z h = absurd (Option·none-ne-some z (scalar-some (isScalar l) _ z h))
-null-is Text l n v z h = absurd (Option·none-ne-some z (scalar-some (isScalar l) _ z h))
-null-is (Whole g w) l Undeclared v z h = absurd (Option·none-ne-some z (scalar-some (isScalar l) _ z h))
-null-is (Whole g w) l (Declared y) v z h = is-value (λ (z : ℤ). inRange g (suc (last w)) z ≡ true) y z v (scalar-some (isScalar l) _ z h)
+null-is Truths scalar n v z h = is-value (λ (z : ℤ). isElement Truths z ≡ true) (pos 2) z refl (scalar-some scalar _ z h)
+null-is Bits scalar n v z h = absurd (Option·none-ne-some z (scalar-some scalar _ z h))
+null-is Text scalar n v z h = absurd (Option·none-ne-some z (scalar-some scalar _ z h))
+null-is (Whole g w) scalar Undeclared v z h = absurd (Option·none-ne-some z (scalar-some scalar _ z h))
+null-is (Whole g w) scalar (Declared y) v z h = is-value (λ (z : ℤ). inRange g (suc (last w)) z ≡ true) y z v (scalar-some scalar _ z h)
 
 value-is : (g : Bool) (v : Width) (ws : List (List ℕ)) → Holds (Value (Whole g v)) (nullValue g v ws)
 unfolding nullValue
@@ -97,21 +97,21 @@ undeclared Bits = tt
 undeclared Text = tt
 undeclared (Whole g v) = tt
 
-nullOf-is : (k : Shape) (l : Len) (o : Option (List ℕ)) → Holds (Value k) (nullOf k l o)
+nullOf-is : (k : Shape) (scalar : Bool) (o : Option (List ℕ)) → Holds (Value k) (nullOf k scalar o)
 unfolding nullOf
-nullOf-is k l none = holds (undeclared k)
-nullOf-is Truths l (some s) = holds tt
-nullOf-is Bits l (some s) = holds tt
-nullOf-is Text l (some s) = holds tt
-nullOf-is (Whole g v) l (some s) = holds-cond (isScalar l) (λ _. value-is g v (words s)) (λ _. holds tt)
+nullOf-is k scalar none = holds (undeclared k)
+nullOf-is Truths scalar (some s) = holds tt
+nullOf-is Bits scalar (some s) = holds tt
+nullOf-is Text scalar (some s) = holds tt
+nullOf-is (Whole g v) scalar (some s) = holds-cond scalar (λ _. value-is g v (words s)) (λ _. holds tt)
 
 judge-is : (f : Field) → Holds IsColumn (judge f)
 unfolding judge nullElement
 judge-is f =
     holds-bind (holds-any (kindOf kinds (f .datatype))) (λ k _.
     holds-bind (len-is (f .arraysize)) (λ l r.
-    holds-bind (nullOf-is (shape k) l (f .null)) (λ n v.
-    holds (record { some-room = r .0; most-room = r .1; null-is = null-is (shape k) l n v }))))
+    holds-bind (nullOf-is (shape k) (isScalar (columnOf k l Undeclared)) (f .null)) (λ n v.
+    holds (record { some-room = r .0; most-room = r .1; null-is = null-is (shape k) (isScalar (columnOf k l n)) n v }))))
 
 abbrev From : ℕ → List Column → Type 0
 From k cs = All IsColumn cs × (length cs + k ≤ 64) × (k ≡ 0 → 0 < length cs)

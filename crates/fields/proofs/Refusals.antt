@@ -11,13 +11,13 @@ use Rattle.fields.specs.Fields.{Field, atMostOne, attributeComes, attrib
 use Rattle.number.specs.Number.{digit, numeral, readInteger}
 use Rattle.table.proofs.Laws.{Numbered, after-fails, cond-cases, fails-always, fails-as, fails-bind, fails-cond, fails-else}
 use Rattle.table.specs.Bytes.{after, between, byte, bytes, ends, same, skipWhite, words}
-use Rattle.table.specs.Cell.{isScalar}
+use Rattle.table.specs.Cell.{columnOf, isScalar}
 use Rattle.table.specs.Outcome.{Refusal, at, mostDeclarations}
 use Rattle.table.specs.Result.{Fails, Result, _>>=_, bad, fails, gives, good}
 use Rattle.table.specs.Shape.{Bits, Shape, Text, Truths, Whole, Width, last, shape}
 use Rattle.table.specs.declared.Column.{Column}
 use Rattle.table.specs.declared.Kind.{Kind}
-use Rattle.table.specs.declared.Len.{Len}
+use Rattle.table.specs.declared.Null.the-variants.{Undeclared}
 
 abbrev one : Numbered 1 6 1
 one = (lit≤ tt, lit≤ tt)
@@ -127,18 +127,18 @@ null-value-fails g v [] = fails four
 null-value-fails g v (w ∷ []) = fails-bind (fails-always (λ f. 4) (readInteger g (suc (last v)) w) (λ f. four)) (λ z. gives)
 null-value-fails g v (w ∷ x ∷ ws) = fails four
 
-null-fails : (k : Shape) (l : Len) (o : Option (List ℕ)) → Fails (Numbered 1 6) (nullOf k l o)
+null-fails : (k : Shape) (scalar : Bool) (o : Option (List ℕ)) → Fails (Numbered 1 6) (nullOf k scalar o)
 unfolding nullOf
-null-fails k l none = gives
-null-fails Truths l (some s) = gives
-null-fails Bits l (some s) = gives
-null-fails Text l (some s) = gives
-null-fails (Whole g v) l (some s) = fails-cond (isScalar l) (null-value-fails g v (words s)) gives
+null-fails k scalar none = gives
+null-fails Truths scalar (some s) = gives
+null-fails Bits scalar (some s) = gives
+null-fails Text scalar (some s) = gives
+null-fails (Whole g v) scalar (some s) = fails-cond scalar (null-value-fails g v (words s)) gives
 
 judge-fails : (f : Field) → Fails (Numbered 1 6) (judge f)
 unfolding judge
 judge-fails f =
-    fails-bind (kind-fails kinds (f .datatype)) (λ k. fails-bind (len-fails (f .arraysize)) (λ l. fails-bind (null-fails (shape k) l (f .null)) (λ n. gives)))
+    fails-bind (kind-fails kinds (f .datatype)) (λ k. fails-bind (len-fails (f .arraysize)) (λ l. fails-bind (null-fails (shape k) (isScalar (columnOf k l Undeclared)) (f .null)) (λ n. gives)))
 
 -- a refusal of declarations: 1 to 6, at a place that is at most 64
 abbrev pub AtPlace : Refusal → Type 0

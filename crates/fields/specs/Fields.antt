@@ -7,7 +7,7 @@ use lib.Dec.{eqb, leb, ltb}
 use lib.ListN.{length}
 use Rattle.number.specs.Number.{digit, numeral, readInteger}
 use Rattle.table.specs.Bytes.{after, between, byte, bytes, ends, isWhite, same, skipWhite, words}
-use Rattle.table.specs.Cell.{isScalar}
+use Rattle.table.specs.Cell.{columnOf, isScalar}
 use Rattle.table.specs.Outcome.{Refusal, at, mostDeclarations}
 use Rattle.table.specs.Result.{Result, _>>=_, bad, good, orElse, refusedAs}
 use Rattle.table.specs.Shape.{Bits, Shape, Text, Truths, Whole, Width, last, shape}
@@ -188,20 +188,20 @@ nullValue g v (w ∷ []) = refusedAs (λ f. 4) (readInteger g (suc (last v)) w) 
 nullValue g v (w ∷ x ∷ ws) = bad 4
 
 -- "`null` counts only on scalar integer columns" "Elsewhere it is skipped."
-unfoldable pub nullOf : Shape → Len → Option (List ℕ) → Result ℕ Null
-nullOf k l none = good Undeclared
-nullOf Truths l (some s) = good Undeclared
-nullOf Bits l (some s) = good Undeclared
-nullOf Text l (some s) = good Undeclared
-nullOf (Whole g v) l (some s) = cond (isScalar l) (nullValue g v (words s)) (good Undeclared)
+unfoldable pub nullOf : Shape → Bool → Option (List ℕ) → Result ℕ Null
+nullOf k scalar none = good Undeclared
+nullOf Truths scalar (some s) = good Undeclared
+nullOf Bits scalar (some s) = good Undeclared
+nullOf Text scalar (some s) = good Undeclared
+nullOf (Whole g v) scalar (some s) = cond scalar (nullValue g v (words s)) (good Undeclared)
 
 -- "in each one shape (through its end), 2, 3, 4"
 unfoldable pub judge : Field → Result ℕ Column
 judge f = do
   k ← kindOf kinds (f .datatype)
   l ← lenOf (f .arraysize)
-  n ← nullOf (shape k) l (f .null)
-  good (record { kind = k; len = l; null = n })
+  n ← nullOf (shape k) (isScalar (columnOf k l Undeclared)) (f .null)
+  good (columnOf k l n)
 
 -- ---- the whole text
 

@@ -22,7 +22,7 @@ use Rattle.number.specs.Number.{digit, numeral}
 use Rattle.table.proofs.Laws.{and-both, between-is, between-yes, cond-cases, holds-as, holds-at, holds-bind, holds-cond, holds-weaken, no-white}
 use Rattle.table.specs.All.{All}
 use Rattle.table.specs.Bytes.{between, bytes, same, skipWhite}
-use Rattle.table.specs.Cell.{AreColumns, isScalar}
+use Rattle.table.specs.Cell.{AreColumns, columnOf, isScalar}
 use Rattle.table.specs.Outcome.{Refusal, at, mostDeclarations}
 use Rattle.table.specs.Result.{Holds, Result, good, holds, refuses}
 use Rattle.table.specs.Shape.{Bits, Shape, Text, Truths, Whole, Width, last, shape}
@@ -31,6 +31,7 @@ use Rattle.table.specs.declared.Kind.{Kind}
 use Rattle.table.specs.declared.Len.{Len}
 use Rattle.table.specs.declared.Len.the-variants.{Bounded, Free}
 use Rattle.table.specs.declared.Null.{Null}
+use Rattle.table.specs.declared.Null.the-variants.{Undeclared}
 
 -- ---- datatype
 
@@ -148,7 +149,7 @@ arraysize-is (some s) = go (beforeStar s) (star-is s)
 
 -- ---- null
 
-null-read : {k : Shape} {l : Len} {o : Option (List ℕ)} {n : Null} → NullText k l o n → nullOf k l o ≡ good n
+null-read : {k : Shape} {scalar : Bool} {o : Option (List ℕ)} {n : Null} → NullText k scalar o n → nullOf k scalar o ≡ good n
 unfolding nullOf nullValue
 null-read null-absent = refl
 null-read (null-counts h (trimmed {v = v} w m u)) = rw (h, words-trimmed w (integer-word v _ m) u, integer-read m)
@@ -157,24 +158,24 @@ null-read null-truths = refl
 null-read null-bits = refl
 null-read null-chars = refl
 
-value-is : (g : Bool) (v : Width) {s : List ℕ} {ws : List (List ℕ)} → OneWord s ws → (l : Len) → isScalar l ≡ true → Holds (NullText (Whole g v) l (some s)) (nullValue g v ws)
+value-is : (g : Bool) (v : Width) {s : List ℕ} {ws : List (List ℕ)} → OneWord s ws → (scalar : Bool) → scalar ≡ true → Holds (NullText (Whole g v) scalar (some s)) (nullValue g v ws)
 unfolding nullValue
-value-is g v (no-word w) l h = refuses
-value-is g v (one-word {v = x} w i u e) l h = holds-bind (holds-as (λ f. 4) (integer-is g (suc (last v)) x)) (λ z m. holds (null-counts h (rw e (trimmed w m u))))
-value-is g v (two-words x y vs) l h = refuses
+value-is g v (no-word w) scalar h = refuses
+value-is g v (one-word {v = x} w i u e) scalar h = holds-bind (holds-as (λ f. 4) (integer-is g (suc (last v)) x)) (λ z m. holds (null-counts h (rw e (trimmed w m u))))
+value-is g v (two-words x y vs) scalar h = refuses
 
-null-is : (k : Shape) (l : Len) (o : Option (List ℕ)) → Holds (NullText k l o) (nullOf k l o)
+null-is : (k : Shape) (scalar : Bool) (o : Option (List ℕ)) → Holds (NullText k scalar o) (nullOf k scalar o)
 unfolding nullOf
-null-is k l none = holds null-absent
-null-is Truths l (some s) = holds null-truths
-null-is Bits l (some s) = holds null-bits
-null-is Text l (some s) = holds null-chars
-null-is (Whole g v) l (some s) = holds-cond (isScalar l) (λ h. value-is g v (one-word-of s) l h) (λ h. holds (null-array h))
+null-is k scalar none = holds null-absent
+null-is Truths scalar (some s) = holds null-truths
+null-is Bits scalar (some s) = holds null-bits
+null-is Text scalar (some s) = holds null-chars
+null-is (Whole g v) scalar (some s) = holds-cond scalar (λ h. value-is g v (one-word-of s) scalar h) (λ h. holds (null-array h))
 
 -- ---- a FIELD's column
 
-judge-read : {d : List ℕ} {a o : Option (List ℕ)} {k : Kind} {l : Len} {n : Null} → Datatype d k → Arraysize a l → NullText (shape k) l o n → (rest : List ℕ)
-    → judge (fieldAs d a o rest) ≡ good (record { kind = k; len = l; null = n })
+judge-read : {d : List ℕ} {a o : Option (List ℕ)} {k : Kind} {l : Len} {n : Null} → Datatype d k → Arraysize a l → NullText (shape k) (isScalar (columnOf k l Undeclared)) o n → (rest : List ℕ)
+    → judge (fieldAs d a o rest) ≡ good (columnOf k l n)
 unfolding judge
 judge-read h i j rest = rw (datatype-read h, arraysize-read i, null-read j)
 
@@ -184,7 +185,7 @@ unfolding judge
 judge-is s f h =
     holds-bind (datatype-is (f .datatype)) (λ k x.
     holds-bind (arraysize-is (f .arraysize)) (λ l y.
-    holds-bind (null-is (shape k) l (f .null)) (λ n z. holds (h .0, field-of (h .3) (h .4) x (h .5) y z, h .2))))
+    holds-bind (null-is (shape k) (isScalar (columnOf k l Undeclared)) (f .null)) (λ n z. holds (h .0, field-of (h .3) (h .4) x (h .5) y z, h .2))))
 
 -- ---- the list
 

@@ -8,7 +8,7 @@ use lib.IntN.{negsuc, pos, ℤ}
 use borrow.Author.Tests.{eqb-true}
 use Rattle.grammar.specs.Shown.{Shows, StandsForNull, null-declared, null-unknown, shows-list, shows-null}
 use Rattle.table.proofs.Laws.{cond-cases, same-self}
-use Rattle.table.specs.Cell.{Cell, isNullList, isScalar, null, nullElement, nullOfKind, sameInteger, show, shown}
+use Rattle.table.specs.Cell.{Cell, isNullList, isOne, null, nullElement, nullOfKind, sameInteger, show, shown}
 use Rattle.table.specs.Shape.{Bits, Shape, Text, Truths, Whole, shape}
 use Rattle.table.specs.declared.Column.{Column}
 use Rattle.table.specs.declared.Len.{Len}
@@ -32,7 +32,7 @@ stands-for-is c z e = by-length (c .len) refl e
     by-null l (Whole g v) k Undeclared m e = absurd (Option·none-ne-some z e)
     by-null l (Whole g v) k (Declared y) m e = subst (StandsForNull c) (cc e) (null-declared l k m)
 
-    by-length : (l : Len) → c .len ≡ l → cond (isScalar l) (nullOfKind (shape (c .kind)) (c .null)) none ≡ some z → StandsForNull c z
+    by-length : (l : Len) → c .len ≡ l → cond (isOne l) (nullOfKind (shape (c .kind)) (c .null)) none ≡ some z → StandsForNull c z
     by-length (Fixed n) q e = scalar (eqb n 1) refl e
       where
         scalar : (b : Bool) → eqb n 1 ≡ b → cond b (nullOfKind (shape (c .kind)) (c .null)) none ≡ some z → StandsForNull c z

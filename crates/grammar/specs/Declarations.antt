@@ -8,7 +8,7 @@ use lib.IntN.{ℤ}
 use lib.ListN.{length}
 use Rattle.grammar.specs.Words.{Digit, IntegerWord, Numeral, Tag, Trimmed, White}
 use Rattle.table.specs.Bytes.{byte, bytes, isWhite}
-use Rattle.table.specs.Cell.{isScalar}
+use Rattle.table.specs.Cell.{columnOf, isScalar}
 use Rattle.table.specs.Shape.{Bits, Shape, Text, Truths, Whole, Width, last, shape}
 use Rattle.table.specs.declared.Column.{Column}
 use Rattle.table.specs.declared.Kind.{Kind}
@@ -129,25 +129,25 @@ pub data Arraysize : Option (List ℕ) → Len → Type 0 where
   size-free : Arraysize (some (bytes "*")) Free
 
 -- the declared null that the `null` of VALUES gives a column
-pub data NullText : Shape → Len → Option (List ℕ) → Null → Type 0 where
+pub data NullText : Shape → Bool → Option (List ℕ) → Null → Type 0 where
   -- it "may stand": need not
-  null-absent : {k : Shape} {l : Len} → NullText k l none Undeclared
+  null-absent : {k : Shape} {scalar : Bool} → NullText k scalar none Undeclared
   -- "`null` counts only on scalar integer columns, and is read as a cell of that kind; an empty one is refused."
-  null-counts : {g : Bool} {v : Width} {l : Len} {s : List ℕ} {z : ℤ} → isScalar l ≡ true → Trimmed (IntegerWord g (suc (last v))) s z
-      → NullText (Whole g v) l (some s) (Declared z)
+  null-counts : {g : Bool} {v : Width} {scalar : Bool} {s : List ℕ} {z : ℤ} → scalar ≡ true → Trimmed (IntegerWord g (suc (last v))) s z
+      → NullText (Whole g v) scalar (some s) (Declared z)
   -- "Elsewhere it is skipped.": in arrays
-  null-array : {g : Bool} {v : Width} {l : Len} {s : List ℕ} → isScalar l ≡ false → NullText (Whole g v) l (some s) Undeclared
+  null-array : {g : Bool} {v : Width} {scalar : Bool} {s : List ℕ} → scalar ≡ false → NullText (Whole g v) scalar (some s) Undeclared
   -- and on columns of other kinds
-  null-truths : {l : Len} {s : List ℕ} → NullText Truths l (some s) Undeclared
-  null-bits : {l : Len} {s : List ℕ} → NullText Bits l (some s) Undeclared
-  null-chars : {l : Len} {s : List ℕ} → NullText Text l (some s) Undeclared
+  null-truths : {scalar : Bool} {s : List ℕ} → NullText Truths scalar (some s) Undeclared
+  null-bits : {scalar : Bool} {s : List ℕ} → NullText Bits scalar (some s) Undeclared
+  null-chars : {scalar : Bool} {s : List ℕ} → NullText Text scalar (some s) Undeclared
 
 -- a FIELD and its column
 pub data FieldOf : List ℕ → Column → Type 0 where
   -- "`datatype` is needed"
   field-of : {t d : List ℕ} {attrs : List (List ℕ × List ℕ)} {o a : Option (List ℕ)} {k : Kind} {l : Len} {n : Null} → FieldText t attrs o
-      → ValueOf (bytes "datatype") attrs (some d) → Datatype d k → ValueOf (bytes "arraysize") attrs a → Arraysize a l → NullText (shape k) l o n
-      → FieldOf t (record { kind = k; len = l; null = n })
+      → ValueOf (bytes "datatype") attrs (some d) → Datatype d k → ValueOf (bytes "arraysize") attrs a → Arraysize a l → NullText (shape k) (isScalar (columnOf k l Undeclared)) o n
+      → FieldOf t (columnOf k l n)
 
 -- "The text is FIELD elements with only white space around them"
 pub data FieldsText : List ℕ → List Column → Type 0 where

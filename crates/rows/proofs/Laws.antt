@@ -20,7 +20,7 @@ use Rattle.rows.specs.Stream.{atEnd, flag, flagsLeft, isEmpty, isOne, re
 use Rattle.table.proofs.Laws.{Numbered, all-weaken, bad-good, each-length, empty-fits, fails-as, fails-bind, fails-weaken, holds-any, holds-as, holds-at, holds-bind, holds-weaken, skip-le, tag-fails, tag-le}
 use Rattle.table.specs.All.{All, AreBytes}
 use Rattle.table.specs.Bytes.{after, ends, isWhite, skipWhite, tag}
-use Rattle.table.specs.Cell.{AreColumns, Cell, Each, Fits, IsColumn, below, isElement, isNull, isScalar, nullElement, nullOfKind, show}
+use Rattle.table.specs.Cell.{AreColumns, Cell, Each, Fits, IsColumn, below, columnOf, isElement, isNull, isScalar, nullElement, nullOfKind, show}
 use Rattle.table.specs.Outcome.{Refusal, at}
 use Rattle.table.specs.Result.{Fails, Holds, Result, _>>=_, bad, gives, good, holds, refuses}
 use Rattle.table.specs.Shape.{Bits, Shape, Text, Truths, Whole, shape}
@@ -56,7 +56,7 @@ cells-back Binary2 c x i f = holds (λ rest. binary2-cell-back c x rest i f)
 
 -- the column without its declared null
 abbrev bare : Column → Column
-bare c = record { kind = c .kind; len = c .len; null = Undeclared }
+bare c = columnOf (c .kind) (c .len) Undeclared
 
 bare-null : (k : Shape) (scalar : Bool) (z : ℤ) → cond scalar (nullOfKind k Undeclared) none ≡ some z → isElement k z ≡ true
 unfolding isElement below
@@ -71,7 +71,7 @@ bare-null Text false z q = absurd (Option·none-ne-some z q)
 
 bare-is : (c : Column) → Bounded c → IsColumn (bare c)
 unfolding nullElement
-bare-is c b = record { some-room = b .0; most-room = b .1; null-is = bare-null (shape (c .kind)) (isScalar (c .len)) }
+bare-is c b = record { some-room = b .0; most-room = b .1; null-is = bare-null (shape (c .kind)) (isScalar (bare c)) }
 
 -- what follows a cell
 abbrev following : Result ℕ (Cell × List ℕ) → Result ℕ (List ℕ)

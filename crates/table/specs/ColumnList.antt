@@ -2,6 +2,7 @@
 use Prim.Native.Nat.{_-_, suc, zero, ℕ}
 use mathlib.Core.List.{List, [], _++_, _∷_}
 use lib.ListN.{getD, length, replicate}
+use Rattle.table.specs.Cell.{columnOf}
 use Rattle.table.specs.declared.Column.{Column}
 use Rattle.table.specs.declared.Columns.{Columns}
 use Rattle.table.specs.declared.Kind.the-variants.{Boolean}
@@ -10,7 +11,7 @@ use Rattle.table.specs.declared.Null.the-variants.{Undeclared}
 
 -- what stands in a column list where no column was declared
 abbrev pub noColumn : Column
-noColumn = record { kind = Boolean; len = Fixed 0; null = Undeclared }
+noColumn = columnOf Boolean (Fixed 0) Undeclared
 
 -- the columns of a list from place k on, n of them
 unfoldable pub columnsFrom : List Column → ℕ → ℕ → List Column

@@ -17,10 +17,8 @@ use Rattle.table.proofs.Laws.{not-empty}
 use Rattle.table.proofs.Places.{done}
 use Rattle.table.proofs.Words.{words-none, words-skip}
 use Rattle.table.specs.Bytes.{attach, isWhite, notEmpty, pieces, skipWhite, words}
-use Rattle.table.specs.Cell.{isScalar}
 use Rattle.table.specs.Result.{bad, good}
 use Rattle.table.specs.Shape.{Bits, Shape, Text, Truths, Whole, Width}
-use Rattle.table.specs.declared.Len.{Len}
 use Rattle.table.specs.declared.Null.the-variants.{Undeclared}
 use Rattle.text.specs.Contracts.{Skipped}
 
@@ -137,16 +135,16 @@ module _ (g : Bool) (v : Width) (t : List ℕ) (a b e : ℕ) (front : Skipped t 
       go true q = rw (no-word t a b e front word behind (eqb-true b a q))
       go false q = rw (two-words t a b e front word behind h (eqb-false b a q) .2)
 
-pub scalar-null : (k : Shape) (l : Len) (t : List ℕ) → isScalar l ≡ true → nullOf k l (some t) ≡ nullOfScalar k t
+pub scalar-null : (k : Shape) (scalar : Bool) (t : List ℕ) → scalar ≡ true → nullOf k scalar (some t) ≡ nullOfScalar k t
 unfolding nullOf nullOfScalar
-scalar-null Truths l t h = refl
-scalar-null Bits l t h = refl
-scalar-null Text l t h = refl
-scalar-null (Whole g v) l t h = rw h
+scalar-null Truths scalar t h = refl
+scalar-null Bits scalar t h = refl
+scalar-null Text scalar t h = refl
+scalar-null (Whole g v) scalar t h = rw h
 
-pub array-null : (k : Shape) (l : Len) (t : List ℕ) → isScalar l ≡ false → nullOf k l (some t) ≡ good Undeclared
+pub array-null : (k : Shape) (scalar : Bool) (t : List ℕ) → scalar ≡ false → nullOf k scalar (some t) ≡ good Undeclared
 unfolding nullOf
-array-null Truths l t h = refl
-array-null Bits l t h = refl
-array-null Text l t h = refl
-array-null (Whole g v) l t h = rw h
+array-null Truths scalar t h = refl
+array-null Bits scalar t h = refl
+array-null Text scalar t h = refl
+array-null (Whole g v) scalar t h = rw h

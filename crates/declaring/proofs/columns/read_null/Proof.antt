@@ -5,7 +5,7 @@ use Rattle.declaring.specs.Readers.{ValueIn, asWritten}
 use Rattle.fields.specs.Fields.{nullOf}
 use borrow.Author.Needs.{needs}
 use denote.Ref.{now}
-use mathlib.Core.Path.{_∙_, ap, subst, sym}
+use mathlib.Core.Path.{_∙_, ap, subst}
 use native.Mathlib.Omega.{arith}
 use Rattle.declaring.specs.declared.attributes.Value.{Value}
 use Rattle.declaring.proofs.columns.read_null.Statement.{statement}
@@ -21,25 +21,22 @@ returns : tie.Need-returns
 unfolding nullOf
 returns c =
     let start = c .before .before .before in
-    ap (λ (v : Value). nullOf (shape (start .args .kind)) (start .args .len) (asWritten (now (start .args .s)) v)) (c .enum-told .given .1)
-
-is-scalar-requires : tie.Need-is-scalar-requires
-is-scalar-requires c κs = search needs
+    ap (λ (v : Value). nullOf (shape (start .args .kind)) (start .args .scalar) (asWritten (now (start .args .s)) v)) (c .enum-told .given .1)
 
 sub-null-of : tie.Need-sub-null-of
 sub-null-of c =
-    let at-v = c .before .before .before in let start = at-v .before .before .before in
+    let at-v = c .before .before in let start = at-v .before .before .before in
     let w = subst (ValueIn _) (at-v .v .given .1) (start .pre) in
     omega (arith, w .0)
 
 part-null-of-start : tie.Need-part-null-of-start
 part-null-of-start c =
-    let at-v = c .before .before .before in let start = at-v .before .before .before in
+    let at-v = c .before .before in let start = at-v .before .before .before in
     subst (ValueIn _) (at-v .v .given .1) (start .pre) .0
 
 part-null-of-end : tie.Need-part-null-of-end
 part-null-of-end c =
-    let at-v = c .before .before .before in let start = at-v .before .before .before in
+    let at-v = c .before .before in let start = at-v .before .before .before in
     subst (ValueIn _) (at-v .v .given .1) (start .pre) .1
 
 null-of-requires : tie.Need-null-of-requires
@@ -47,18 +44,18 @@ null-of-requires c κs = search needs
 
 returns-2 : tie.Need-returns-2
 returns-2 c =
-    let at-if1 = c .before .before in let at-is-scalar = at-if1 .before in let at-v = at-is-scalar .before .before in
+    let at-if1 = c .before .before in let at-v = at-if1 .before .before in
     let start = at-v .before .before .before in
-    ap (λ (v : Value). nullOf (shape (start .args .kind)) (start .args .len) (asWritten (now
-    (start .args .s)) v)) (at-v .v .given .1) ∙ scalar-null _ _ _ (sym (at-is-scalar .is-scalar .ensures) ∙ at-if1 .if1 .taken) ∙ c .null-of .ensures
+    ap (λ (v : Value). nullOf (shape (start .args .kind)) (start .args .scalar) (asWritten (now
+    (start .args .s)) v)) (at-v .v .given .1) ∙ scalar-null _ _ _ (at-if1 .if1 .taken) ∙ c .null-of .ensures
 
 returns-3 : tie.Need-returns-3
 returns-3 c =
-    let at-is-scalar = c .before in let at-v = at-is-scalar .before .before in let start = at-v .before .before .before in
-    ap (λ (v : Value). nullOf (shape (start .args .kind)) (start .args .len) (asWritten (now
-    (start .args .s)) v)) (at-v .v .given .1) ∙ array-null _ _ _ (sym (at-is-scalar .is-scalar .ensures) ∙ c .if1 .left)
+    let at-v = c .before .before in let start = at-v .before .before .before in
+    ap (λ (v : Value). nullOf (shape (start .args .kind)) (start .args .scalar) (asWritten (now
+    (start .args .s)) v)) (at-v .v .given .1) ∙ array-null _ _ _ (c .if1 .left)
 
 pub read-null-spec : {M : Type 1} → statement M
 read-null-spec =
     tie.close
-    (tie.spec enum-known-v enum-told returns is-scalar-requires sub-null-of part-null-of-start part-null-of-end null-of-requires returns-2 returns-3)
+    (tie.spec enum-known-v enum-told returns sub-null-of part-null-of-start part-null-of-end null-of-requires returns-2 returns-3)
