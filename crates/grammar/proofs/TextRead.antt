@@ -305,10 +305,10 @@ many-is : (k : Shape) (l : Len) (m : ℕ) → (roomFits k (roomIn l m) m && leb 
 many-is k (Fixed n) m h = go k (and-both (roomFits k n m) (leb m n) h .0)
   where
     go : (k : Shape) → roomFits k n m ≡ true → Many k (Fixed n) m
-    go Truths h = unfold roomFits isChar in rw (eqb-true m n h) many-fixed
-    go Bits h = unfold roomFits isChar in rw (eqb-true m n h) many-fixed
-    go (Whole g v) h = unfold roomFits isChar in rw (eqb-true m n h) many-fixed
-    go Text h = unfold roomFits isChar in many-shorter refl (leb-true m n h)
+    go Truths h = unfold roomFits in rw (eqb-true m n h) many-fixed
+    go Bits h = unfold roomFits in rw (eqb-true m n h) many-fixed
+    go (Whole g v) h = unfold roomFits in rw (eqb-true m n h) many-fixed
+    go Text h = unfold roomFits in many-shorter refl (leb-true m n h)
 many-is k (Bounded n) m h = many-bounded (leb-true m n (and-both (roomFits k m m) (leb m n) h .1))
 many-is k Free m h = many-free (leb-true m 4096 (and-both (roomFits k m m) (leb m 4096) h .1))
 
