@@ -11,6 +11,7 @@ use Rattle.number.specs.Number.{decimal, digit, digits, hexadecimal, hexadigit,
 use Rattle.rows.specs.Convert.{convert, converting, underColumns}
 use Rattle.rows.specs.Stream.{atEnd, fitted, flag, flagsLeft, isEmpty, isOne, read, readCell, readCells, readEnd, readRow, readStart, run, write, writeCell, writeCells, writeEnd, writeRow, writeStart, wroteThen}
 use Rattle.rows.specs.Sequence.{rowThen, sequence, sequenceF}
+use Rattle.fields.specs.Front.{front as callFront}
 use Rattle.table.specs.Bytes.{after, attach, between, ends, isWhite, notEmpty, pieces, same, skipWhite, tag, words}
 use Rattle.table.specs.Cell.{below, emptyIsNull, isElement, isNull, isNullList, nullElement, roomFits, sameInteger, show}
 use Rattle.table.specs.Outcome.{answerOf, at, bufferOf, ending, mostDeclarations, mostInput, rowsDone, written}
