@@ -11,7 +11,7 @@ use lib.Dec.{eqb}
 use lib.IntN.{ℤ}
 use lib.ListN.{drop, drop-of-length-le, length, length-append, take-append-drop}
 use borrow.Author.Tests.{eq-eqb, ne-eqb}
-use Rattle.convert.specs.Contracts.{Grown, GrownBy, HoldsAs, addedTo, formOf, holdingOf}
+use Rattle.convert.specs.Contracts.{Grown, GrownBy, HoldsAs, addedTo, formOf, holdingOf, sizeOrRefusal}
 use Rattle.convert.specs.declared.Measured.{Measured}
 use Rattle.table.specs.ColumnList.{listed}
 use Rattle.binary.specs.Binary.{flagBit}
@@ -75,19 +75,19 @@ few-more (d ∷ cs) (y ∷ xs) c more x f e g = (f .0, few-more cs xs c more x (
 -- ---- one more cell
 
 -- what it takes is added; the first refusal stays
-module _ (m q : Measured) where
-  pub form-bytes : (b : ℕ) → q .number ≡ m .number → q .size ≡ m .size + b → q .column ≡ m .column → formOf q ≡ addedTo (formOf m) (good b)
-  form-bytes b n s c = rw (n, s, c) (go (eqb (m .number) 0))
+module _ (m : Measured) where
+  pub form-bytes : (b : ℕ) → sizeOrRefusal (m .size + b) (m .number) (m .column) ≡ addedTo (formOf m) (good b)
+  form-bytes b = go (eqb (m .number) 0)
     where
       go : (t : Bool) → cond t (good (m .size + b)) (bad (at (m .column) (m .number))) ≡ addedTo (cond t (good (m .size)) (bad (at (m .column) (m .number)))) (good b)
       go true = refl
       go false = refl
 
-  pub form-first : (i k : ℕ) → m .number ≡ 0 → 0 < k → q .number ≡ k → q .column ≡ i → formOf q ≡ addedTo (formOf m) (bad (at i k))
-  form-first i k z p n c = rw (n, c, ne-eqb k 0 (λ e. omega (arith, e, p)), eq-eqb (m .number) 0 z)
+  pub form-first : (size i k : ℕ) → m .number ≡ 0 → 0 < k → sizeOrRefusal size k i ≡ addedTo (formOf m) (bad (at i k))
+  form-first size i k z p = rw (ne-eqb k 0 (λ e. omega (arith, e, p)), eq-eqb (m .number) 0 z)
 
-  pub form-later : (v : Result Refusal ℕ) → (m .number ≡ 0 → ⊥) → q .number ≡ m .number → q .column ≡ m .column → formOf q ≡ addedTo (formOf m) v
-  form-later v h n c = rw (n, c, ne-eqb (m .number) 0 h)
+  pub form-later : (size : ℕ) (v : Result Refusal ℕ) → (m .number ≡ 0 → ⊥) → sizeOrRefusal size (m .number) (m .column) ≡ addedTo (formOf m) v
+  form-later size v h = rw (ne-eqb (m .number) 0 h)
 
 -- a cell that was measured
 pub grown-of : (to : Rows) (c : Column) (i : ℕ) (m : Measured) (x : Cell) (entry exit : List ℤ) (q : Measured) (b : Bool) (n : ℕ) (size : Size)

@@ -24,8 +24,11 @@ use Rattle.table.specs.declared.Size.{Size}
 -- ---- what a row will be written as
 
 -- the size so far, or the first refusal in writing: number 0 says that there is none
+abbrev pub sizeOrRefusal : ℕ → ℕ → ℕ → Result Refusal ℕ
+sizeOrRefusal size number column = cond (eqb number 0) (good size) (bad (at column number))
+
 abbrev pub formOf : Measured → Result Refusal ℕ
-formOf m = cond (eqb (m .number) 0) (good (m .size)) (bad (at (m .column) (m .number)))
+formOf m = sizeOrRefusal (m .size) (m .number) (m .column)
 
 -- sizes added, or the first refusal
 abbrev pub addedTo : Result Refusal ℕ → Result Refusal ℕ → Result Refusal ℕ

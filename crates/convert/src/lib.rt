@@ -325,7 +325,7 @@ fn convert_rows(
             break 'rows;
         }
         let nulls = m.nulls;
-        let holding = m.holding;
+        let holding = holding_of(m.held);
         put_row(
             cols,
             from,
