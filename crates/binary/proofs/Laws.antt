@@ -66,7 +66,8 @@ unfolding unpack pack bitBytes
 unpack-pack bits a =
     let k : ℕ = (length bits + 7) / 8 in
     let z : List ℕ = replicate (8 * k - length bits) 0 in
-    let e : bitsOf (packed k (bits ++ z)) ≡ bits ++ z = bitsOf-packed k (bits ++ z) (length-append bits z ∙ simp length-replicate (omega arith)) (all-append _ bits z a (all-replicate (λ (b : ℕ). b < 2) (8 * k - length bits) 0 (lit< tt))) in
+    let e : bitsOf (packed k (bits ++ z)) ≡ bits ++ z = bitsOf-packed k (bits ++ z) (length-append bits z ∙ simp length-replicate (omega arith))
+    (all-append _ bits z a (all-replicate (λ (b : ℕ). b < 2) (8 * k - length bits) 0 (lit< tt))) in
     rw (e, drop-at bits z (length bits) refl, take-at bits z (length bits) refl, allZero-zeros)
 
 -- ---- numbers
@@ -374,7 +375,8 @@ in-is Bits n s h a =
 in-is (Whole g v) n s h a = let r = read-numbers (suc (last v)) n s h a in holds (r .0, eq-eqb _ _ (r .1))
 in-is Text n s h a = holds (beforeNul-are s .0, le-leb (length (beforeNul s)) n (omega (arith, beforeNul-are s .1)))
 
-shows-is : (c : Column) (flagged : Bool) (n : ℕ) (s : List ℕ) → roomIn (c .len) n ≡ n → n ≤ bound (c .len) → length s ≡ contentBytes (shape (c .kind)) n → AreBytes s → Holds (Fits c) (shows c flagged n s)
+shows-is : (c : Column) (flagged : Bool) (n : ℕ) (s : List ℕ) → roomIn (c .len) n ≡ n → n ≤ bound (c .len) → length s ≡ contentBytes (shape (c .kind)) n → AreBytes s
+    → Holds (Fits c) (shows c flagged n s)
 unfolding shows content
 shows-is c true n s q b h a = holds fits-null
 shows-is c false n s q b h a =

@@ -60,7 +60,8 @@ pub whole-filled : (g : Bool) (v : Width) (n : ℕ) (s : List ℕ) (entry exit :
     → exit ≡ sets entry 0 (integers g (suc (last v)) n s) → Fills (content (Whole g v) n s) n entry exit (Filled n)
 whole-filled g v n s entry exit h l q =
     let m : length (integers g (suc (last v)) n s) ≡ n = length-integers g (suc (last v)) n s in record {
-      found = content-whole g v n s ∙ ap good (sym (ap (take n) q ∙ take-of-sets n (integers g (suc (last v)) n s) entry (omega arith) (omega arith) ∙ take-all n (integers g (suc (last v)) n s) (omega arith)));
+      found = content-whole g v n s ∙ ap good (sym (ap (take n) q ∙ take-of-sets n (integers g (suc (last v)) n s) entry (omega arith) (omega arith)
+          ∙ take-all n (integers g (suc (last v)) n s) (omega arith)));
       within = le-refl n;
       long = l;
     }

@@ -71,7 +71,8 @@ elements-length c es h =
     let k : Shape = shape (c .kind) in
     let n : ℕ = roomIn (c .len) (length es) in
     length-append (countBytes (c .len) (length es)) (bytesOf k n (map (number k) es))
-    ∙ ap (λ (j : ℕ). length (countBytes (c .len) (length es)) + j) (filled-length n (map (number k) es) k (rw length-map (has-room (c .len) (length es) h)) ∙ ap (filledBytes k n) (length-map es (number k)))
+    ∙ ap (λ (j : ℕ). length (countBytes (c .len) (length es)) + j) (filled-length n (map (number k) es) k (rw length-map (has-room (c .len) (length es) h))
+    ∙ ap (filledBytes k n) (length-map es (number k)))
 
 pub held-length : (c : Column) (count : ℕ) (scratch : List ℤ) → count ≤ bound (c .len) → count ≤ length scratch
     → length (elementsBytes c (take count scratch)) ≡ elementsSize c count

@@ -132,7 +132,8 @@ integer-next w out scratch o k count next new d h m x =
     let e : (count - k) - 1 ≡ count - (k + 1) = omega arith in
     let rest : List ℕ = groups w (map (pattern 8) (take (count - (k + 1)) (drop (k + 1) scratch))) in
     let z : List ℕ = toDigits 256 w (pattern 8 (getD scratch k d)) in
-    ap (λ (l : List ℕ). sets out o (groups w l)) (from-next (pattern 8) scratch k (count - k) d (omega arith) (omega arith) ∙ ap (λ (j : ℕ). pattern 8 (getD scratch k d) ∷ map (pattern 8) (take j (drop (k + 1) scratch))) e)
+    ap (λ (l : List ℕ). sets out o (groups w l)) (from-next (pattern 8) scratch k (count - k) d (omega arith) (omega arith)
+    ∙ ap (λ (j : ℕ). pattern 8 (getD scratch k d) ∷ map (pattern 8) (take j (drop (k + 1) scratch))) e)
     ∙ sets-then z rest out o
     ∙ ap₂ (λ (l : List ℕ) (j : ℕ). sets l j rest) (sym (x .now-is)) (sym (x .next-is))
 

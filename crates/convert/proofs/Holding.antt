@@ -68,5 +68,6 @@ module _ (place : ℕ) (l m : List ℤ) (h : place < length l) (e : length m ≡
           let s : held < 4096 = ltb-true held 4096 q in
           let before : take held l ≡ cells = subst (HoldsAs l cells) (holding-held held (omega arith)) k in
           subst (HoldsAs back (cells ++ heldCell x)) (sym (holding-held after (omega (arith, a s))))
-          (ap₂ take (a s ∙ ap (λ (i : ℕ). i + 1 + n) (sym (p s))) back-is ∙ put-held place n l m z h ∙ ap₂ (λ (i : ℕ) (y : List ℤ). take i l ++ y) (p s) e ∙ ap (λ (c : List ℤ). c ++ heldCell x) before)
+          (ap₂ take (a s ∙ ap (λ (i : ℕ). i + 1 + n) (sym (p s))) back-is ∙ put-held place n l m z h ∙ ap₂ (λ (i : ℕ) (y : List ℤ). take i l ++ y) (p s) e
+          ∙ ap (λ (c : List ℤ). c ++ heldCell x) before)
       go false q = subst (HoldsAs back (cells ++ heldCell x)) (sym (holding-lost after (b (ltb-false held 4096 q)))) tt

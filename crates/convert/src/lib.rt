@@ -126,7 +126,11 @@ fn held_with(held: usize, n: usize) -> usize
     requires { ⌜ n ≤ 4096 ⌝ }
     ensures { λ r. ⌜ (held < 4096 → r ≡ held + 1 + n) × (4096 ≤ held → 8192 < r) ⌝ }
 {
-    if held < MOST_ELEMENTS { held + 1 + n } else { LOST }
+    if held < MOST_ELEMENTS {
+        held + 1 + n
+    } else {
+        LOST
+    }
 }
 
 // What the scratch holds.

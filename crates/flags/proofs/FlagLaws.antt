@@ -187,7 +187,8 @@ packed-digits zero y = refl
 packed-digits (suc m) y =
     let e : 8 * suc m ≡ 8 + 8 * m = omega arith in
     let high : List ℕ = toDigits 2 8 (y / 2 ^ (8 * m)) in
-    let v : ofDigits 2 0 high ≡ y / 256 ^ m % 256 = of-to-from 2 (lit< tt) 8 0 (y / 2 ^ (8 * m)) ∙ rw (pow-bytes m) (let d : 0 * 256 + y / 2 ^ (8 * m) % 256 ≡ y / 2 ^ (8 * m) % 256 = omega arith in d) in
+    let v : ofDigits 2 0 high ≡ y / 256 ^ m % 256 = of-to-from 2 (lit< tt) 8 0 (y / 2 ^ (8 * m))
+    ∙ rw (pow-bytes m) (let d : 0 * 256 + y / 2 ^ (8 * m) % 256 ≡ y / 2 ^ (8 * m) % 256 = omega arith in d) in
     ap (packed (suc m)) (ap (λ (k : ℕ). toDigits 2 k y) e ∙ digits-split 8 (8 * m) y)
     ∙ rw (take-at high (toDigits 2 (8 * m) y) 8 (length-to 2 8 (y / 2 ^ (8 * m))), drop-at high (toDigits 2 (8 * m) y) 8 (length-to 2 8 (y / 2 ^ (8 * m))))
     (ap₂ (λ (k : ℕ) (l : List ℕ). k ∷ l) v (packed-digits m y))

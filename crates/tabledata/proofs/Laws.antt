@@ -340,7 +340,8 @@ pub text-fits : (c : Column) (s : List ℕ) → Holds (λ (p : Cell × List ℕ)
 unfolding readText textCell
 text-fits c s =
     holds-bind (holds-any (cellText s)) (λ p _.
-    holds-bind (holds-cond (allText (p .0)) (λ t. holds-bind (elements-are (shape (c .kind)) (p .0) t) (λ es a. holds-cond (countFits c (length es)) (λ e. holds (cell-fits c es a e)) (λ _. refuses))) (λ _. refuses))
+    holds-bind (holds-cond (allText (p .0)) (λ t. holds-bind (elements-are (shape (c .kind)) (p .0) t)
+    (λ es a. holds-cond (countFits c (length es)) (λ e. holds (cell-fits c es a e)) (λ _. refuses))) (λ _. refuses))
     (λ x h. holds h))
 
 -- ---- the numbers of its refusals
@@ -398,7 +399,8 @@ pub text-fails : (c : Column) (s : List ℕ) → Fails (Numbered 8 13) (readText
 unfolding readText textCell
 text-fails c s =
     fails-bind (cell-fails s) (λ p.
-    fails-bind (fails-cond (allText (p .0)) (fails-bind (elements-fails (shape (c .kind)) (p .0)) (λ es. fails-cond (countFits c (length es)) gives (fails (lit≤ tt, lit≤ tt)))) (fails eleven)) (λ x. gives))
+    fails-bind (fails-cond (allText (p .0)) (fails-bind (elements-fails (shape (c .kind)) (p .0)) (λ es. fails-cond (countFits c (length es)) gives (fails (lit≤ tt, lit≤ tt))))
+    (fails eleven)) (λ x. gives))
 
 form-fails : (e : ℤ) → Fails (Numbered 14 16) (formOf e)
 unfolding formOf

@@ -27,30 +27,6 @@ abbrev μ-loop : tie.MeasureT-loop
 loop-holds : tie.Need-loop-holds Inv-loop μ-loop
 loop-holds c = (omega arith, omega arith, refl, refl)
 
-sub-m : tie.Need-sub-m Inv-loop μ-loop
-sub-m c = search needs
-
-cast-bit : tie.Need-cast-bit Inv-loop μ-loop
-cast-bit c = search needs
-
-shr-bit : tie.Need-shr-bit Inv-loop μ-loop
-shr-bit c = search needs
-
-cast-scratch : tie.Need-cast-scratch Inv-loop μ-loop
-cast-scratch c = search needs
-
-mul-t11 : tie.Need-mul-t11 Inv-loop μ-loop
-mul-t11 c = search needs
-
-slice-set-from-scratch : tie.Need-slice-set-from-scratch Inv-loop μ-loop
-slice-set-from-scratch c = search needs
-
-add-k : tie.Need-add-k Inv-loop μ-loop
-add-k c = search needs
-
-loop-less : tie.Need-loop-less Inv-loop μ-loop
-loop-less c = search needs
-
 loop-again : tie.Need-loop-again Inv-loop μ-loop
 loop-again c =
     let l = c .before .loop in
@@ -78,14 +54,14 @@ eight-bits-spec =
     Inv-loop
     μ-loop
     loop-holds
-    sub-m
-    cast-bit
-    shr-bit
-    cast-scratch
-    mul-t11
-    slice-set-from-scratch
-    add-k
-    loop-less
+    (λ c. search needs)
+    (λ c. search needs)
+    (λ c. search needs)
+    (λ c. search needs)
+    (λ c. search needs)
+    (λ c. search needs)
+    (λ c. search needs)
+    (λ c. search needs)
     loop-again
     same-length
     returns)

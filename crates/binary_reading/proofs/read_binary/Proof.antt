@@ -9,18 +9,6 @@ use mathlib.Core.Path.{_∙_, ap, subst, sym}
 use Rattle.binary_reading.proofs.read_binary.Statement.{statement}
 use Rattle.binary_reading.proofs.read_binary.Tie as tie
 
-read-binary2-requires : tie.Need-read-binary2-requires
-read-binary2-requires c κs = search needs
-
-enum-known-found : tie.Need-enum-known-found
-enum-known-found c = search needs
-
-enum-known-found-2 : tie.Need-enum-known-found-2
-enum-known-found-2 c = search needs
-
-enum-known-found-3 : tie.Need-enum-known-found-3
-enum-known-found-3 c = search needs
-
 same-length : tie.Need-same-length
 same-length c = c .before .before .before .before .read-binary2 .ensures .long
 
@@ -47,7 +35,8 @@ returns-2 c =
     let g = c .before .before .found2 .given .1 in
     let w = subst (FoundWithin (now (a .s)) (a .at) x) g (f .ensures .within) in
     record {
-      found = binary-empty (a .column) (drop (a .at) (now (a .s))) _ (take (c .before .before .found2 .given .0 .0) x) (f .ensures .found ∙ ap (foundAs (now (a .s)) x) g) (length-take-le _ x (w .2) ∙ c .if1 .taken);
+      found = binary-empty (a .column) (drop (a .at) (now (a .s))) _ (take (c .before .before .found2 .given .0 .0) x) (f .ensures .found ∙ ap (foundAs (now (a .s)) x) g)
+          (length-take-le _ x (w .2) ∙ c .if1 .taken);
       within = (w .0, w .1);
       long = f .ensures .long;
     }
@@ -63,7 +52,8 @@ returns-3 c =
     let g = c .before .before .found2 .given .1 in
     let w = subst (FoundWithin (now (a .s)) (a .at) x) g (f .ensures .within) in
     record {
-      found = binary-shown (a .column) (drop (a .at) (now (a .s))) _ (take (c .before .before .found2 .given .0 .0) x) (f .ensures .found ∙ ap (foundAs (now (a .s)) x) g) (λ e. c .if1 .left (sym (length-take-le _ x (w .2)) ∙ e));
+      found = binary-shown (a .column) (drop (a .at) (now (a .s))) _ (take (c .before .before .found2 .given .0 .0) x) (f .ensures .found ∙ ap (foundAs (now (a .s)) x) g)
+          (λ e. c .if1 .left (sym (length-take-le _ x (w .2)) ∙ e));
       within = w;
       long = f .ensures .long;
     }
@@ -86,10 +76,10 @@ pub read-binary-spec : {M : Type 1} → statement M
 read-binary-spec =
     tie.close
     (tie.spec
-    read-binary2-requires
-    enum-known-found
-    enum-known-found-2
-    enum-known-found-3
+    (λ c κs. search needs)
+    (λ c. search needs)
+    (λ c. search needs)
+    (λ c. search needs)
     same-length
     returns
     same-length-2

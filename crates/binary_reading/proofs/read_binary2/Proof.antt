@@ -10,20 +10,12 @@ use native.Mathlib.Omega.{arith}
 use Rattle.binary_reading.proofs.read_binary2.Statement.{statement}
 use Rattle.binary_reading.proofs.read_binary2.Tie as tie
 
-read-count-requires : tie.Need-read-count-requires
-read-count-requires c κs = search needs
-
-enum-known-counted : tie.Need-enum-known-counted
-enum-known-counted c = search needs
-
-enum-known-counted-2 : tie.Need-enum-known-counted-2
-enum-known-counted-2 c = search needs
-
 read-counted-requires : tie.Need-read-counted-requires
 read-counted-requires c κs =
     let k = c .before .before .before .before .read-count in
     let s = now (c .before .before .before .before .before .before .args .s) in
-    let w = subst (CountWithin s (c .before .before .before .before .before .before .args .at) (bound (c .before .before .before .before .before .before .args .column .len))) (c .before .before .counted2 .given .1) (k .ensures .within) in
+    let w = subst (CountWithin s (c .before .before .before .before .before .before .args .at) (bound (c .before .before .before .before .before .before .args .column .len)))
+    (c .before .before .counted2 .given .1) (k .ensures .within) in
     (w .1, omega (arith, w .2, c .before .before .before .before .before .before .pre .1), c .before .before .before .before .before .before .pre .2)
 
 returns : tie.Need-returns
@@ -52,9 +44,9 @@ pub read-binary2-spec : {M : Type 1} → statement M
 read-binary2-spec =
     tie.close
     (tie.spec
-    read-count-requires
-    enum-known-counted
-    enum-known-counted-2
+    (λ c κs. search needs)
+    (λ c. search needs)
+    (λ c. search needs)
     read-counted-requires
     returns
     same-length

@@ -30,20 +30,8 @@ abbrev μ-loop : tie.MeasureT-loop
 loop-holds : tie.Need-loop-holds Inv-loop μ-loop
 loop-holds c = (omega arith, refl, refl)
 
-shared-slice-read-eight-bits : tie.Need-shared-slice-read-eight-bits Inv-loop μ-loop
-shared-slice-read-eight-bits c = search needs
-
-mul-eight-bits : tie.Need-mul-eight-bits Inv-loop μ-loop
-mul-eight-bits c = search needs
-
 eight-bits-requires : tie.Need-eight-bits-requires Inv-loop μ-loop
 eight-bits-requires c κs = omega arith
-
-add-k : tie.Need-add-k Inv-loop μ-loop
-add-k c = search needs
-
-loop-less : tie.Need-loop-less Inv-loop μ-loop
-loop-less c = search needs
 
 loop-again : tie.Need-loop-again Inv-loop μ-loop
 loop-again c =
@@ -54,12 +42,6 @@ loop-again c =
       ap (λ (x : List ℤ). sets x (8 * (l .k + 1)) (map pos (bitsOf (drop (l .k + 1) (now (a .part)))))) (c .before .eight-bits .ensures)
           ∙ sym (bits-next (now (a .part)) (l .scratch) (l .k) (c .before .before .before .before .loop-test .taken)) ∙ l .inv .2,
     )
-
-mul-spare : tie.Need-mul-spare Inv-loop μ-loop
-mul-spare c = search needs
-
-sub-spare : tie.Need-sub-spare Inv-loop μ-loop
-sub-spare c = search needs
 
 same-length : tie.Need-same-length Inv-loop μ-loop
 same-length c = c .before .before .loop .inv .1
@@ -75,17 +57,8 @@ returns c =
       long = l .inv .1;
     }
 
-sub-last : tie.Need-sub-last Inv-loop μ-loop
-sub-last c = search needs
-
-shared-slice-read-last : tie.Need-shared-slice-read-last Inv-loop μ-loop
-shared-slice-read-last c = search needs
-
 cast-last : tie.Need-cast-last Inv-loop μ-loop
 cast-last c = omega (arith, c .shared-slice-known3 .given (c .before .before .before .loop .k - 1))
-
-shl-unit : tie.Need-shl-unit Inv-loop μ-loop
-shl-unit c = search needs
 
 rem-if2 : tie.Need-rem-if2 Inv-loop μ-loop
 rem-if2 c = unit-some _ (omega arith)
@@ -99,7 +72,8 @@ returns-2 c =
     let a = c .before .before .before .before .before .before .args in
     let n = a .n in
     record {
-      found = content-bits n (now (a .part)) true (spare-test (now (a .part)) n (l .k) (omega arith) (l .inv .0) (omega arith) (omega arith) (c .before .before .if1 .left) ∙ eq-eqb _ 0 (c .if2 .taken))
+      found = content-bits n (now (a .part)) true (spare-test (now (a .part)) n (l .k) (omega arith) (l .inv .0) (omega arith) (omega arith) (c .before .before .if1 .left)
+          ∙ eq-eqb _ 0 (c .if2 .taken))
           ∙ ap good (bits-all (now (a .part)) _ (l .scratch) n (l .k) (omega arith) (omega arith) (omega arith) (l .inv .2));
       within = le-refl _;
       long = l .inv .1;
@@ -114,7 +88,8 @@ returns-3 c =
     let a = c .before .before .before .before .before .before .args in
     let n = a .n in
     record {
-      found = content-bits n (now (a .part)) false (spare-test (now (a .part)) n (l .k) (omega arith) (l .inv .0) (omega arith) (omega arith) (c .before .before .if1 .left) ∙ ne-eqb _ 0 (c .if2 .left));
+      found = content-bits n (now (a .part)) false (spare-test (now (a .part)) n (l .k) (omega arith) (l .inv .0) (omega arith) (omega arith) (c .before .before .if1 .left)
+          ∙ ne-eqb _ 0 (c .if2 .left));
       within = tt;
       long = l .inv .1;
     }
@@ -126,20 +101,20 @@ read-bits-spec =
     Inv-loop
     μ-loop
     loop-holds
-    shared-slice-read-eight-bits
-    mul-eight-bits
+    (λ c. search needs)
+    (λ c. search needs)
     eight-bits-requires
-    add-k
-    loop-less
+    (λ c. search needs)
+    (λ c. search needs)
     loop-again
-    mul-spare
-    sub-spare
+    (λ c. search needs)
+    (λ c. search needs)
     same-length
     returns
-    sub-last
-    shared-slice-read-last
+    (λ c. search needs)
+    (λ c. search needs)
     cast-last
-    shl-unit
+    (λ c. search needs)
     rem-if2
     same-length-2
     returns-2

@@ -26,9 +26,6 @@ abbrev μ-loop : tie.MeasureT-loop
 loop-holds : tie.Need-loop-holds Inv-loop μ-loop
 loop-holds c = (omega arith, refl, onto-none _)
 
-shared-slice-read-b : tie.Need-shared-slice-read-b Inv-loop μ-loop
-shared-slice-read-b c = search needs
-
 same-length : tie.Need-same-length Inv-loop μ-loop
 same-length c = c .before .before .before .loop .inv .1
 
@@ -50,7 +47,8 @@ returns-2 c =
     let l = c .before .before .before .before .loop in
     let a = c .before .before .before .before .before .args in
     record {
-      found = l .inv .2 ∙ read-refused (element Text) beforeNul (now (a .part)) (l .scratch) (l .k) (next-letter _ _ (c .before .before .before .loop-test .taken) (c .before .if1 .left)) 11 (letter-bad _ (c .if2 .taken));
+      found = l .inv .2 ∙ read-refused (element Text) beforeNul (now (a .part)) (l .scratch) (l .k)
+          (next-letter _ _ (c .before .before .before .loop-test .taken) (c .before .if1 .left)) 11 (letter-bad _ (c .if2 .taken));
       within = tt;
       long = l .inv .1;
     }
@@ -58,17 +56,8 @@ returns-2 c =
 cast-scratch : tie.Need-cast-scratch Inv-loop μ-loop
 cast-scratch c = sfits-of (omega (arith, c .if2 .left))
 
-mul-t5 : tie.Need-mul-t5 Inv-loop μ-loop
-mul-t5 c = search needs
-
 slice-set-from-scratch : tie.Need-slice-set-from-scratch Inv-loop μ-loop
 slice-set-from-scratch c = omega arith
-
-add-k : tie.Need-add-k Inv-loop μ-loop
-add-k c = search needs
-
-loop-less : tie.Need-loop-less Inv-loop μ-loop
-loop-less c = search needs
 
 loop-again : tie.Need-loop-again Inv-loop μ-loop
 loop-again c =
@@ -78,7 +67,8 @@ loop-again c =
     let small : b < 2 ^ 63 = omega (arith, c .if2 .left) in (
       omega arith,
       simp length-set (l .inv .1),
-      l .inv .2 ∙ read-more (element Text) beforeNul (now (a .part)) (l .scratch) (l .k) (next-letter _ _ (c .before .before .before .loop-test .taken) (c .before .if1 .left)) _ (omega arith) (letter-good b (c .if2 .left) ∙ ap good (sym (toZ-pos w64 small))),
+      l .inv .2 ∙ read-more (element Text) beforeNul (now (a .part)) (l .scratch) (l .k) (next-letter _ _ (c .before .before .before .loop-test .taken) (c .before .if1 .left)) _
+          (omega arith) (letter-good b (c .if2 .left) ∙ ap good (sym (toZ-pos w64 small))),
     )
 
 same-length-3 : tie.Need-same-length-3 Inv-loop μ-loop
@@ -101,16 +91,16 @@ read-characters-spec =
     Inv-loop
     μ-loop
     loop-holds
-    shared-slice-read-b
+    (λ c. search needs)
     same-length
     returns
     same-length-2
     returns-2
     cast-scratch
-    mul-t5
+    (λ c. search needs)
     slice-set-from-scratch
-    add-k
-    loop-less
+    (λ c. search needs)
+    (λ c. search needs)
     loop-again
     same-length-3
     returns-3)

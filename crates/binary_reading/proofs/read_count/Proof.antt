@@ -6,21 +6,6 @@ use native.Mathlib.Nat.{le-refl}
 use Rattle.binary_reading.proofs.read_count.Statement.{statement}
 use Rattle.binary_reading.proofs.read_count.Tie as tie
 
-enum-known-len : tie.Need-enum-known-len
-enum-known-len c = search needs
-
-enum-known-len-2 : tie.Need-enum-known-len-2
-enum-known-len-2 c = search needs
-
-count-up-to-requires : tie.Need-count-up-to-requires
-count-up-to-requires c κs = search needs
-
-enum-told : tie.Need-enum-told
-enum-told c = search needs
-
-count-up-to-requires-2 : tie.Need-count-up-to-requires-2
-count-up-to-requires-2 c κs = search needs
-
 returns : tie.Need-returns
 unfolding countIn
 returns c = rw (c .before .len .given .1) (record { found = refl; within = (le-refl _, c .before .before .before .before .pre, le-refl _) })
@@ -37,11 +22,11 @@ pub read-count-spec : {M : Type 1} → statement M
 read-count-spec =
     tie.close
     (tie.spec
-    enum-known-len
-    enum-known-len-2
-    count-up-to-requires
-    enum-told
-    count-up-to-requires-2
+    (λ c. search needs)
+    (λ c. search needs)
+    (λ c κs. search needs)
+    (λ c. search needs)
+    (λ c κs. search needs)
     returns
     returns-2
     returns-3)

@@ -12,12 +12,6 @@ use native.Mathlib.Omega.{arith}
 use Rattle.binary_reading.proofs.read_counted.Statement.{statement}
 use Rattle.binary_reading.proofs.read_counted.Tie as tie
 
-content-bytes-requires : tie.Need-content-bytes-requires
-content-bytes-requires c κs = search needs
-
-sub-if1 : tie.Need-sub-if1
-sub-if1 c = search needs
-
 returns : tie.Need-returns
 returns c =
     let a = c .before .before .before .args in
@@ -27,46 +21,30 @@ returns c =
       long = refl;
     }
 
-add-next : tie.Need-add-next
-add-next c = search needs
-
 returns-2 : tie.Need-returns-2
 returns-2 c =
     let a = c .before .before .before .before .args in
     record {
-      found = counted-flagged (a .column) (a .flagged) (a .n) (a .at) (c .before .before .content-bytes .result) (now (a .s)) (c .before .before .content-bytes .ensures .0) (c .before .if1 .left) (c .if2 .taken);
+      found = counted-flagged (a .column) (a .flagged) (a .n) (a .at) (c .before .before .content-bytes .result) (now (a .s)) (c .before .before .content-bytes .ensures .0)
+          (c .before .if1 .left) (c .if2 .taken);
       within = (omega arith, omega (arith, c .before .if1 .left));
       long = refl;
     }
 
-sub-read-content : tie.Need-sub-read-content
-sub-read-content c = search needs
-
-part-read-content-start : tie.Need-part-read-content-start
-part-read-content-start c = search needs
-
-part-read-content-end : tie.Need-part-read-content-end
-part-read-content-end c = search needs
-
 read-content-requires : tie.Need-read-content-requires
 read-content-requires c κs =
     let a = c .before .before .before .before .before .before .args in
-    let z = c .before .before .before .before .content-bytes in
-    (part-length (now (a .s)) (a .at) (z .result) (c .before .before .before .if1 .left) ∙ z .ensures .0, c .before .before .before .before .before .before .pre .1, c .before .before .before .before .before .before .pre .2)
-
-enum-known-content : tie.Need-enum-known-content
-enum-known-content c = search needs
-
-enum-known-content-2 : tie.Need-enum-known-content-2
-enum-known-content-2 c = search needs
-
-null-element-requires : tie.Need-null-element-requires
-null-element-requires c κs = search needs
+    let z = c .before .before .before .before .content-bytes in (
+      part-length (now (a .s)) (a .at) (z .result) (c .before .before .before .if1 .left) ∙ z .ensures .0,
+      c .before .before .before .before .before .before .pre .1,
+      c .before .before .before .before .before .before .pre .2,
+    )
 
 is-null-requires : tie.Need-is-null-requires
 is-null-requires c κs =
     let rc = c .before .before .before .before .before .before .read-content in
-    let w = subst (ContentWithin (c .before .before .before .before .before .before .before .before .before .before .before .before .before .args .n)) (c .before .before .before .content2 .given .1) (rc .ensures .within) in
+    let w = subst (ContentWithin (c .before .before .before .before .before .before .before .before .before .before .before .before .before .args .n))
+    (c .before .before .before .content2 .given .1) (rc .ensures .within) in
     omega (arith, w, rc .ensures .long, c .before .before .before .before .before .before .before .before .before .before .before .before .before .pre)
 
 same-length : tie.Need-same-length
@@ -81,7 +59,8 @@ returns-3 c =
     let g = c .before .content .given .1 in
     let s = now (a .s) in
     record {
-      found = counted-bad (a .column) (a .flagged) (a .n) (a .at) (z .result) s (z .ensures .0) (c .before .before .before .before .before .before .before .before .if1 .left) (c .before .before .before .before .before .before .before .if2 .left) _ (part-is s (a .at) (z .result)) _ (rc .ensures .found ∙ ap (contentAs x) g);
+      found = counted-bad (a .column) (a .flagged) (a .n) (a .at) (z .result) s (z .ensures .0) (c .before .before .before .before .before .before .before .before .if1 .left)
+          (c .before .before .before .before .before .before .before .if2 .left) _ (part-is s (a .at) (z .result)) _ (rc .ensures .found ∙ ap (contentAs x) g);
       within = tt;
       long = rc .ensures .long;
     }
@@ -100,8 +79,18 @@ returns-4 c =
     let m = c .before .before .before .before .before .content2 .given .0 .0 in
     let n = sym (c .before .is-null .ensures ∙ ap (λ (o : Option ℤ). isNullList o (take m x)) (c .before .before .before .null-element .ensures)) ∙ c .if3 .taken in
     record {
-      found = counted-null (a .column) (a .flagged) (a .n) (a .at) (z .result) s (z .ensures .0) (c .before .before .before .before .before .before .before .before .before .before .before .before .if1 .left) (c .before .before .before .before .before .before .before .before .before .before .before .if2 .left) _ (part-is s (a .at) (z .result)) (take m x) (rc .ensures .found ∙ ap (contentAs x) g) n;
-      within = (omega arith, omega (arith, c .before .before .before .before .before .before .before .before .before .before .before .before .if1 .left, c .before .before .before .before .before .before .before .before .before .before .before .before .before .before .before .pre));
+      found = counted-null (a .column) (a .flagged) (a .n) (a .at) (z .result) s (z .ensures .0)
+          (c .before .before .before .before .before .before .before .before .before .before .before .before .if1 .left)
+          (c .before .before .before .before .before .before .before .before .before .before .before .if2 .left) _ (part-is s (a .at) (z .result)) (take m x)
+          (rc .ensures .found ∙ ap (contentAs x) g) n;
+      within = (
+        omega arith,
+        omega (
+          arith,
+          c .before .before .before .before .before .before .before .before .before .before .before .before .if1 .left,
+          c .before .before .before .before .before .before .before .before .before .before .before .before .before .before .before .pre,
+        ),
+      );
       long = rc .ensures .long;
     }
 
@@ -120,8 +109,24 @@ returns-5 c =
     let m = c .before .before .before .before .before .content2 .given .0 .0 in
     let n = sym (c .before .is-null .ensures ∙ ap (λ (o : Option ℤ). isNullList o (take m x)) (c .before .before .before .null-element .ensures)) ∙ c .if3 .left in
     record {
-      found = counted-shown (a .column) (a .flagged) (a .n) (a .at) (z .result) s (z .ensures .0) (c .before .before .before .before .before .before .before .before .before .before .before .before .if1 .left) (c .before .before .before .before .before .before .before .before .before .before .before .if2 .left) _ (part-is s (a .at) (z .result)) (take m x) (rc .ensures .found ∙ ap (contentAs x) g) n;
-      within = (omega arith, omega (arith, c .before .before .before .before .before .before .before .before .before .before .before .before .if1 .left, c .before .before .before .before .before .before .before .before .before .before .before .before .before .before .before .pre), omega (arith, w, rc .ensures .long, c .before .before .before .before .before .before .before .before .before .before .before .before .before .before .before .pre));
+      found = counted-shown (a .column) (a .flagged) (a .n) (a .at) (z .result) s (z .ensures .0)
+          (c .before .before .before .before .before .before .before .before .before .before .before .before .if1 .left)
+          (c .before .before .before .before .before .before .before .before .before .before .before .if2 .left) _ (part-is s (a .at) (z .result)) (take m x)
+          (rc .ensures .found ∙ ap (contentAs x) g) n;
+      within = (
+        omega arith,
+        omega (
+          arith,
+          c .before .before .before .before .before .before .before .before .before .before .before .before .if1 .left,
+          c .before .before .before .before .before .before .before .before .before .before .before .before .before .before .before .pre,
+        ),
+        omega (
+          arith,
+          w,
+          rc .ensures .long,
+          c .before .before .before .before .before .before .before .before .before .before .before .before .before .before .before .pre,
+        ),
+      );
       long = rc .ensures .long;
     }
 
@@ -129,18 +134,18 @@ pub read-counted-spec : {M : Type 1} → statement M
 read-counted-spec =
     tie.close
     (tie.spec
-    content-bytes-requires
-    sub-if1
+    (λ c κs. search needs)
+    (λ c. search needs)
     returns
-    add-next
+    (λ c. search needs)
     returns-2
-    sub-read-content
-    part-read-content-start
-    part-read-content-end
+    (λ c. search needs)
+    (λ c. search needs)
+    (λ c. search needs)
     read-content-requires
-    enum-known-content
-    enum-known-content-2
-    null-element-requires
+    (λ c. search needs)
+    (λ c. search needs)
+    (λ c κs. search needs)
     is-null-requires
     same-length
     returns-3

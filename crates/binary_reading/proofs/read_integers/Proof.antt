@@ -26,9 +26,6 @@ abbrev μ-loop : tie.MeasureT-loop
 μ-loop part n kind scratch₀ w k₀ scratch k =
     n - k
 
-integer-bytes-requires : tie.Need-integer-bytes-requires Inv-loop μ-loop
-integer-bytes-requires c κs = search needs
-
 loop-holds : tie.Need-loop-holds Inv-loop μ-loop
 loop-holds c = (omega arith, refl, ap (sets _ 0) (integers-start _ _ _ _))
 
@@ -44,17 +41,8 @@ read-integer-requires c κs =
     let a = c .before .before .before .before .args in
     rw (c .before .before .integer-bytes .ensures .0) (place-fits (c .before .loop .k) (a .n) (size (a .kind)) _ (c .loop-test .taken) (c .before .before .before .before .pre .0))
 
-mul-z : tie.Need-mul-z Inv-loop μ-loop
-mul-z c = search needs
-
 slice-set-from-z : tie.Need-slice-set-from-z Inv-loop μ-loop
 slice-set-from-z c = omega arith
-
-add-k : tie.Need-add-k Inv-loop μ-loop
-add-k c = search needs
-
-loop-less : tie.Need-loop-less Inv-loop μ-loop
-loop-less c = search needs
 
 loop-again : tie.Need-loop-again Inv-loop μ-loop
 loop-again c =
@@ -84,14 +72,14 @@ read-integers-spec =
     (tie.spec
     Inv-loop
     μ-loop
-    integer-bytes-requires
+    (λ c κs. search needs)
     loop-holds
     mul-read-integer
     read-integer-requires
-    mul-z
+    (λ c. search needs)
     slice-set-from-z
-    add-k
-    loop-less
+    (λ c. search needs)
+    (λ c. search needs)
     loop-again
     same-length
     returns)

@@ -29,12 +29,6 @@ abbrev μ-loop : tie.MeasureT-loop
 loop-holds : tie.Need-loop-holds Inv-loop μ-loop
 loop-holds c = (omega arith, refl, onto-none _)
 
-shared-slice-read-truth-of : tie.Need-shared-slice-read-truth-of Inv-loop μ-loop
-shared-slice-read-truth-of c = search needs
-
-truth-of-requires : tie.Need-truth-of-requires Inv-loop μ-loop
-truth-of-requires c κs = search needs
-
 same-length : tie.Need-same-length Inv-loop μ-loop
 same-length c = c .before .before .before .before .loop .inv .1
 
@@ -43,7 +37,8 @@ returns c =
     let l = c .before .before .before .before .loop in
     let a = c .before .before .before .before .before .before .args in
     record {
-      found = l .inv .2 ∙ read-refused (element Truths) (λ (s : List ℕ). s) (now (a .part)) (l .scratch) (l .k) (next-byte _ _ (c .before .before .before .loop-test .taken)) 11 (c .before .truth-of .ensures ∙ rw (le-ltb _ 3 (c .if1 .taken)));
+      found = l .inv .2 ∙ read-refused (element Truths) (λ (s : List ℕ). s) (now (a .part)) (l .scratch) (l .k) (next-byte _ _ (c .before .before .before .loop-test .taken)) 11
+          (c .before .truth-of .ensures ∙ rw (le-ltb _ 3 (c .if1 .taken)));
       within = tt;
       long = l .inv .1;
     }
@@ -51,17 +46,8 @@ returns c =
 cast-scratch : tie.Need-cast-scratch Inv-loop μ-loop
 cast-scratch c = sfits-of (omega arith)
 
-mul-t5 : tie.Need-mul-t5 Inv-loop μ-loop
-mul-t5 c = search needs
-
 slice-set-from-scratch : tie.Need-slice-set-from-scratch Inv-loop μ-loop
 slice-set-from-scratch c = omega arith
-
-add-k : tie.Need-add-k Inv-loop μ-loop
-add-k c = search needs
-
-loop-less : tie.Need-loop-less Inv-loop μ-loop
-loop-less c = search needs
 
 loop-again : tie.Need-loop-again Inv-loop μ-loop
 loop-again c =
@@ -70,7 +56,8 @@ loop-again c =
     let small : c .before .truth-of .result < 3 = omega arith in (
       omega arith,
       simp length-set (l .inv .1),
-      l .inv .2 ∙ read-more (element Truths) (λ (s : List ℕ). s) (now (a .part)) (l .scratch) (l .k) (next-byte _ _ (c .before .before .before .loop-test .taken)) _ (omega arith) (c .before .truth-of .ensures ∙ rw (lt-ltb _ 3 small) (ap good (sym (toZ-pos w64 (omega arith))))),
+      l .inv .2 ∙ read-more (element Truths) (λ (s : List ℕ). s) (now (a .part)) (l .scratch) (l .k) (next-byte _ _ (c .before .before .before .loop-test .taken)) _ (omega arith)
+          (c .before .truth-of .ensures ∙ rw (lt-ltb _ 3 small) (ap good (sym (toZ-pos w64 (omega arith))))),
     )
 
 same-length-2 : tie.Need-same-length-2 Inv-loop μ-loop
@@ -93,15 +80,15 @@ read-truths-spec =
     Inv-loop
     μ-loop
     loop-holds
-    shared-slice-read-truth-of
-    truth-of-requires
+    (λ c. search needs)
+    (λ c κs. search needs)
     same-length
     returns
     cast-scratch
-    mul-t5
+    (λ c. search needs)
     slice-set-from-scratch
-    add-k
-    loop-less
+    (λ c. search needs)
+    (λ c. search needs)
     loop-again
     same-length-2
     returns-2)

@@ -4,18 +4,6 @@ use borrow.Author.Needs.{needs}
 use Rattle.binary_writing.proofs.can_be_empty.Statement.{statement}
 use Rattle.binary_writing.proofs.can_be_empty.Tie as tie
 
-enum-told : tie.Need-enum-told
-enum-told c = search needs
-
-is-char-requires : tie.Need-is-char-requires
-is-char-requires c κs = search needs
-
-enum-told-2 : tie.Need-enum-told-2
-enum-told-2 c = search needs
-
-enum-told-3 : tie.Need-enum-told-3
-enum-told-3 c = search needs
-
 returns : tie.Need-returns
 unfolding canBeEmpty
 returns c = rw (c .before .enum-told .given .1) (c .is-char .ensures)
@@ -31,4 +19,4 @@ returns-3 c = rw (c .enum-told3 .given .1)
 pub can-be-empty-spec : {M : Type 1} → statement M
 can-be-empty-spec =
     tie.close
-    (tie.spec enum-told is-char-requires enum-told-2 enum-told-3 returns returns-2 returns-3)
+    (tie.spec (λ c. search needs) (λ c κs. search needs) (λ c. search needs) (λ c. search needs) returns returns-2 returns-3)

@@ -7,32 +7,14 @@ use native.Mathlib.Omega.{arith}
 use Rattle.binary_writing.proofs.elements_size.Statement.{statement}
 use Rattle.binary_writing.proofs.elements_size.Tie as tie
 
-enum-known-len : tie.Need-enum-known-len
-enum-known-len c = search needs
-
-is-char-requires : tie.Need-is-char-requires
-is-char-requires c κs = search needs
-
 content-bytes-requires : tie.Need-content-bytes-requires
 content-bytes-requires c κs = omega arith
-
-enum-told : tie.Need-enum-told
-enum-told c = search needs
 
 content-bytes-requires-2 : tie.Need-content-bytes-requires-2
 content-bytes-requires-2 c κs = omega arith
 
-add-result : tie.Need-add-result
-add-result c = search needs
-
-enum-told-2 : tie.Need-enum-told-2
-enum-told-2 c = search needs
-
 content-bytes-requires-3 : tie.Need-content-bytes-requires-3
 content-bytes-requires-3 c κs = omega arith
-
-add-result-2 : tie.Need-add-result-2
-add-result-2 c = search needs
 
 returns : tie.Need-returns
 returns c = sym (elements-fixed _ _ _ (c .before .before .before .len .given .1) ∙ filled-char _ _ _ (sym (c .before .is-char .ensures) ∙ c .if1 .taken))
@@ -52,15 +34,15 @@ pub elements-size-spec : {M : Type 1} → statement M
 elements-size-spec =
     tie.close
     (tie.spec
-    enum-known-len
-    is-char-requires
+    (λ c. search needs)
+    (λ c κs. search needs)
     content-bytes-requires
-    enum-told
+    (λ c. search needs)
     content-bytes-requires-2
-    add-result
-    enum-told-2
+    (λ c. search needs)
+    (λ c. search needs)
     content-bytes-requires-3
-    add-result-2
+    (λ c. search needs)
     returns
     returns-2
     returns-3

@@ -12,22 +12,10 @@ use mathlib.Core.Path.{_∙_, ap, sym}
 use Rattle.binary_writing.proofs.null_size.Statement.{statement}
 use Rattle.binary_writing.proofs.null_size.Tie as tie
 
-null-element-requires : tie.Need-null-element-requires
-null-element-requires c κs = search needs
-
-enum-told : tie.Need-enum-told
-enum-told c = search needs
-
 elements-size-requires : tie.Need-elements-size-requires
 elements-size-requires c κs =
     let q = sym (c .before .before .null-element .ensures) ∙ ap nullAs (c .enum-told .given .1) in
     (c .before .before .before .pre, null-bound _ _ q)
-
-enum-told-2 : tie.Need-enum-told-2
-enum-told-2 c = search needs
-
-can-be-empty-requires : tie.Need-can-be-empty-requires
-can-be-empty-requires c κs = search needs
 
 room-size-requires : tie.Need-room-size-requires
 room-size-requires c κs = (c .before .before .before .before .before .pre, zero-le)
@@ -55,11 +43,11 @@ pub null-size-spec : {M : Type 1} → statement M
 null-size-spec =
     tie.close
     (tie.spec
-    null-element-requires
-    enum-told
+    (λ c κs. search needs)
+    (λ c. search needs)
     elements-size-requires
-    enum-told-2
-    can-be-empty-requires
+    (λ c. search needs)
+    (λ c κs. search needs)
     room-size-requires
     returns
     returns-2

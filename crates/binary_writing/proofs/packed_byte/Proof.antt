@@ -33,29 +33,8 @@ loop-holds c = (omega arith, lit< tt, let e : c .args .m - 0 ≡ c .args .m = su
 mul-b : tie.Need-mul-b Inv-loop μ-loop
 mul-b c = omega (arith, few-bits (c .before .loop .j) (omega arith), c .before .loop .inv .1)
 
-add-bit-of : tie.Need-add-bit-of Inv-loop μ-loop
-add-bit-of c = search needs
-
-mul-bit-of : tie.Need-mul-bit-of Inv-loop μ-loop
-mul-bit-of c = search needs
-
-shared-slice-copy-out-bit-of : tie.Need-shared-slice-copy-out-bit-of Inv-loop μ-loop
-shared-slice-copy-out-bit-of c = search needs
-
-bit-of-requires : tie.Need-bit-of-requires Inv-loop μ-loop
-bit-of-requires c κs = search needs
-
-cast-b : tie.Need-cast-b Inv-loop μ-loop
-cast-b c = search needs
-
 add-b : tie.Need-add-b Inv-loop μ-loop
 add-b c = omega (arith, few-bits (c .before .before .before .loop .j) (omega arith), c .before .before .before .loop .inv .1, c .bit-of .ensures .1)
-
-add-j : tie.Need-add-j Inv-loop μ-loop
-add-j c = search needs
-
-loop-less : tie.Need-loop-less Inv-loop μ-loop
-loop-less c = search needs
 
 loop-again : tie.Need-loop-again Inv-loop μ-loop
 loop-again c =
@@ -67,12 +46,6 @@ loop-again c =
       bits-grow (l .j) (l .b) _ (l .inv .1) (c .bit-of .ensures .1),
       sym (packed-next (now (a .scratch)) (a .m) (l .j) (a .at) (l .b) _ (pos 0) (c .before .before .loop-test .taken) (omega arith) (c .bit-of .ensures .0 ∙ ap bitOf e)) ∙ l .inv .2,
     )
-
-sub-result : tie.Need-sub-result Inv-loop μ-loop
-sub-result c = search needs
-
-shl-result : tie.Need-shl-result Inv-loop μ-loop
-shl-result c = search needs
 
 cast-result : tie.Need-cast-result Inv-loop μ-loop
 cast-result c =
@@ -100,16 +73,16 @@ packed-byte-spec =
     μ-loop
     loop-holds
     mul-b
-    add-bit-of
-    mul-bit-of
-    shared-slice-copy-out-bit-of
-    bit-of-requires
-    cast-b
+    (λ c. search needs)
+    (λ c. search needs)
+    (λ c. search needs)
+    (λ c κs. search needs)
+    (λ c. search needs)
     add-b
-    add-j
-    loop-less
+    (λ c. search needs)
+    (λ c. search needs)
     loop-again
-    sub-result
-    shl-result
+    (λ c. search needs)
+    (λ c. search needs)
     cast-result
     returns)

@@ -19,15 +19,6 @@ use native.Mathlib.Omega.{arith}
 use Rattle.binary_writing.proofs.put_binary_null.Statement.{statement}
 use Rattle.binary_writing.proofs.put_binary_null.Tie as tie
 
-null-element-requires : tie.Need-null-element-requires
-null-element-requires c κs = search needs
-
-enum-known-null : tie.Need-enum-known-null
-enum-known-null c = search needs
-
-slice-aggregate-put-elements : tie.Need-slice-aggregate-put-elements
-slice-aggregate-put-elements c = search needs
-
 put-elements-requires : tie.Need-put-elements-requires
 put-elements-requires c κs =
     let a = c .before .before .before .before .before .before .before .args in
@@ -39,18 +30,20 @@ put-elements-requires c κs =
       rw e (omega (arith, p .1, ap (λ (r : Result ℕ (List ℕ)). length (formBytes r)) (null-some (a .column) z q))),
     )
 
-enum-told : tie.Need-enum-told
-enum-told c = search needs
-
-can-be-empty-requires : tie.Need-can-be-empty-requires
-can-be-empty-requires c κs = search needs
-
 put-null-requires : tie.Need-put-null-requires
 put-null-requires c κs =
     let a = c .before .before .before .before .before .before .before .args in
     let q = sym (c .before .before .before .before .before .null-element .ensures) ∙ ap nullAs (c .before .before .before .enum-told .given .1) in
-    let e = sym (c .before .before .can-be-empty .ensures) ∙ c .before .if1 .taken in
-    (c .before .before .before .before .before .before .before .pre .0, omega (arith, c .before .before .before .before .before .before .before .pre .1, ap (λ (r : Result ℕ (List ℕ)). length (formBytes r)) (null-empty (a .column) q e), ap length (empty-zeros (a .column) e)))
+    let e = sym (c .before .before .can-be-empty .ensures) ∙ c .before .if1 .taken in (
+      c .before .before .before .before .before .before .before .pre .0,
+      omega (
+        arith,
+        c .before .before .before .before .before .before .before .pre .1,
+        ap
+            (λ (r : Result ℕ (List ℕ)). length (formBytes r)) (null-empty (a .column) q e),
+        ap length (empty-zeros (a .column) e),
+      ),
+    )
 
 same-length : tie.Need-same-length
 same-length c = c .before .before .put-elements .kept .1 .1 .1 .0
@@ -83,12 +76,12 @@ pub put-binary-null-spec : {M : Type 1} → statement M
 put-binary-null-spec =
     tie.close
     (tie.spec
-    null-element-requires
-    enum-known-null
-    slice-aggregate-put-elements
+    (λ c κs. search needs)
+    (λ c. search needs)
+    (λ c. search needs)
     put-elements-requires
-    enum-told
-    can-be-empty-requires
+    (λ c. search needs)
+    (λ c κs. search needs)
     put-null-requires
     same-length
     returns

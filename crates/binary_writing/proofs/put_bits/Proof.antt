@@ -114,7 +114,8 @@ returns-2 c =
     let k : l .k ≡ a .count / 8 = omega arith in
     let left = pack-left (now (a .scratch)) (a .count / 8) (a .count) (a .count % 8) _ (c .before .before .before .before .before .pre .1) (omega arith) p (omega arith) (c .packed-byte2 .ensures) in
     record {
-      now-is = ap (sets (l .out) (a .at + a .count / 8)) (sym left) ∙ ap (λ (j : ℕ). sets (l .out) (a .at + j) (pack (drop (8 * j) (map bitOf (take (a .count) (now (a .scratch))))))) (sym k) ∙ l .inv .2;
+      now-is = ap (sets (l .out) (a .at + a .count / 8)) (sym left) ∙ ap (λ (j : ℕ). sets (l .out) (a .at + j) (pack (drop (8 * j) (map bitOf (take (a .count) (now (a .scratch)))))))
+          (sym k) ∙ l .inv .2;
       next-is = omega (arith, p, length-packed-bits (a .count) (now (a .scratch)) (c .before .before .before .before .before .pre .1));
     }
 

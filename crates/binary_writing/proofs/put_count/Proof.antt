@@ -8,23 +8,8 @@ use native.Mathlib.Omega.{arith}
 use Rattle.binary_writing.proofs.put_count.Statement.{statement}
 use Rattle.binary_writing.proofs.put_count.Tie as tie
 
-enum-told : tie.Need-enum-told
-enum-told c = search needs
-
-enum-told-2 : tie.Need-enum-told-2
-enum-told-2 c = search needs
-
-cast-put-four : tie.Need-cast-put-four
-cast-put-four c = search needs
-
 put-four-requires : tie.Need-put-four-requires
 put-four-requires c κs = omega (arith, count-bounded _ _ (c .before .before .before .before .args .count) (c .before .enum-told2 .given .1), c .before .before .before .before .pre .0)
-
-enum-told-3 : tie.Need-enum-told-3
-enum-told-3 c = search needs
-
-cast-put-four-2 : tie.Need-cast-put-four-2
-cast-put-four-2 c = search needs
 
 put-four-requires-2 : tie.Need-put-four-requires-2
 put-four-requires-2 c κs = omega (arith, count-free _ (c .before .before .before .before .args .count) (c .before .enum-told3 .given .1), c .before .before .before .before .pre .0)
@@ -33,15 +18,9 @@ returns : tie.Need-returns
 unfolding countBytes
 returns c = rw (c .enum-told .given .1) (record { now-is = refl; next-is = sym (add-zero _) })
 
-same-length : tie.Need-same-length
-same-length c = search needs
-
 returns-2 : tie.Need-returns-2
 unfolding countBytes
 returns-2 c = rw (c .before .before .before .before .enum-told2 .given .1) (c .before .before .put-four .ensures)
-
-same-length-2 : tie.Need-same-length-2
-same-length-2 c = search needs
 
 returns-3 : tie.Need-returns-3
 unfolding countBytes
@@ -51,15 +30,15 @@ pub put-count-spec : {M : Type 1} → statement M
 put-count-spec =
     tie.close
     (tie.spec
-    enum-told
-    enum-told-2
-    cast-put-four
+    (λ c. search needs)
+    (λ c. search needs)
+    (λ c. search needs)
     put-four-requires
-    enum-told-3
-    cast-put-four-2
+    (λ c. search needs)
+    (λ c. search needs)
     put-four-requires-2
     returns
-    same-length
+    (λ c. search needs)
     returns-2
-    same-length-2
+    (λ c. search needs)
     returns-3)

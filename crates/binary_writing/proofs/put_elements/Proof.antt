@@ -13,9 +13,6 @@ use native.Mathlib.Omega.{arith}
 use Rattle.binary_writing.proofs.put_elements.Statement.{statement}
 use Rattle.binary_writing.proofs.put_elements.Tie as tie
 
-room-in-requires : tie.Need-room-in-requires
-room-in-requires c κs = search needs
-
 put-count-requires : tie.Need-put-count-requires
 unfolding elementsSize
 put-count-requires c κs =
@@ -42,9 +39,11 @@ same-length c = c .before .before .put-content .kept .1 .1 .1 .1 .0 ∙ c .befor
 returns : tie.Need-returns
 returns c =
     let a = c .before .before .before .before .before .before .before .before .before .before .args in
-    wrote-as (elements-as (a .column) (a .count) _ (now (a .scratch)) (c .before .before .before .before .before .before .before .before .before .before .pre .0 .2) (c .before .before .before .before .before .before .before .before .room-in .ensures)) (wrote-then (c .before .before .before .before .before .before .put-count .ensures) (c .before .before .put-content .ensures))
+    wrote-as (elements-as (a .column) (a .count) _ (now (a .scratch)) (c .before .before .before .before .before .before .before .before .before .before .pre .0 .2)
+    (c .before .before .before .before .before .before .before .before .room-in .ensures))
+    (wrote-then (c .before .before .before .before .before .before .put-count .ensures) (c .before .before .put-content .ensures))
 
 pub put-elements-spec : {M : Type 1} → statement M
 put-elements-spec =
     tie.close
-    (tie.spec room-in-requires put-count-requires put-content-requires same-length returns)
+    (tie.spec (λ c κs. search needs) put-count-requires put-content-requires same-length returns)

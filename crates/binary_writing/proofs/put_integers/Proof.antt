@@ -34,26 +34,26 @@ abbrev μ-loop : tie.MeasureT-loop
 
 loop-holds : tie.Need-loop-holds Inv-loop μ-loop
 loop-holds c =
-    let a = c .before .args in
-    (omega arith, let e : a .at ≡ a .at + 0 * size (a .kind) = sym (ap (λ (k : ℕ). a .at + k) (zero-mul (size (a .kind))) ∙ add-zero (a .at)) in e, refl, let e : a .count - 0 ≡ a .count = sub-zero _ in rw e)
-
-mul-write-integer : tie.Need-mul-write-integer Inv-loop μ-loop
-mul-write-integer c = search needs
-
-shared-slice-copy-out-write-integer : tie.Need-shared-slice-copy-out-write-integer Inv-loop μ-loop
-shared-slice-copy-out-write-integer c = search needs
+    let a = c .before .args in (
+      omega arith,
+      let e : a .at ≡ a .at + 0 * size (a .kind) = sym (ap (λ (k : ℕ). a .at + k) (zero-mul (size (a .kind))) ∙ add-zero (a .at)) in e,
+      refl,
+      let e : a .count - 0
+          ≡ a .count = sub-zero _ in rw e,
+    )
 
 write-integer-requires : tie.Need-write-integer-requires Inv-loop μ-loop
 write-integer-requires c κs =
     let a = c .before .before .before .before .before .args in
     let l = c .before .before .before .loop in
-    omega (arith, l .inv .1, place-fits (l .k) (a .count) (size (a .kind)) (a .count * size (a .kind)) (c .before .before .loop-test .taken) (le-refl _), c .before .before .before .before .before .pre .0, l .inv .2)
-
-add-k : tie.Need-add-k Inv-loop μ-loop
-add-k c = search needs
-
-loop-less : tie.Need-loop-less Inv-loop μ-loop
-loop-less c = search needs
+    omega (
+      arith,
+      l .inv .1,
+      place-fits (l .k) (a .count) (size (a .kind)) (a .count * size (a .kind)) (c .before .before .loop-test .taken)
+          (le-refl _),
+      c .before .before .before .before .before .pre .0,
+      l .inv .2,
+    )
 
 loop-again : tie.Need-loop-again Inv-loop μ-loop
 loop-again c =
@@ -66,7 +66,8 @@ loop-again c =
       omega arith,
       omega (arith, x .next-is, length-to 256 w (pattern 8 z), l .inv .1),
       ap length (x .now-is) ∙ simp length-sets (l .inv .2),
-      sym (integer-next w (l .out) (now (a .scratch)) (l .o) (l .k) (a .count) _ _ (pos 0) (c .before .before .before .before .before .loop-test .taken) (c .before .before .before .before .before .before .before .before .pre .1) x) ∙ l .inv .3,
+      sym (integer-next w (l .out) (now (a .scratch)) (l .o) (l .k) (a .count) _ _ (pos 0) (c .before .before .before .before .before .loop-test .taken)
+          (c .before .before .before .before .before .before .before .before .pre .1) x) ∙ l .inv .3,
     )
 
 same-length : tie.Need-same-length Inv-loop μ-loop
@@ -81,7 +82,8 @@ returns c =
     let k : l .k ≡ a .count = omega arith in
     record {
       now-is = rw e at (l .inv .3);
-      next-is = l .inv .1 ∙ ap (λ (j : ℕ). a .at + j) (ap (λ (j : ℕ). j * size (a .kind)) k ∙ sym (length-integers-written (size (a .kind)) (a .count) (now (a .scratch)) (c .before .before .before .pre .1)));
+      next-is = l .inv .1 ∙ ap (λ (j : ℕ). a .at + j) (ap (λ (j : ℕ). j * size (a .kind)) k
+          ∙ sym (length-integers-written (size (a .kind)) (a .count) (now (a .scratch)) (c .before .before .before .pre .1)));
     }
 
 pub put-integers-spec : {M : Type 1} → statement M
@@ -91,11 +93,11 @@ put-integers-spec =
     Inv-loop
     μ-loop
     loop-holds
-    mul-write-integer
-    shared-slice-copy-out-write-integer
+    (λ c. search needs)
+    (λ c. search needs)
     write-integer-requires
-    add-k
-    loop-less
+    (λ c. search needs)
+    (λ c. search needs)
     loop-again
     same-length
     returns)

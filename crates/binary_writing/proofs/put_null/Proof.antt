@@ -12,9 +12,6 @@ use native.Mathlib.Omega.{arith}
 use Rattle.binary_writing.proofs.put_null.Statement.{statement}
 use Rattle.binary_writing.proofs.put_null.Tie as tie
 
-room-in-requires : tie.Need-room-in-requires
-room-in-requires c κs = search needs
-
 content-bytes-requires : tie.Need-content-bytes-requires
 content-bytes-requires c κs =
     let a = c .before .before .args in
@@ -31,7 +28,14 @@ unfolding roomSize
 put-zeros-requires c κs =
     let a = c .before .before .before .before .before .before .before .before .args in
     let s = c .before .before .before .before .before .content-bytes .ensures .0 ∙ ap (contentBytes (shape (a .column .kind))) (c .before .before .before .before .before .before .room-in .ensures) in
-    omega (arith, zeros-length (a .column), c .before .before .before .before .before .before .before .before .pre .1, c .before .before .before .put-count .ensures .next-is, c .before .before .before .put-count .kept .1 .1 .0, s)
+    omega (
+      arith,
+      zeros-length (a .column),
+      c .before .before .before .before .before .before .before .before .pre .1,
+      c .before .before .before .put-count .ensures .next-is,
+      c .before .before .before .put-count .kept .1 .1 .0,
+      s,
+    )
 
 same-length : tie.Need-same-length
 same-length c = c .before .before .put-zeros .kept .1 .0 ∙ c .before .before .before .before .before .before .put-count .kept .1 .1 .0
@@ -39,14 +43,15 @@ same-length c = c .before .before .put-zeros .kept .1 .0 ∙ c .before .before .
 returns : tie.Need-returns
 returns c =
     let a = c .before .before .before .before .before .before .before .before .before .before .before .args in
-    let s = c .before .before .before .before .before .before .before .before .content-bytes .ensures .0 ∙ ap (contentBytes (shape (a .column .kind))) (c .before .before .before .before .before .before .before .before .before .room-in .ensures) in
+    let s = c .before .before .before .before .before .before .before .before .content-bytes .ensures .0
+    ∙ ap (contentBytes (shape (a .column .kind))) (c .before .before .before .before .before .before .before .before .before .room-in .ensures) in
     wrote-as (zeros-as (a .column) _ s) (wrote-then (c .before .before .before .before .before .before .put-count .ensures) (c .before .before .put-zeros .ensures))
 
 pub put-null-spec : {M : Type 1} → statement M
 put-null-spec =
     tie.close
     (tie.spec
-    room-in-requires
+    (λ c κs. search needs)
     content-bytes-requires
     put-count-requires
     put-zeros-requires

@@ -30,26 +30,8 @@ loop-holds c =
     let a = c .before .args in
     (omega arith, refl, let e : a .count - 0 ≡ a .count = sub-zero _ in let o : a .at + 0 ≡ a .at = add-zero _ in rw (e, o))
 
-mul-truth-byte : tie.Need-mul-truth-byte Inv-loop μ-loop
-mul-truth-byte c = search needs
-
-shared-slice-copy-out-truth-byte : tie.Need-shared-slice-copy-out-truth-byte Inv-loop μ-loop
-shared-slice-copy-out-truth-byte c = search needs
-
-truth-byte-requires : tie.Need-truth-byte-requires Inv-loop μ-loop
-truth-byte-requires c κs = search needs
-
-add-out : tie.Need-add-out Inv-loop μ-loop
-add-out c = search needs
-
 slice-write-out : tie.Need-slice-write-out Inv-loop μ-loop
 slice-write-out c = omega arith
-
-add-k : tie.Need-add-k Inv-loop μ-loop
-add-k c = search needs
-
-loop-less : tie.Need-loop-less Inv-loop μ-loop
-loop-less c = search needs
 
 loop-again : tie.Need-loop-again Inv-loop μ-loop
 loop-again c =
@@ -61,9 +43,6 @@ loop-again c =
           (c .truth-byte .ensures ∙ ap truthByte (toZ-ofZ {w = w64} (sfits-of (c .before .truth-byte-arg .given))))) ∙ l .inv .2,
     )
 
-add-result : tie.Need-add-result Inv-loop μ-loop
-add-result c = search needs
-
 same-length : tie.Need-same-length Inv-loop μ-loop
 same-length c = c .before .loop .inv .1
 
@@ -72,7 +51,11 @@ returns c =
     let l = c .before .loop in
     let a = c .before .before .before .args in
     let e : a .count - l .k ≡ 0 = omega arith in
-    record { now-is = rw e at (l .inv .2); next-is = ap (λ (k : ℕ). a .at + k) (sym (length-map (take (a .count) (now (a .scratch))) truthByte ∙ length-take-le (a .count) (now (a .scratch)) (c .before .before .before .pre .1))) }
+    record {
+      now-is = rw e at (l .inv .2);
+      next-is = ap (λ (k : ℕ). a .at + k) (sym (length-map (take (a .count) (now (a .scratch))) truthByte
+          ∙ length-take-le (a .count) (now (a .scratch)) (c .before .before .before .pre .1)));
+    }
 
 pub put-truths-spec : {M : Type 1} → statement M
 put-truths-spec =
@@ -81,14 +64,14 @@ put-truths-spec =
     Inv-loop
     μ-loop
     loop-holds
-    mul-truth-byte
-    shared-slice-copy-out-truth-byte
-    truth-byte-requires
-    add-out
+    (λ c. search needs)
+    (λ c. search needs)
+    (λ c κs. search needs)
+    (λ c. search needs)
     slice-write-out
-    add-k
-    loop-less
+    (λ c. search needs)
+    (λ c. search needs)
     loop-again
-    add-result
+    (λ c. search needs)
     same-length
     returns)

@@ -18,22 +18,10 @@ abbrev μ-loop : tie.MeasureT-loop
 μ-loop n out₀ at end o₀ out o =
     end - o
 
-add-end : tie.Need-add-end Inv-loop μ-loop
-add-end c = search needs
-
 loop-holds : tie.Need-loop-holds Inv-loop μ-loop
 loop-holds c =
     let a = c .args in
     (omega arith, omega arith, refl, let e : (a .at + a .n) - a .at ≡ a .n = omega arith in rw e)
-
-slice-write-out : tie.Need-slice-write-out Inv-loop μ-loop
-slice-write-out c = search needs
-
-add-o : tie.Need-add-o Inv-loop μ-loop
-add-o c = search needs
-
-loop-less : tie.Need-loop-less Inv-loop μ-loop
-loop-less c = search needs
 
 loop-again : tie.Need-loop-again Inv-loop μ-loop
 loop-again c =
@@ -56,11 +44,11 @@ put-zeros-spec =
     (tie.spec
     Inv-loop
     μ-loop
-    add-end
+    (λ c. search needs)
     loop-holds
-    slice-write-out
-    add-o
-    loop-less
+    (λ c. search needs)
+    (λ c. search needs)
+    (λ c. search needs)
     loop-again
     same-length
     returns)

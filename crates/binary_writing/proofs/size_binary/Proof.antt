@@ -9,9 +9,6 @@ use mathlib.Core.Path.{_∙_, ap, sym}
 use Rattle.binary_writing.proofs.size_binary.Statement.{statement}
 use Rattle.binary_writing.proofs.size_binary.Tie as tie
 
-null-size-requires : tie.Need-null-size-requires
-null-size-requires c κs = search needs
-
 returns : tie.Need-returns
 returns c =
     let a = c .before .before .args in
@@ -22,9 +19,6 @@ returns-2 c =
     let a = c .before .before .args in
     sym (ap sizeOf (write-empty (a .column) (a .null) (a .count) (now (a .scratch)) (c .before .if1 .left) (c .if2 .taken)))
 
-elements-size-requires : tie.Need-elements-size-requires
-elements-size-requires c κs = search needs
-
 returns-3 : tie.Need-returns-3
 returns-3 c =
     let a = c .before .before .before .args in
@@ -34,4 +28,4 @@ returns-3 c =
 
 pub size-binary-spec : {M : Type 1} → statement M
 size-binary-spec =
-    tie.close (tie.spec null-size-requires returns returns-2 elements-size-requires returns-3)
+    tie.close (tie.spec (λ c κs. search needs) returns returns-2 (λ c κs. search needs) returns-3)

@@ -8,16 +8,10 @@ use mathlib.Core.Path.{_∙_, ap, sym}
 use Rattle.binary_writing.proofs.size_binary2.Statement.{statement}
 use Rattle.binary_writing.proofs.size_binary2.Tie as tie
 
-room-size-requires : tie.Need-room-size-requires
-room-size-requires c κs = search needs
-
 returns : tie.Need-returns
 returns c =
     let a = c .before .before .args in
     c .room-size .ensures ∙ sym (ap length (write2-null (a .column) (a .null) (a .count) (now (a .scratch)) (c .before .if1 .taken)) ∙ zeros-length (a .column))
-
-elements-size-requires : tie.Need-elements-size-requires
-elements-size-requires c κs = search needs
 
 returns-2 : tie.Need-returns-2
 returns-2 c =
@@ -28,4 +22,4 @@ returns-2 c =
 
 pub size-binary2-spec : {M : Type 1} → statement M
 size-binary2-spec =
-    tie.close (tie.spec room-size-requires returns elements-size-requires returns-2)
+    tie.close (tie.spec (λ c κs. search needs) returns (λ c κs. search needs) returns-2)

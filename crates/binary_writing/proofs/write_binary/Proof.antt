@@ -15,8 +15,15 @@ use Rattle.binary_writing.proofs.write_binary.Tie as tie
 
 put-binary-null-requires : tie.Need-put-binary-null-requires
 put-binary-null-requires c κs =
-    let a = c .before .before .before .args in
-    (c .before .before .before .pre .0 .0, omega (arith, c .before .before .before .pre .1, ap (λ (r : Result ℕ (List ℕ)). length (formBytes r)) (write-null (a .column) (a .null) (a .count) (now (a .scratch)) (c .before .if1 .taken))))
+    let a = c .before .before .before .args in (
+      c .before .before .before .pre .0 .0,
+      omega (
+        arith,
+        c .before .before .before .pre .1,
+        ap (λ (r : Result ℕ (List ℕ)). length (formBytes r))
+            (write-null (a .column) (a .null) (a .count) (now (a .scratch)) (c .before .if1 .taken)),
+      ),
+    )
 
 same-length : tie.Need-same-length
 same-length c = c .before .before .put-binary-null .kept .1 .0
@@ -34,8 +41,15 @@ returns-2 c =
 put-elements-requires : tie.Need-put-elements-requires
 put-elements-requires c κs =
     let a = c .before .before .before .before .args in
-    let p = c .before .before .before .before .pre in
-    (p .0, omega (arith, p .1, ap (λ (r : Result ℕ (List ℕ)). length (formBytes r)) (write-shown (a .column) (a .null) (a .count) (now (a .scratch)) (c .before .before .if1 .left) (c .before .if2 .left) (p .0 .2))))
+    let p = c .before .before .before .before .pre in (
+      p .0,
+      omega (
+        arith,
+        p .1,
+        ap (λ (r : Result ℕ (List ℕ)). length (formBytes r)) (write-shown (a .column) (a .null) (a .count) (now (a .scratch)) (c .before .before .if1 .left)
+            (c .before .if2 .left) (p .0 .2)),
+      ),
+    )
 
 same-length-2 : tie.Need-same-length-2
 same-length-2 c = c .before .before .put-elements .kept .1 .1 .1 .0
@@ -43,7 +57,8 @@ same-length-2 c = c .before .before .put-elements .kept .1 .1 .1 .0
 returns-3 : tie.Need-returns-3
 returns-3 c =
     let a = c .before .before .before .before .before .before .before .args in
-    wrote-as (sym (ap formBytes (write-shown (a .column) (a .null) (a .count) (now (a .scratch)) (c .before .before .before .before .before .if1 .left) (c .before .before .before .before .if2 .left) (c .before .before .before .before .before .before .before .pre .0 .2)))) (c .before .before .put-elements .ensures)
+    wrote-as (sym (ap formBytes (write-shown (a .column) (a .null) (a .count) (now (a .scratch)) (c .before .before .before .before .before .if1 .left)
+    (c .before .before .before .before .if2 .left) (c .before .before .before .before .before .before .before .pre .0 .2)))) (c .before .before .put-elements .ensures)
 
 pub write-binary-spec : {M : Type 1} → statement M
 write-binary-spec =

@@ -337,7 +337,8 @@ put-row-requires c κs =
         within b .1,
         omega (arith, scratch-long b _ (l .inv .3)),
         subst (HeldReady (listed (cols-at r)) (l .scratch)) h
-            (held-ready (from-at r) (to-at r) (cols-at r) (flags-at b) (s-at r) (body-at b) (l .at) (l .i) (l .inv .0) (l .scratch) (l .m) (l .inv .1) (listed-length (cols-at r)) (a .loop-test .left)),
+            (held-ready (from-at r) (to-at r) (cols-at r) (flags-at b) (s-at r) (body-at b) (l .at) (l .i) (l .inv .0) (l .scratch) (l .m) (l .inv .1) (listed-length (cols-at r))
+            (a .loop-test .left)),
       ),
       subst (λ (y : Holding). r .rows .p .bytes + length (row-held f y) ≤ length (r .rows .out)) h (omega (arith, size-at f, c .before .before .before .if3 .left, r .rows .inv .0 .room)),
     )
@@ -346,8 +347,7 @@ after-requires-2 : tie.Need-after-requires-2 Inv-loop μ-loop Inv-rows μ-rows
 after-requires-2 c κs =
     let f = c .before .before .before .before .before .before .before .before .before .before .before in
     let r = rows-of (begun-of (ended-of f)) in
-    let o = onward (ended-of f) in
-    (
+    let o = onward (ended-of f) in (
       omega (arith, c .before .before .before .before .before .before .before .before .if3 .left, r .rows .inv .0 .room, r .rows .inv .0 .long, begin r .good),
       omega (arith, r .rows .inv .0 .fewer, o .0, o .1, begin r .good),
     )
@@ -458,9 +458,10 @@ returns-5 c =
     let r = rows-of b in
     let a = all-of e in
     let l = a .before .loop in
-    let q = row-cannot (from-at r) (to-at r) (cols-at r) (flags-at b) (s-at r) (body-at b) (l .at) (l .i) (l .inv .0) (l .scratch) (l .m) (l .inv .1) (listed-length (cols-at r)) (a .loop-test .left) (c .if2 .taken) in
+    let q = row-cannot (from-at r) (to-at r) (cols-at r) (flags-at b) (s-at r) (body-at b) (l .at) (l .i) (l .inv .0) (l .scratch) (l .m) (l .inv .1) (listed-length (cols-at r))
+    (a .loop-test .left) (c .if2 .taken) in
     let d = write-refusal (from-at r) (to-at r) (listed (cols-at r)) (are r) (s-at r) (out-at r) (r .rows .out) (r .rows .cursor) (r .rows .p) (r .rows .inv .0) (left (left-of b))
-        (l .inv .0 .acc) _ (whole e) _ q in
+    (l .inv .0 .acc) _ (whole e) _ q in
     (d .answers, d .leaves)
 
 same-length-11 : tie.Need-same-length-11 Inv-loop μ-loop Inv-rows μ-rows

@@ -153,7 +153,7 @@ returns-3 c =
             (subst (λ (m : List ℤ). sizeAs (c .before .size-cell2 .result) ≡ sizeOf (writeCell (a .args .to) (a .args .column) (shown (take (count k) m)))) (part k)
             (c .before .size-cell2 .ensures .0)) refl (omega (arith, t, most k))
             (keep (place k) (old k) (read k) (fits k) (same k) (toZ w64 (count k)) (count k) x (counted k) (few k) (a .args .m .held) (c .after2 .result .held)
-                (k .before .before .before .before .before .before .place-for .ensures .1) (c .after2 .ensures .holds) (c .after2 .ensures .lost)),
+            (k .before .before .before .before .before .before .place-for .ensures .1) (c .after2 .ensures .holds) (c .after2 .ensures .lost)),
       ),
       long k,
     )

@@ -21,34 +21,13 @@ Inv-loop text columns₀ at₀ k₀ columns at k = (at ≤ length text) × (k �
 abbrev μ-loop : tie.MeasureT-loop
 μ-loop text columns₀ at₀ k₀ columns at k = length text - at
 
-refuse-requires : tie.Need-refuse-requires Inv-loop μ-loop
-refuse-requires c κs = search needs
-
 returns : tie.Need-returns Inv-loop μ-loop
 returns c = c .refuse .ensures ∙ ap answered (sym (too-long _ (c .before .if1 .taken)))
-
-no-columns-requires : tie.Need-no-columns-requires Inv-loop μ-loop
-no-columns-requires c κs = search needs
-
-skip-white-requires : tie.Need-skip-white-requires Inv-loop μ-loop
-skip-white-requires c κs = search needs
 
 loop-holds : tie.Need-loop-holds Inv-loop μ-loop
 loop-holds c =
     let at-no-columns = c .before in let at-if1 = at-no-columns .before in
     (c .skip-white .ensures .high, lit≤ tt, stage-start _ _ _ (at-if1 .if1 .left) (c .skip-white .ensures) (at-no-columns .no-columns .ensures))
-
-read-field-requires : tie.Need-read-field-requires Inv-loop μ-loop
-read-field-requires c κs = search needs
-
-enum-known-e : tie.Need-enum-known-e Inv-loop μ-loop
-enum-known-e c = search needs
-
-enum-told : tie.Need-enum-told Inv-loop μ-loop
-enum-told c = search needs
-
-refuse-requires-2 : tie.Need-refuse-requires-2 Inv-loop μ-loop
-refuse-requires-2 c κs = search needs
 
 returns-2 : tie.Need-returns-2 Inv-loop μ-loop
 returns-2 c =
@@ -67,24 +46,12 @@ found c = subst (FieldIs _ _ _) (c .before .e .given .1) (c .before .before .bef
 judge-requires : tie.Need-judge-requires Inv-loop μ-loop
 judge-requires c κs = found c .places .2
 
-enum-known-number : tie.Need-enum-known-number Inv-loop μ-loop
-enum-known-number c = search needs
-
-refuse-requires-3 : tie.Need-refuse-requires-3 Inv-loop μ-loop
-refuse-requires-3 c κs = search needs
-
 returns-3 : tie.Need-returns-3 Inv-loop μ-loop
 returns-3 c =
     let at-number = c .before .before in let at-judge = at-number .before .before in let at-e = at-judge .before in
     let at-test = at-e .before .before .before .before in
     let refused = at-judge .judge .ensures ∙ ap judged (at-number .number .given .1) in
     c .refuse3 .ensures ∙ ap answered (sym (stage-refused _ _ _ _ (at-test .before .loop .inv .2) (at-test .loop-test .taken) _ (found at-e) _ refused))
-
-enum-known-c : tie.Need-enum-known-c Inv-loop μ-loop
-enum-known-c c = search needs
-
-refuse-requires-4 : tie.Need-refuse-requires-4 Inv-loop μ-loop
-refuse-requires-4 c κs = search needs
 
 returns-4 : tie.Need-returns-4 Inv-loop μ-loop
 returns-4 c =
@@ -94,17 +61,11 @@ returns-4 c =
     c .refuse4 .ensures
     ∙ ap answered (sym (stage-full _ _ _ _ (at-test .before .loop .inv .2) (at-test .loop-test .taken) _ (found at-e) _ column (at-full .if2 .taken)))
 
-mul-c : tie.Need-mul-c Inv-loop μ-loop
-mul-c c = search needs
-
 element-set-from-c : tie.Need-element-set-from-c Inv-loop μ-loop
 element-set-from-c c =
     let at-loop = c .before .before .before .before .before .before .before .before .before .before in
     let l = stored-long _ _ _ _ (at-loop .loop .inv .1) (at-loop .loop .inv .2) in
     omega (arith, l, c .if2 .left)
-
-add-k : tie.Need-add-k Inv-loop μ-loop
-add-k c = search needs
 
 skip-white-requires-2 : tie.Need-skip-white-requires-2 Inv-loop μ-loop
 skip-white-requires-2 c κs = found (c .before .before .before .before .before) .places .1
@@ -125,9 +86,6 @@ loop-again c =
           (c .skip-white2 .ensures) refl,
     )
 
-refuse-requires-5 : tie.Need-refuse-requires-5 Inv-loop μ-loop
-refuse-requires-5 c κs = search needs
-
 returns-5 : tie.Need-returns-5 Inv-loop μ-loop
 returns-5 c =
     let at-if3 = c .before in let at-loop-test = at-if3 .before in let at-loop = at-loop-test .before in
@@ -139,6 +97,6 @@ returns-6 c = stage-done _ _ _ _ (c .before .before .loop .inv .2) (c .before .l
 pub declare-spec : {M : Type 1} → statement M
 declare-spec =
     tie.close
-    (tie.spec Inv-loop μ-loop refuse-requires returns no-columns-requires skip-white-requires loop-holds read-field-requires enum-known-e
-    enum-told refuse-requires-2 returns-2 judge-requires enum-known-number refuse-requires-3 returns-3 enum-known-c refuse-requires-4
-    returns-4 mul-c element-set-from-c add-k skip-white-requires-2 loop-less loop-again refuse-requires-5 returns-5 returns-6)
+    (tie.spec Inv-loop μ-loop (λ c κs. search needs) returns (λ c κs. search needs) (λ c κs. search needs) loop-holds (λ c κs. search needs) (λ c. search needs)
+    (λ c. search needs) (λ c κs. search needs) returns-2 judge-requires (λ c. search needs) (λ c κs. search needs) returns-3 (λ c. search needs) (λ c κs. search needs)
+    returns-4 (λ c. search needs) element-set-from-c (λ c. search needs) skip-white-requires-2 loop-less loop-again (λ c κs. search needs) returns-5 returns-6)

@@ -10,17 +10,11 @@ use Rattle.declaring.proofs.Answers.{accepted-is, refused-is}
 use Rattle.declaring.proofs.front.Statement.{statement}
 use Rattle.declaring.proofs.front.Tie as tie
 
-declare-requires : tie.Need-declare-requires
-declare-requires c κs = search needs
-
 returns : tie.Need-returns
 returns c =
     let d = c .before .declare in
     let refused = refused-is _ _ (d .ensures) (declare-fails _) (c .if1 .taken) in
     d .ensures ∙ ap answered (refused ∙ sym (front-undeclared _ _ _ refused))
-
-refuse-requires : tie.Need-refuse-requires
-refuse-requires c κs = search needs
 
 returns-2 : tie.Need-returns-2
 unfolding mostInput
@@ -37,4 +31,4 @@ returns-3 c =
     d .ensures ∙ ap answered (accepted ∙ sym (front-declared _ _ _ accepted (omega arith)))
 
 pub front-spec : {M : Type 1} → statement M
-front-spec = tie.close (tie.spec declare-requires returns refuse-requires returns-2 returns-3)
+front-spec = tie.close (tie.spec (λ c κs. search needs) returns (λ c κs. search needs) returns-2 returns-3)

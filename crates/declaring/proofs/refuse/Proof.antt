@@ -5,12 +5,9 @@ use borrow.Author.Needs.{needs}
 use Rattle.declaring.proofs.refuse.Statement.{statement}
 use Rattle.declaring.proofs.refuse.Tie as tie
 
-no-columns-requires : tie.Need-no-columns-requires
-no-columns-requires c κs = search needs
-
 returns : tie.Need-returns
 unfolding answered at
 returns c = rw (c .no-columns .ensures)
 
 pub refuse-spec : {M : Type 1} → statement M
-refuse-spec = tie.close (tie.spec no-columns-requires returns)
+refuse-spec = tie.close (tie.spec (λ c κs. search needs) returns)

@@ -14,13 +14,10 @@ sub-result c = omega arith
 sub-result-2 : tie.Need-sub-result-2
 sub-result-2 c = omega arith
 
-shr-result : tie.Need-shr-result
-shr-result c = search needs
-
 returns : tie.Need-returns
 returns c =
     let a = c .args in
     ap (λ (d : ℕ). eqb d 1) (sym (digit-at (a .columns) (a .k) (a .flags) (c .pre .0)))
 
 pub is-flagged-spec : {M : Type 1} → statement M
-is-flagged-spec = tie.close (tie.spec sub-result sub-result-2 shr-result returns)
+is-flagged-spec = tie.close (tie.spec sub-result sub-result-2 (λ c. search needs) returns)

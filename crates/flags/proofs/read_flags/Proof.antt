@@ -12,9 +12,6 @@ use Rattle.flags.proofs.read_flags.Tie as tie
 flag-bytes-requires : tie.Need-flag-bytes-requires
 flag-bytes-requires c κs = omega arith
 
-sub-if1 : tie.Need-sub-if1
-sub-if1 c = search needs
-
 returns : tie.Need-returns
 returns c =
     let a = c .before .before .before .args in
@@ -50,22 +47,33 @@ returns-2 c =
     let a = c .before .before .before .before .before .args in
     let b = are-bytes (now (a .s)) (λ i. omega (arith, c .before .before .before .before .shared-slice-known .given i)) in
     record {
-      found = start-good (a .columns) (a .at) (c .before .before .before .flag-bytes .result) (now (a .s)) (c .before .before .before .flag-bytes .ensures .0) (c .before .before .if1 .left) (c .before .few-bytes .result) (c .before .few-bytes .ensures) b (c .if2 .taken);
-      within = (omega arith, omega (arith, c .before .before .if1 .left, c .before .before .before .before .before .pre .0), start-few (a .columns) (a .at) (c .before .before .before .flag-bytes .result) (now (a .s)) (c .before .before .before .flag-bytes .ensures .0) (c .before .before .if1 .left) (c .before .few-bytes .result) (c .before .few-bytes .ensures) b);
+      found = start-good (a .columns) (a .at) (c .before .before .before .flag-bytes .result) (now (a .s)) (c .before .before .before .flag-bytes .ensures .0)
+          (c .before .before .if1 .left) (c .before .few-bytes .result) (c .before .few-bytes .ensures) b (c .if2 .taken);
+      within = (
+        omega arith,
+        omega (arith, c .before .before .if1 .left, c .before .before .before .before .before .pre .0),
+        start-few (a .columns) (a .at)
+            (c .before .before .before .flag-bytes .result) (now (a .s)) (c .before .before .before .flag-bytes .ensures .0) (c .before .before .if1 .left) (c .before .few-bytes .result)
+            (c .before .few-bytes .ensures) b,
+      );
     }
 
 returns-3 : tie.Need-returns-3
 returns-3 c =
     let a = c .before .before .before .before .before .args in
     let b = are-bytes (now (a .s)) (λ i. omega (arith, c .before .before .before .before .shared-slice-known .given i)) in
-    record { found = start-spoiled (a .columns) (a .at) (c .before .before .before .flag-bytes .result) (now (a .s)) (c .before .before .before .flag-bytes .ensures .0) (c .before .before .if1 .left) (c .before .few-bytes .result) (c .before .few-bytes .ensures) b (c .if2 .left); within = tt }
+    record {
+      found = start-spoiled (a .columns) (a .at) (c .before .before .before .flag-bytes .result) (now (a .s)) (c .before .before .before .flag-bytes .ensures .0)
+          (c .before .before .if1 .left) (c .before .few-bytes .result) (c .before .few-bytes .ensures) b (c .if2 .left);
+      within = tt;
+    }
 
 pub read-flags-spec : {M : Type 1} → statement M
 read-flags-spec =
     tie.close
     (tie.spec
     flag-bytes-requires
-    sub-if1
+    (λ c. search needs)
     returns
     few-bytes-requires
     mul-spare

@@ -5,15 +5,6 @@ use mathlib.Core.Path.{_∙_, ap}
 use Rattle.sailmortar.proofs.sailmortar_base64_decode.Statement.{statement}
 use Rattle.sailmortar.proofs.sailmortar_base64_decode.Tie as tie
 
-decode-requires : tie.Need-decode-requires
-decode-requires c κs = search needs
-
-put-answer-requires : tie.Need-put-answer-requires
-put-answer-requires c κs = search needs
-
-same-length : tie.Need-same-length
-same-length c = search needs
-
 returns : tie.Need-returns
 unfolding decodeFace faced
 returns c = (
@@ -23,4 +14,4 @@ returns c = (
 
 pub sailmortar-base64-decode-spec : {M : Type 1} → statement M
 sailmortar-base64-decode-spec =
-    tie.close (tie.spec decode-requires put-answer-requires same-length returns)
+    tie.close (tie.spec (λ c κs. search needs) (λ c κs. search needs) (λ c. search needs) returns)

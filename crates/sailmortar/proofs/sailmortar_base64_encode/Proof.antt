@@ -5,15 +5,6 @@ use mathlib.Core.Path.{_∙_, ap}
 use Rattle.sailmortar.proofs.sailmortar_base64_encode.Statement.{statement}
 use Rattle.sailmortar.proofs.sailmortar_base64_encode.Tie as tie
 
-encode-requires : tie.Need-encode-requires
-encode-requires c κs = search needs
-
-put-answer-requires : tie.Need-put-answer-requires
-put-answer-requires c κs = search needs
-
-same-length : tie.Need-same-length
-same-length c = search needs
-
 returns : tie.Need-returns
 unfolding encodeFace faced
 returns c = (
@@ -23,4 +14,4 @@ returns c = (
 
 pub sailmortar-base64-encode-spec : {M : Type 1} → statement M
 sailmortar-base64-encode-spec =
-    tie.close (tie.spec encode-requires put-answer-requires same-length returns)
+    tie.close (tie.spec (λ c κs. search needs) (λ c κs. search needs) (λ c. search needs) returns)

@@ -7,29 +7,11 @@ use mathlib.Core.Path.{_∙_, ap, sym}
 use Rattle.sailmortar.proofs.sailmortar_convert.Statement.{statement}
 use Rattle.sailmortar.proofs.sailmortar_convert.Tie as tie
 
-rows-of-requires : tie.Need-rows-of-requires
-rows-of-requires c κs = search needs
-
-enum-known-source : tie.Need-enum-known-source
-enum-known-source c = search needs
-
-enum-told : tie.Need-enum-told
-enum-told c = search needs
-
 returns : tie.Need-returns
 unfolding noSuchKind
 returns c =
     let e = no-source _ _ _ _ _ (sym (c .before .before .rows-of .ensures) ∙ ap namedAs (c .enum-told .given .1)) in
     (ap (λ (f : Faced). f .numbers) (sym e), ap (λ (f : Faced). f .buffer) (sym e))
-
-rows-of-requires-2 : tie.Need-rows-of-requires-2
-rows-of-requires-2 c κs = search needs
-
-enum-known-target : tie.Need-enum-known-target
-enum-known-target c = search needs
-
-enum-told-2 : tie.Need-enum-told-2
-enum-told-2 c = search needs
 
 returns-2 : tie.Need-returns-2
 unfolding noSuchKind
@@ -38,15 +20,6 @@ returns-2 c =
     (sym (c .before .before .before .before .before .before .rows-of .ensures) ∙ ap namedAs (c .before .before .before .before .source .given .1))
     (sym (c .before .before .rows-of2 .ensures) ∙ ap namedAs (c .enum-told2 .given .1)) in
     (ap (λ (f : Faced). f .numbers) (sym e), ap (λ (f : Faced). f .buffer) (sym e))
-
-convert-requires : tie.Need-convert-requires
-convert-requires c κs = search needs
-
-put-answer-requires : tie.Need-put-answer-requires
-put-answer-requires c κs = search needs
-
-same-length : tie.Need-same-length
-same-length c = search needs
 
 returns-3 : tie.Need-returns-3
 unfolding faced
@@ -63,15 +36,15 @@ pub sailmortar-convert-spec : {M : Type 1} → statement M
 sailmortar-convert-spec =
     tie.close
     (tie.spec
-    rows-of-requires
-    enum-known-source
-    enum-told
+    (λ c κs. search needs)
+    (λ c. search needs)
+    (λ c. search needs)
     returns
-    rows-of-requires-2
-    enum-known-target
-    enum-told-2
+    (λ c κs. search needs)
+    (λ c. search needs)
+    (λ c. search needs)
     returns-2
-    convert-requires
-    put-answer-requires
-    same-length
+    (λ c κs. search needs)
+    (λ c κs. search needs)
+    (λ c. search needs)
     returns-3)

@@ -8,12 +8,9 @@ use mathlib.Core.Path.{_∙_, ap}
 use Rattle.sailmortar.proofs.sailmortar_declare.Statement.{statement}
 use Rattle.sailmortar.proofs.sailmortar_declare.Tie as tie
 
-declare-requires : tie.Need-declare-requires
-declare-requires c κs = search needs
-
 returns : tie.Need-returns
 unfolding declareFace
 returns c = ap numbersOf (c .before .before .declare .ensures) ∙ declared-numbers (declare (now (c .before .before .before .before .args .decls)))
 
 pub sailmortar-declare-spec : {M : Type 1} → statement M
-sailmortar-declare-spec = tie.close (tie.spec declare-requires returns)
+sailmortar-declare-spec = tie.close (tie.spec (λ c κs. search needs) returns)

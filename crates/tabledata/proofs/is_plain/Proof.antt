@@ -12,7 +12,8 @@ unfolding isPlain
 returns c = ⊎-elim (λ e. sym (ap isPlain e)) (λ e. sym (ap isPlain e)) ((c .match) .keys1)
 
 returns-2 : tie.Need-returns-2
-returns-2 c = sym (plain-yes ((c .before .before .before) .args .c) (λ e. ((c .before .before .match) .rest .1) (inl e)) (λ e. ((c .before .before .match) .rest .1) (inr e)) (omega arith) (omega arith))
+returns-2 c = sym (plain-yes ((c .before .before .before) .args .c) (λ e. ((c .before .before .match) .rest .1) (inl e)) (λ e. ((c .before .before .match) .rest .1) (inr e))
+    (omega arith) (omega arith))
 
 returns-3 : tie.Need-returns-3
 returns-3 c = sym (plain-low ((c .before .before) .args .c) (omega arith))

@@ -1,6 +1,6 @@
 -- convert::Measured::after: by what the cell takes, each way is one law of Measuring.
 use Prim.Native.Nat.{ℕ}
-use mathlib.Core.Path.{_∙_, ap, refl, subst, sym}
+use mathlib.Core.Path.{_∙_, ap, subst, sym}
 use Rattle.convert.proofs.Measuring.{form-bytes, form-first, form-later}
 use Rattle.convert.specs.Contracts.{addedTo, formOf}
 use Rattle.row_writing.specs.Contracts.{SizeWithin}

@@ -50,9 +50,6 @@ returns-2 c =
 read-value-requires : tie.Need-read-value-requires Inv-loop μ-loop
 read-value-requires c κs = c .before .before .span-end .ensures .inside
 
-enum-told : tie.Need-enum-told Inv-loop μ-loop
-enum-told c = search needs
-
 comes : (c : tie.Else2 Inv-loop μ-loop) → let l = c .before .before .before .before in attributeComes (drop (l .loop .at) (text-at l)) ≡ true
 comes c =
     let at-end = c .before .before in
@@ -64,9 +61,6 @@ returns-3 c =
     let broken = subst (QuotedIs _ _ _) (c .enum-told .given .1) (at-value .read-value .ensures) in
     let named = attribute-broken _ _ _ _ (at-name .skip-white .ensures) (at-value .before .before .before .span-end .ensures) (at-value .before .if2 .left) in
     record { rest = going-broken _ _ _ _ (i .1) (i .3) (comes (at-value .before)) (named broken); places = tt }
-
-enum-known-start : tie.Need-enum-known-start Inv-loop μ-loop
-enum-known-start c = search needs
 
 -- the name, and behind it the value
 abbrev end-of : tie.After-known-told Inv-loop μ-loop → tie.After-span-end Inv-loop μ-loop
@@ -87,9 +81,6 @@ part-with-attribute-start c = end-of c .span-end .ensures .onward
 
 part-with-attribute-end : tie.Need-part-with-attribute-end Inv-loop μ-loop
 part-with-attribute-end c = end-of c .span-end .ensures .inside
-
-with-attribute-requires : tie.Need-with-attribute-requires Inv-loop μ-loop
-with-attribute-requires c κs = search needs
 
 add-at : tie.Need-add-at Inv-loop μ-loop
 add-at c =
@@ -112,6 +103,6 @@ loop-again c =
 pub read-attributes-spec : {M : Type 1} → statement M
 read-attributes-spec =
     tie.close
-    (tie.spec Inv-loop μ-loop loop-holds skip-white-requires span-end-requires returns returns-2 read-value-requires enum-told returns-3
-    enum-known-start sub-with-attribute part-with-attribute-start part-with-attribute-end with-attribute-requires add-at loop-less
+    (tie.spec Inv-loop μ-loop loop-holds skip-white-requires span-end-requires returns returns-2 read-value-requires (λ c. search needs) returns-3
+    (λ c. search needs) sub-with-attribute part-with-attribute-start part-with-attribute-end (λ c κs. search needs) add-at loop-less
     loop-again)

@@ -7,22 +7,10 @@ use mathlib.Core.Path.{_∙_, sym}
 use Rattle.declaring.proofs.attributes.read_quoted.Statement.{statement}
 use Rattle.declaring.proofs.attributes.read_quoted.Tie as tie
 
-shared-slice-read-quote : tie.Need-shared-slice-read-quote
-shared-slice-read-quote c = search needs
-
-is-quote-requires : tie.Need-is-quote-requires
-is-quote-requires c κs = search needs
-
 returns : tie.Need-returns
 returns c =
     let at-is-quote = c .before in let start = at-is-quote .before .before .before in
     quoted-none _ _ (start .pre) (sym (at-is-quote .is-quote .ensures) ∙ not-true _ (c .if1 .taken))
-
-add-span-end : tie.Need-add-span-end
-add-span-end c = search needs
-
-span-end-requires : tie.Need-span-end-requires
-span-end-requires c κs = search needs
 
 returns-2 : tie.Need-returns-2
 returns-2 c =
@@ -30,12 +18,6 @@ returns-2 c =
     let start = at-is-quote .before .before .before in
     quoted-open _ _ (start .pre) (sym (at-is-quote .is-quote .ensures) ∙ not-false _
     (at-if1 .if1 .left)) _ (at-span-end .span-end .ensures) (c .if2 .taken)
-
-shared-slice-read-if3 : tie.Need-shared-slice-read-if3
-shared-slice-read-if3 c = search needs
-
-add-t12 : tie.Need-add-t12
-add-t12 c = search needs
 
 returns-3 : tie.Need-returns-3
 returns-3 c =
@@ -54,4 +36,4 @@ returns-4 c =
 pub read-quoted-spec : {M : Type 1} → statement M
 read-quoted-spec =
     tie.close
-    (tie.spec shared-slice-read-quote is-quote-requires returns add-span-end span-end-requires returns-2 shared-slice-read-if3 add-t12 returns-3 returns-4)
+    (tie.spec (λ c. search needs) (λ c κs. search needs) returns (λ c. search needs) (λ c κs. search needs) returns-2 (λ c. search needs) (λ c. search needs) returns-3 returns-4)

@@ -6,18 +6,6 @@ use mathlib.Core.Path.{subst}
 use Rattle.declaring.proofs.attributes.read_value.Statement.{statement}
 use Rattle.declaring.proofs.attributes.read_value.Tie as tie
 
-slice-aggregate-ends : tie.Need-slice-aggregate-ends
-slice-aggregate-ends c = search needs
-
-ends-requires : tie.Need-ends-requires
-ends-requires c κs = search needs
-
-enum-known-i : tie.Need-enum-known-i
-enum-known-i c = search needs
-
-enum-told : tie.Need-enum-told
-enum-told c = search needs
-
 returns : tie.Need-returns
 returns c = assigned-not _ _ (subst (TagIs _ _ _) (c .enum-told .given .1) (c .before .before .ends .ensures))
 
@@ -25,9 +13,6 @@ skip-white-requires : tie.Need-skip-white-requires
 skip-white-requires c κs =
     let at-i = c .before in let at-ends = at-i .before .before in
     subst (TagIs _ _ _) (at-i .i .given .1) (at-ends .ends .ensures) .within .1
-
-read-quoted-requires : tie.Need-read-quoted-requires
-read-quoted-requires c κs = search needs
 
 returns-2 : tie.Need-returns-2
 returns-2 c =
@@ -42,4 +27,4 @@ returns-3 c =
 
 pub read-value-spec : {M : Type 1} → statement M
 read-value-spec =
-    tie.close (tie.spec slice-aggregate-ends ends-requires enum-known-i enum-told returns skip-white-requires read-quoted-requires returns-2 returns-3)
+    tie.close (tie.spec (λ c. search needs) (λ c κs. search needs) (λ c. search needs) (λ c. search needs) returns skip-white-requires (λ c κs. search needs) returns-2 returns-3)

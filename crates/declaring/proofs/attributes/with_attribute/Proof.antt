@@ -4,33 +4,6 @@ use borrow.Author.Needs.{needs}
 use Rattle.declaring.proofs.attributes.with_attribute.Statement.{statement}
 use Rattle.declaring.proofs.attributes.with_attribute.Tie as tie
 
-slice-aggregate-same-bytes : tie.Need-slice-aggregate-same-bytes
-slice-aggregate-same-bytes c = search needs
-
-same-bytes-requires : tie.Need-same-bytes-requires
-same-bytes-requires c κs = search needs
-
-met-again-requires : tie.Need-met-again-requires
-met-again-requires c κs = search needs
-
-slice-aggregate-same-bytes-2 : tie.Need-slice-aggregate-same-bytes-2
-slice-aggregate-same-bytes-2 c = search needs
-
-same-bytes-requires-2 : tie.Need-same-bytes-requires-2
-same-bytes-requires-2 c κs = search needs
-
-met-again-requires-2 : tie.Need-met-again-requires-2
-met-again-requires-2 c κs = search needs
-
-slice-aggregate-same-bytes-3 : tie.Need-slice-aggregate-same-bytes-3
-slice-aggregate-same-bytes-3 c = search needs
-
-same-bytes-requires-3 : tie.Need-same-bytes-requires-3
-same-bytes-requires-3 c κs = search needs
-
-met-again-requires-3 : tie.Need-met-again-requires-3
-met-again-requires-3 c κs = search needs
-
 returns : tie.Need-returns
 unfolding withAttribute
 returns c =
@@ -48,5 +21,5 @@ returns c =
 pub with-attribute-spec : {M : Type 1} → statement M
 with-attribute-spec =
     tie.close
-    (tie.spec slice-aggregate-same-bytes same-bytes-requires met-again-requires slice-aggregate-same-bytes-2 same-bytes-requires-2
-    met-again-requires-2 slice-aggregate-same-bytes-3 same-bytes-requires-3 met-again-requires-3 returns)
+    (tie.spec (λ c. search needs) (λ c κs. search needs) (λ c κs. search needs) (λ c. search needs) (λ c κs. search needs)
+    (λ c κs. search needs) (λ c. search needs) (λ c κs. search needs) (λ c κs. search needs) returns)

@@ -9,15 +9,6 @@ use Rattle.declaring.proofs.columns.bounded_len.Tie as tie
 returns : tie.Need-returns
 returns c = bounded-none _ (c .if1 .taken)
 
-length-of-requires : tie.Need-length-of-requires
-length-of-requires c κs = search needs
-
-enum-told : tie.Need-enum-told
-enum-told c = search needs
-
-enum-known-n : tie.Need-enum-known-n
-enum-known-n c = search needs
-
 returns-2 : tie.Need-returns-2
 returns-2 c =
     let at-length-of = c .before .before in let at-if1 = at-length-of .before in
@@ -29,4 +20,4 @@ returns-3 c =
     bounded-some _ (at-if1 .if1 .left) ∙ rw (at-length-of .length-of .ensures ∙ ap lengthRead (at-n .n .given .1))
 
 pub bounded-len-spec : {M : Type 1} → statement M
-bounded-len-spec = tie.close (tie.spec returns length-of-requires enum-told enum-known-n returns-2 returns-3)
+bounded-len-spec = tie.close (tie.spec returns (λ c κs. search needs) (λ c. search needs) (λ c. search needs) returns-2 returns-3)

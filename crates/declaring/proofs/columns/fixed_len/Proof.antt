@@ -5,15 +5,6 @@ use mathlib.Core.Path.{_∙_, ap}
 use Rattle.declaring.proofs.columns.fixed_len.Statement.{statement}
 use Rattle.declaring.proofs.columns.fixed_len.Tie as tie
 
-length-of-requires : tie.Need-length-of-requires
-length-of-requires c κs = search needs
-
-enum-told : tie.Need-enum-told
-enum-told c = search needs
-
-enum-known-n : tie.Need-enum-known-n
-enum-known-n c = search needs
-
 returns : tie.Need-returns
 unfolding fixedLen
 returns c = rw (c .before .before .length-of .ensures ∙ ap lengthRead (c .enum-told .given .1))
@@ -23,4 +14,4 @@ unfolding fixedLen
 returns-2 c = rw (c .before .before .before .length-of .ensures ∙ ap lengthRead (c .before .n .given .1))
 
 pub fixed-len-spec : {M : Type 1} → statement M
-fixed-len-spec = tie.close (tie.spec length-of-requires enum-told enum-known-n returns returns-2)
+fixed-len-spec = tie.close (tie.spec (λ c κs. search needs) (λ c. search needs) (λ c. search needs) returns returns-2)

@@ -19,27 +19,12 @@ part-kind-of-start c = c .before .pre .datatype-from
 part-kind-of-end : tie.Need-part-kind-of-end
 part-kind-of-end c = c .before .pre .datatype-to
 
-kind-of-requires : tie.Need-kind-of-requires
-kind-of-requires c κs = search needs
-
-enum-known-kind : tie.Need-enum-known-kind
-enum-known-kind c = search needs
-
-enum-told : tie.Need-enum-told
-enum-told c = search needs
-
 returns : tie.Need-returns
 unfolding judge elementOf
 returns c = rw (c .before .before .kind-of .ensures ∙ ap kindRead (c .enum-told .given .1))
 
 read-len-requires : tie.Need-read-len-requires
 read-len-requires c κs = c .before .before .before .before .before .before .pre .arraysize-in
-
-enum-known-len : tie.Need-enum-known-len
-enum-known-len c = search needs
-
-enum-told-2 : tie.Need-enum-told-2
-enum-told-2 c = search needs
 
 returns-2 : tie.Need-returns-2
 unfolding judge elementOf
@@ -56,12 +41,6 @@ read-null-requires : tie.Need-read-null-requires
 read-null-requires c κs =
     let start = c .before .before .before .before .before .before .before .before .before .before .before .before in
     start .pre .null-in
-
-enum-known-null : tie.Need-enum-known-null
-enum-known-null c = search needs
-
-enum-told-3 : tie.Need-enum-told-3
-enum-told-3 c = search needs
 
 returns-3 : tie.Need-returns-3
 unfolding judge elementOf
@@ -90,6 +69,6 @@ returns-4 c =
 pub judge-spec : {M : Type 1} → statement M
 judge-spec =
     tie.close
-    (tie.spec sub-kind-of part-kind-of-start part-kind-of-end kind-of-requires enum-known-kind enum-told returns read-len-requires
-    enum-known-len enum-told-2 returns-2 (λ c κs. search needs) (λ c κs. search needs) read-null-requires enum-known-null enum-told-3 returns-3
+    (tie.spec sub-kind-of part-kind-of-start part-kind-of-end (λ c κs. search needs) (λ c. search needs) (λ c. search needs) returns read-len-requires
+    (λ c. search needs) (λ c. search needs) returns-2 (λ c κs. search needs) (λ c κs. search needs) read-null-requires (λ c. search needs) (λ c. search needs) returns-3
     (λ c κs. search needs) returns-4)

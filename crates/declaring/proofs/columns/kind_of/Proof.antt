@@ -26,12 +26,6 @@ module _ (k : List ℕ × Kind) (ks : List (List ℕ × Kind)) (t : List ℕ) (i
 abbrev Passed : ℕ → tie.Else1 → Type 0
 Passed n c = let t = now (c .before .before .before .before .args .t) in kindOf kinds t ≡ kindOf (drop n kinds) t
 
-slice-aggregate-same-bytes : tie.Need-slice-aggregate-same-bytes
-slice-aggregate-same-bytes c = search needs
-
-same-bytes-requires : tie.Need-same-bytes-requires
-same-bytes-requires c κs = search needs
-
 returns : tie.Need-returns
 unfolding kinds
 returns c = met _ _ _ _ (c .before .same-bytes .ensures) (c .if1 .taken)
@@ -39,12 +33,6 @@ returns c = met _ _ _ _ (c .before .same-bytes .ensures) (c .if1 .taken)
 passed-1 : (c : tie.Else1) → Passed 1 c
 unfolding kinds
 passed-1 c = not-met _ _ _ _ (c .before .same-bytes .ensures) (c .if1 .left)
-
-slice-aggregate-same-bytes-2 : tie.Need-slice-aggregate-same-bytes-2
-slice-aggregate-same-bytes-2 c = search needs
-
-same-bytes-requires-2 : tie.Need-same-bytes-requires-2
-same-bytes-requires-2 c κs = search needs
 
 returns-2 : tie.Need-returns-2
 unfolding kinds
@@ -54,12 +42,6 @@ passed-2 : (c : tie.Else2) → Passed 2 (c .before .before .before)
 unfolding kinds
 passed-2 c = passed-1 (c .before .before .before) ∙ not-met _ _ _ _ (c .before .same-bytes2 .ensures) (c .if2 .left)
 
-slice-aggregate-same-bytes-3 : tie.Need-slice-aggregate-same-bytes-3
-slice-aggregate-same-bytes-3 c = search needs
-
-same-bytes-requires-3 : tie.Need-same-bytes-requires-3
-same-bytes-requires-3 c κs = search needs
-
 returns-3 : tie.Need-returns-3
 unfolding kinds
 returns-3 c = passed-2 (c .before .before .before) ∙ met _ _ _ _ (c .before .same-bytes3 .ensures) (c .if3 .taken)
@@ -67,12 +49,6 @@ returns-3 c = passed-2 (c .before .before .before) ∙ met _ _ _ _ (c .before .s
 passed-3 : (c : tie.Else3) → Passed 3 (c .before .before .before .before .before .before)
 unfolding kinds
 passed-3 c = passed-2 (c .before .before .before) ∙ not-met _ _ _ _ (c .before .same-bytes3 .ensures) (c .if3 .left)
-
-slice-aggregate-same-bytes-4 : tie.Need-slice-aggregate-same-bytes-4
-slice-aggregate-same-bytes-4 c = search needs
-
-same-bytes-requires-4 : tie.Need-same-bytes-requires-4
-same-bytes-requires-4 c κs = search needs
 
 returns-4 : tie.Need-returns-4
 unfolding kinds
@@ -82,12 +58,6 @@ passed-4 : (c : tie.Else4) → Passed 4 (c .before .before .before .before .befo
 unfolding kinds
 passed-4 c = passed-3 (c .before .before .before) ∙ not-met _ _ _ _ (c .before .same-bytes4 .ensures) (c .if4 .left)
 
-slice-aggregate-same-bytes-5 : tie.Need-slice-aggregate-same-bytes-5
-slice-aggregate-same-bytes-5 c = search needs
-
-same-bytes-requires-5 : tie.Need-same-bytes-requires-5
-same-bytes-requires-5 c κs = search needs
-
 returns-5 : tie.Need-returns-5
 unfolding kinds
 returns-5 c = passed-4 (c .before .before .before) ∙ met _ _ _ _ (c .before .same-bytes5 .ensures) (c .if5 .taken)
@@ -96,12 +66,6 @@ passed-5 : (c : tie.Else5) → Passed 5 (c .before .before .before .before .befo
 unfolding kinds
 passed-5 c = passed-4 (c .before .before .before) ∙ not-met _ _ _ _ (c .before .same-bytes5 .ensures) (c .if5 .left)
 
-slice-aggregate-same-bytes-6 : tie.Need-slice-aggregate-same-bytes-6
-slice-aggregate-same-bytes-6 c = search needs
-
-same-bytes-requires-6 : tie.Need-same-bytes-requires-6
-same-bytes-requires-6 c κs = search needs
-
 returns-6 : tie.Need-returns-6
 unfolding kinds
 returns-6 c = passed-5 (c .before .before .before) ∙ met _ _ _ _ (c .before .same-bytes6 .ensures) (c .if6 .taken)
@@ -109,12 +73,6 @@ returns-6 c = passed-5 (c .before .before .before) ∙ met _ _ _ _ (c .before .s
 passed-6 : (c : tie.Else6) → Passed 6 (c .before .before .before .before .before .before .before .before .before .before .before .before .before .before .before)
 unfolding kinds
 passed-6 c = passed-5 (c .before .before .before) ∙ not-met _ _ _ _ (c .before .same-bytes6 .ensures) (c .if6 .left)
-
-slice-aggregate-same-bytes-7 : tie.Need-slice-aggregate-same-bytes-7
-slice-aggregate-same-bytes-7 c = search needs
-
-same-bytes-requires-7 : tie.Need-same-bytes-requires-7
-same-bytes-requires-7 c κs = search needs
 
 returns-7 : tie.Need-returns-7
 unfolding kinds
@@ -131,7 +89,7 @@ returns-8 c = passed-7 c
 pub kind-of-spec : {M : Type 1} → statement M
 kind-of-spec =
     tie.close
-    (tie.spec slice-aggregate-same-bytes same-bytes-requires returns slice-aggregate-same-bytes-2 same-bytes-requires-2 returns-2
-    slice-aggregate-same-bytes-3 same-bytes-requires-3 returns-3 slice-aggregate-same-bytes-4 same-bytes-requires-4 returns-4
-    slice-aggregate-same-bytes-5 same-bytes-requires-5 returns-5 slice-aggregate-same-bytes-6 same-bytes-requires-6 returns-6
-    slice-aggregate-same-bytes-7 same-bytes-requires-7 returns-7 returns-8)
+    (tie.spec (λ c. search needs) (λ c κs. search needs) returns (λ c. search needs) (λ c κs. search needs) returns-2
+    (λ c. search needs) (λ c κs. search needs) returns-3 (λ c. search needs) (λ c κs. search needs) returns-4
+    (λ c. search needs) (λ c κs. search needs) returns-5 (λ c. search needs) (λ c κs. search needs) returns-6
+    (λ c. search needs) (λ c κs. search needs) returns-7 returns-8)

@@ -14,17 +14,8 @@ returns : tie.Need-returns
 unfolding lenBefore
 returns c = rw (star-none _ (c .if1 .taken)) (rw (length-none _ (c .if1 .taken)))
 
-sub-last : tie.Need-sub-last
-sub-last c = search needs
-
-shared-slice-read-if2 : tie.Need-shared-slice-read-if2
-shared-slice-read-if2 c = search needs
-
 slice-aggregate-bounded-len : tie.Need-slice-aggregate-bounded-len
 slice-aggregate-bounded-len c = simp length-take (omega arith)
-
-bounded-len-requires : tie.Need-bounded-len-requires
-bounded-len-requires c κs = search needs
 
 returns-2 : tie.Need-returns-2
 unfolding lenBefore
@@ -34,9 +25,6 @@ returns-2 c =
       arith,
       at-if1 .if1 .left,
     )) (at-if2 .if2 .taken)) (c .bounded-len .ensures)
-
-fixed-len-requires : tie.Need-fixed-len-requires
-fixed-len-requires c κs = search needs
 
 returns-3 : tie.Need-returns-3
 unfolding lenBefore fixedLen
@@ -50,4 +38,4 @@ returns-3 c =
 pub len-of-spec : {M : Type 1} → statement M
 len-of-spec =
     tie.close
-    (tie.spec returns sub-last shared-slice-read-if2 slice-aggregate-bounded-len bounded-len-requires returns-2 fixed-len-requires returns-3)
+    (tie.spec returns (λ c. search needs) (λ c. search needs) slice-aggregate-bounded-len (λ c κs. search needs) returns-2 (λ c κs. search needs) returns-3)

@@ -25,17 +25,11 @@ returns c = length-none _ (c .if1 .taken)
 returns-2 : tie.Need-returns-2 Inv-loop μ-loop
 returns-2 c = length-long _ (c .if2 .taken)
 
-shared-slice-read-if3 : tie.Need-shared-slice-read-if3 Inv-loop μ-loop
-shared-slice-read-if3 c = search needs
-
 returns-3 : tie.Need-returns-3 Inv-loop μ-loop
 returns-3 c = length-zero _ (omega arith) (c .if3 .taken)
 
 loop-holds : tie.Need-loop-holds Inv-loop μ-loop
 loop-holds c = (zero-le, lit< tt, refl)
-
-shared-slice-read-c : tie.Need-shared-slice-read-c Inv-loop μ-loop
-shared-slice-read-c c = search needs
 
 -- the length is what the digits from here on make of the number so far
 abbrev text-at : tie.At-loop Inv-loop μ-loop → List ℕ
@@ -68,12 +62,6 @@ cast-n c = omega (arith, c .before .before .shared-slice-known2 .given (c .befor
 add-n : tie.Need-add-n Inv-loop μ-loop
 add-n c = omega (arith, small (c .before .before .before))
 
-add-i : tie.Need-add-i Inv-loop μ-loop
-add-i c = search needs
-
-loop-less : tie.Need-loop-less Inv-loop μ-loop
-loop-less c = search needs
-
 loop-again : tie.Need-loop-again Inv-loop μ-loop
 loop-again c =
     let at-loop-test = c .before .before .before in let at-loop = at-loop-test .before in (
@@ -92,5 +80,5 @@ returns-7 c = whole (c .before .before) ∙ capped-more _ _ (numeral-end _ _ _ (
 pub length-of-spec : {M : Type 1} → statement M
 length-of-spec =
     tie.close
-    (tie.spec Inv-loop μ-loop returns returns-2 shared-slice-read-if3 returns-3 loop-holds shared-slice-read-c returns-4 returns-5 mul-n
-    cast-n add-n add-i loop-less loop-again returns-6 returns-7)
+    (tie.spec Inv-loop μ-loop returns returns-2 (λ c. search needs) returns-3 loop-holds (λ c. search needs) returns-4 returns-5 mul-n
+    cast-n add-n (λ c. search needs) (λ c. search needs) loop-again returns-6 returns-7)

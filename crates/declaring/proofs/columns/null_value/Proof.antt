@@ -6,9 +6,6 @@ use native.Mathlib.Omega.{arith}
 use Rattle.declaring.proofs.columns.null_value.Statement.{statement}
 use Rattle.declaring.proofs.columns.null_value.Tie as tie
 
-skip-white-requires : tie.Need-skip-white-requires
-skip-white-requires c κs = search needs
-
 span-end-requires : tie.Need-span-end-requires
 span-end-requires c κs = c .skip-white .ensures .high
 
@@ -24,9 +21,6 @@ part-null-word-start c = c .before .before .span-end .ensures .onward
 part-null-word-end : tie.Need-part-null-word-end
 part-null-word-end c = c .before .before .span-end .ensures .inside
 
-null-word-requires : tie.Need-null-word-requires
-null-word-requires c κs = search needs
-
 returns : tie.Need-returns
 returns c =
     let at-if1 = c .before .before in let at-behind = at-if1 .before in let at-end = at-behind .before in let at-start = at-end .before in
@@ -41,4 +35,4 @@ returns-2 c =
 pub null-value-spec : {M : Type 1} → statement M
 null-value-spec =
     tie.close
-    (tie.spec skip-white-requires span-end-requires skip-white-requires-2 sub-null-word part-null-word-start part-null-word-end null-word-requires returns returns-2)
+    (tie.spec (λ c κs. search needs) span-end-requires skip-white-requires-2 sub-null-word part-null-word-start part-null-word-end (λ c κs. search needs) returns returns-2)

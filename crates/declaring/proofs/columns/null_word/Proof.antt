@@ -11,18 +11,6 @@ use mathlib.Core.Path.{_∙_, ap, sym}
 use Rattle.declaring.proofs.columns.null_word.Statement.{statement}
 use Rattle.declaring.proofs.columns.null_word.Tie as tie
 
-read-word-requires : tie.Need-read-word-requires
-read-word-requires c κs = search needs
-
-enum-known-z : tie.Need-enum-known-z
-enum-known-z c = search needs
-
-enum-told : tie.Need-enum-told
-enum-told c = search needs
-
-enum-told-2 : tie.Need-enum-told-2
-enum-told-2 c = search needs
-
 returns : tie.Need-returns
 unfolding nullValue
 returns c =
@@ -39,4 +27,4 @@ unfolding nullValue
 returns-3 c = rw (sym (c .before .before .read-word .ensures) ∙ ap readingOf (c .enum-told2 .given .1))
 
 pub null-word-spec : {M : Type 1} → statement M
-null-word-spec = tie.close (tie.spec read-word-requires enum-known-z enum-told enum-told-2 returns returns-2 returns-3)
+null-word-spec = tie.close (tie.spec (λ c κs. search needs) (λ c. search needs) (λ c. search needs) (λ c. search needs) returns returns-2 returns-3)

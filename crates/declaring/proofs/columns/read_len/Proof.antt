@@ -9,12 +9,6 @@ use Rattle.declaring.specs.declared.attributes.Value.{Value}
 use Rattle.declaring.proofs.columns.read_len.Statement.{statement}
 use Rattle.declaring.proofs.columns.read_len.Tie as tie
 
-enum-told : tie.Need-enum-told
-enum-told c = search needs
-
-enum-known-v : tie.Need-enum-known-v
-enum-known-v c = search needs
-
 sub-len-of : tie.Need-sub-len-of
 sub-len-of c =
     let at-v = c .before in let start = at-v .before .before .before in
@@ -27,9 +21,6 @@ part-len-of-start c = subst (ValueIn _) (c .before .v .given .1) (c .before .bef
 part-len-of-end : tie.Need-part-len-of-end
 part-len-of-end c = subst (ValueIn _) (c .before .v .given .1) (c .before .before .before .before .pre) .1
 
-len-of-requires : tie.Need-len-of-requires
-len-of-requires c κs = search needs
-
 returns : tie.Need-returns
 unfolding lenOf
 returns c = ap (λ (v : Value). lenOf (asWritten (now (c .before .before .before .args .s)) v)) (c .enum-told .given .1)
@@ -41,4 +32,4 @@ returns-2 c =
     ap (λ (v : Value). lenOf (asWritten (now (start .args .s)) v)) (at-v .v .given .1) ∙ c .len-of .ensures
 
 pub read-len-spec : {M : Type 1} → statement M
-read-len-spec = tie.close (tie.spec enum-told enum-known-v sub-len-of part-len-of-start part-len-of-end len-of-requires returns returns-2)
+read-len-spec = tie.close (tie.spec (λ c. search needs) (λ c. search needs) sub-len-of part-len-of-start part-len-of-end (λ c κs. search needs) returns returns-2)

@@ -11,12 +11,6 @@ use Rattle.declaring.specs.declared.attributes.Value.{Value}
 use Rattle.declaring.proofs.columns.read_null.Statement.{statement}
 use Rattle.declaring.proofs.columns.read_null.Tie as tie
 
-enum-known-v : tie.Need-enum-known-v
-enum-known-v c = search needs
-
-enum-told : tie.Need-enum-told
-enum-told c = search needs
-
 returns : tie.Need-returns
 unfolding nullOf
 returns c =
@@ -39,9 +33,6 @@ part-null-of-end c =
     let at-v = c .before .before in let start = at-v .before .before .before in
     subst (ValueIn _) (at-v .v .given .1) (start .pre) .1
 
-null-of-requires : tie.Need-null-of-requires
-null-of-requires c κs = search needs
-
 returns-2 : tie.Need-returns-2
 returns-2 c =
     let at-if1 = c .before .before in let at-v = at-if1 .before .before in
@@ -58,4 +49,4 @@ returns-3 c =
 pub read-null-spec : {M : Type 1} → statement M
 read-null-spec =
     tie.close
-    (tie.spec enum-known-v enum-told returns sub-null-of part-null-of-start part-null-of-end null-of-requires returns-2 returns-3)
+    (tie.spec (λ c. search needs) (λ c. search needs) returns sub-null-of part-null-of-start part-null-of-end (λ c κs. search needs) returns-2 returns-3)

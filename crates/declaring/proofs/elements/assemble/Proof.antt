@@ -5,24 +5,6 @@ use mathlib.Core.Path.{refl}
 use Rattle.declaring.proofs.elements.assemble.Statement.{statement}
 use Rattle.declaring.proofs.elements.assemble.Tie as tie
 
-enum-told : tie.Need-enum-told
-enum-told c = search needs
-
-enum-known-d : tie.Need-enum-known-d
-enum-known-d c = search needs
-
-enum-told-2 : tie.Need-enum-told-2
-enum-told-2 c = search needs
-
-enum-known-a : tie.Need-enum-known-a
-enum-known-a c = search needs
-
-enum-told-3 : tie.Need-enum-told-3
-enum-told-3 c = search needs
-
-enum-told-4 : tie.Need-enum-told-4
-enum-told-4 c = search needs
-
 returns : tie.Need-returns
 returns c = assembled-is _ _ _ _ _ _ (c .enum-told .given .1) refl
 
@@ -40,4 +22,4 @@ returns-5 c = assembled-is _ _ _ _ _ _ (c .enum-told4 .given .1) refl
 
 pub assemble-spec : {M : Type 1} → statement M
 assemble-spec =
-    tie.close (tie.spec enum-told enum-known-d enum-told-2 enum-known-a enum-told-3 enum-told-4 returns returns-2 returns-3 returns-4 returns-5)
+    tie.close (tie.spec (λ c. search needs) (λ c. search needs) (λ c. search needs) (λ c. search needs) (λ c. search needs) (λ c. search needs) returns returns-2 returns-3 returns-4 returns-5)

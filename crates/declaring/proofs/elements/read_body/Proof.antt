@@ -7,18 +7,6 @@ use mathlib.Core.Path.{subst}
 use Rattle.declaring.proofs.elements.read_body.Statement.{statement}
 use Rattle.declaring.proofs.elements.read_body.Tie as tie
 
-slice-aggregate-ends : tie.Need-slice-aggregate-ends
-slice-aggregate-ends c = search needs
-
-ends-requires : tie.Need-ends-requires
-ends-requires c κs = search needs
-
-enum-known-i : tie.Need-enum-known-i
-enum-known-i c = search needs
-
-enum-told : tie.Need-enum-told
-enum-told c = search needs
-
 read-end-tag-requires : tie.Need-read-end-tag-requires
 read-end-tag-requires c κs = (search needs, tt)
 
@@ -31,12 +19,6 @@ read-values-requires : tie.Need-read-values-requires
 read-values-requires c κs =
     let at-i = c .before in let at-ends = at-i .before .before in
     subst (TagIs _ _ _) (at-i .i .given .1) (at-ends .ends .ensures) .within .1
-
-enum-known-value : tie.Need-enum-known-value
-enum-known-value c = search needs
-
-enum-told-2 : tie.Need-enum-told-2
-enum-told-2 c = search needs
 
 returns-2 : tie.Need-returns-2
 returns-2 c =
@@ -60,5 +42,5 @@ returns-3 c =
 pub read-body-spec : {M : Type 1} → statement M
 read-body-spec =
     tie.close
-    (tie.spec slice-aggregate-ends ends-requires enum-known-i enum-told read-end-tag-requires returns read-values-requires enum-known-value
-    enum-told-2 returns-2 read-end-tag-requires-2 returns-3)
+    (tie.spec (λ c. search needs) (λ c κs. search needs) (λ c. search needs) (λ c. search needs) read-end-tag-requires returns read-values-requires (λ c. search needs)
+    (λ c. search needs) returns-2 read-end-tag-requires-2 returns-3)

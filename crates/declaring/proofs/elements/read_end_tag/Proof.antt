@@ -6,20 +6,8 @@ use mathlib.Core.Path.{subst}
 use Rattle.declaring.proofs.elements.read_end_tag.Statement.{statement}
 use Rattle.declaring.proofs.elements.read_end_tag.Tie as tie
 
-skip-white-requires : tie.Need-skip-white-requires
-skip-white-requires c κs = search needs
-
-slice-aggregate-whole-tag : tie.Need-slice-aggregate-whole-tag
-slice-aggregate-whole-tag c = search needs
-
 whole-tag-requires : tie.Need-whole-tag-requires
 whole-tag-requires c κs = c .before .skip-white .ensures .high
-
-enum-known-next : tie.Need-enum-known-next
-enum-known-next c = search needs
-
-enum-told : tie.Need-enum-told
-enum-told c = search needs
 
 returns : tie.Need-returns
 returns c =
@@ -35,4 +23,4 @@ returns-2 c =
 
 pub read-end-tag-spec : {M : Type 1} → statement M
 read-end-tag-spec =
-    tie.close (tie.spec skip-white-requires slice-aggregate-whole-tag whole-tag-requires enum-known-next enum-told returns returns-2)
+    tie.close (tie.spec (λ c κs. search needs) (λ c. search needs) whole-tag-requires (λ c. search needs) (λ c. search needs) returns returns-2)

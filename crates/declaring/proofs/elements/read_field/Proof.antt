@@ -7,30 +7,12 @@ use mathlib.Core.Path.{subst}
 use Rattle.declaring.proofs.elements.read_field.Statement.{statement}
 use Rattle.declaring.proofs.elements.read_field.Tie as tie
 
-slice-aggregate-goes-on : tie.Need-slice-aggregate-goes-on
-slice-aggregate-goes-on c = search needs
-
-goes-on-requires : tie.Need-goes-on-requires
-goes-on-requires c κs = search needs
-
-enum-known-from : tie.Need-enum-known-from
-enum-known-from c = search needs
-
-enum-told : tie.Need-enum-told
-enum-told c = search needs
-
 returns : tie.Need-returns
 returns c = field-not _ _ (subst (TagIs _ _ _) (c .enum-told .given .1) (c .before .before .goes-on .ensures))
 
 read-attributes-requires : tie.Need-read-attributes-requires
 read-attributes-requires c κs =
     let at-from = c .before in subst (TagIs _ _ _) (at-from .from .given .1) (at-from .before .before .goes-on .ensures) .within .1
-
-enum-known-t : tie.Need-enum-known-t
-enum-known-t c = search needs
-
-enum-told-2 : tie.Need-enum-told-2
-enum-told-2 c = search needs
 
 returns-2 : tie.Need-returns-2
 returns-2 c =
@@ -43,21 +25,12 @@ read-rest-requires c κs =
     let at-t = c .before in let at-read-attributes = at-t .before .before in
     subst (AttributesIs _ _) (at-t .t .given .1) (at-read-attributes .read-attributes .ensures) .places .1
 
-enum-known-null : tie.Need-enum-known-null
-enum-known-null c = search needs
-
-enum-told-3 : tie.Need-enum-told-3
-enum-told-3 c = search needs
-
 returns-3 : tie.Need-returns-3
 returns-3 c =
     let at-read-rest = c .before .before in let at-t = at-read-rest .before .before in let at-read-attributes = at-t .before .before in
     let at-from = at-read-attributes .before .before in let at-goes-on = at-from .before .before in
     field-open _ _ _ (subst (TagIs _ _ _) (at-from .from .given .1) (at-goes-on .goes-on .ensures)) _ _ (subst (AttributesIs _ _) (at-t .t .given .1)
     (at-read-attributes .read-attributes .ensures)) (subst (BodyIs _ _ _) (c .enum-told3 .given .1) (at-read-rest .read-rest .ensures))
-
-assemble-requires : tie.Need-assemble-requires
-assemble-requires c κs = search needs
 
 returns-4 : tie.Need-returns-4
 returns-4 c =
@@ -70,5 +43,5 @@ returns-4 c =
 pub read-field-spec : {M : Type 1} → statement M
 read-field-spec =
     tie.close
-    (tie.spec slice-aggregate-goes-on goes-on-requires enum-known-from enum-told returns read-attributes-requires enum-known-t enum-told-2
-    returns-2 read-rest-requires enum-known-null enum-told-3 returns-3 assemble-requires returns-4)
+    (tie.spec (λ c. search needs) (λ c κs. search needs) (λ c. search needs) (λ c. search needs) returns read-attributes-requires (λ c. search needs) (λ c. search needs)
+    returns-2 read-rest-requires (λ c. search needs) (λ c. search needs) returns-3 (λ c κs. search needs) returns-4)

@@ -6,34 +6,10 @@ use mathlib.Core.Path.{subst}
 use Rattle.declaring.proofs.elements.read_rest.Statement.{statement}
 use Rattle.declaring.proofs.elements.read_rest.Tie as tie
 
-slice-aggregate-ends : tie.Need-slice-aggregate-ends
-slice-aggregate-ends c = search needs
-
-ends-requires : tie.Need-ends-requires
-ends-requires c κs = search needs
-
-enum-known-next : tie.Need-enum-known-next
-enum-known-next c = search needs
-
-enum-told : tie.Need-enum-told
-enum-told c = search needs
-
-slice-aggregate-ends-2 : tie.Need-slice-aggregate-ends-2
-slice-aggregate-ends-2 c = search needs
-
-ends-requires-2 : tie.Need-ends-requires-2
-ends-requires-2 c κs = search needs
-
-enum-known-i : tie.Need-enum-known-i
-enum-known-i c = search needs
-
 read-body-requires : tie.Need-read-body-requires
 read-body-requires c κs =
     let at-i = c .before in let at-ends2 = at-i .before .before in
     subst (TagIs _ _ _) (at-i .i .given .1) (at-ends2 .ends2 .ensures) .within .1
-
-enum-told-2 : tie.Need-enum-told-2
-enum-told-2 c = search needs
 
 returns : tie.Need-returns
 returns c =
@@ -56,5 +32,5 @@ returns-3 c =
 pub read-rest-spec : {M : Type 1} → statement M
 read-rest-spec =
     tie.close
-    (tie.spec slice-aggregate-ends ends-requires enum-known-next enum-told slice-aggregate-ends-2 ends-requires-2 enum-known-i
-    read-body-requires enum-told-2 returns returns-2 returns-3)
+    (tie.spec (λ c. search needs) (λ c κs. search needs) (λ c. search needs) (λ c. search needs) (λ c. search needs) (λ c κs. search needs) (λ c. search needs)
+    read-body-requires (λ c. search needs) returns returns-2 returns-3)

@@ -7,42 +7,21 @@ use mathlib.Core.Path.{subst}
 use Rattle.declaring.proofs.elements.read_values.Statement.{statement}
 use Rattle.declaring.proofs.elements.read_values.Tie as tie
 
-read-attributes-requires : tie.Need-read-attributes-requires
-read-attributes-requires c κs = search needs
-
-enum-known-t : tie.Need-enum-known-t
-enum-known-t c = search needs
-
-enum-told : tie.Need-enum-told
-enum-told c = search needs
-
 returns : tie.Need-returns
 returns c =
     let at-read-attributes = c .before .before in
     values-broken _ _ (subst (AttributesIs _ _) (c .enum-told .given .1) (at-read-attributes .read-attributes .ensures))
-
-slice-aggregate-ends : tie.Need-slice-aggregate-ends
-slice-aggregate-ends c = search needs
 
 ends-requires : tie.Need-ends-requires
 ends-requires c κs =
     let at-t = c .before .before in let at-read-attributes = at-t .before .before in
     subst (AttributesIs _ _) (at-t .t .given .1) (at-read-attributes .read-attributes .ensures) .places .1
 
-enum-known-next : tie.Need-enum-known-next
-enum-known-next c = search needs
-
-enum-told-2 : tie.Need-enum-told-2
-enum-told-2 c = search needs
-
 returns-2 : tie.Need-returns-2
 returns-2 c =
     let at-ends = c .before .before in let at-t = at-ends .before .before .before in let at-read-attributes = at-t .before .before in
     values-open _ _ _ _ (subst (AttributesIs _ _) (at-t .t .given .1) (at-read-attributes .read-attributes .ensures)) (subst (TagIs _ _ _)
     (c .enum-told2 .given .1) (at-ends .ends .ensures))
-
-values-body-requires : tie.Need-values-body-requires
-values-body-requires c κs = search needs
 
 returns-3 : tie.Need-returns-3
 returns-3 c =
@@ -54,4 +33,5 @@ returns-3 c =
 pub read-values-spec : {M : Type 1} → statement M
 read-values-spec =
     tie.close
-    (tie.spec read-attributes-requires enum-known-t enum-told returns slice-aggregate-ends ends-requires enum-known-next enum-told-2 returns-2 values-body-requires returns-3)
+    (tie.spec (λ c κs. search needs) (λ c. search needs) (λ c. search needs) returns (λ c. search needs) ends-requires (λ c. search needs) (λ c. search needs) returns-2
+    (λ c κs. search needs) returns-3)

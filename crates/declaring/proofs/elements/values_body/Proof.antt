@@ -4,15 +4,6 @@ use borrow.Author.Needs.{needs}
 use Rattle.declaring.proofs.elements.values_body.Statement.{statement}
 use Rattle.declaring.proofs.elements.values_body.Tie as tie
 
-enum-told : tie.Need-enum-told
-enum-told c = search needs
-
-enum-known-m : tie.Need-enum-known-m
-enum-known-m c = search needs
-
-enum-told-2 : tie.Need-enum-told-2
-enum-told-2 c = search needs
-
 returns : tie.Need-returns
 returns c = values-body-is _ _ _ (c .enum-told .given .1)
 
@@ -23,4 +14,4 @@ returns-3 : tie.Need-returns-3
 returns-3 c = values-body-is _ _ _ (c .enum-told2 .given .1)
 
 pub values-body-spec : {M : Type 1} → statement M
-values-body-spec = tie.close (tie.spec enum-told enum-known-m enum-told-2 returns returns-2 returns-3)
+values-body-spec = tie.close (tie.spec (λ c. search needs) (λ c. search needs) (λ c. search needs) returns returns-2 returns-3)

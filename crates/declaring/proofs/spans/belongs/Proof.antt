@@ -6,23 +6,8 @@ use mathlib.Core.Path.{_∙_, ap}
 use Rattle.declaring.proofs.spans.belongs.Statement.{statement}
 use Rattle.declaring.proofs.spans.belongs.Tie as tie
 
-enum-told : tie.Need-enum-told
-enum-told c = search needs
-
-is-name-byte-requires : tie.Need-is-name-byte-requires
-is-name-byte-requires c κs = search needs
-
-enum-known-class : tie.Need-enum-known-class
-enum-known-class c = search needs
-
 returns : tie.Need-returns
 returns c = quote-no _ _ (c .if1 .taken) ∙ class-is _ _ _ (c .before .before .class .given .1)
-
-enum-told-2 : tie.Need-enum-told-2
-enum-told-2 c = search needs
-
-is-white-requires : tie.Need-is-white-requires
-is-white-requires c κs = search needs
 
 returns-2 : tie.Need-returns-2
 returns-2 c = c .is-name-byte .ensures ∙ class-is _ _ _ (c .before .enum-told .given .1)
@@ -35,4 +20,4 @@ returns-4 c = ap not (c .is-white .ensures) ∙ class-is _ _ _ (c .before .enum-
 
 pub belongs-spec : {M : Type 1} → statement M
 belongs-spec =
-    tie.close (tie.spec enum-told is-name-byte-requires enum-known-class returns enum-told-2 is-white-requires returns-2 returns-3 returns-4)
+    tie.close (tie.spec (λ c. search needs) (λ c κs. search needs) (λ c. search needs) returns (λ c. search needs) (λ c κs. search needs) returns-2 returns-3 returns-4)

@@ -19,18 +19,6 @@ abbrev μ-loop : tie.MeasureT-loop
 loop-holds : tie.Need-loop-holds Inv-loop μ-loop
 loop-holds c = (search needs, search needs, refl)
 
-shared-slice-read-belongs : tie.Need-shared-slice-read-belongs Inv-loop μ-loop
-shared-slice-read-belongs c = search needs
-
-belongs-requires : tie.Need-belongs-requires Inv-loop μ-loop
-belongs-requires c κs = search needs
-
-add-i : tie.Need-add-i Inv-loop μ-loop
-add-i c = search needs
-
-loop-less : tie.Need-loop-less Inv-loop μ-loop
-loop-less c = search needs
-
 loop-again : tie.Need-loop-again Inv-loop μ-loop
 loop-again c =
     let at-belongs = c .before in let at-loop-test = at-belongs .before .before in let at-loop = at-loop-test .before in
@@ -54,4 +42,4 @@ returns-2 c =
     record { count = omega (arith, stop); onward = search needs; inside = search needs }
 
 pub span-end-spec : {M : Type 1} → statement M
-span-end-spec = tie.close (tie.spec Inv-loop μ-loop loop-holds shared-slice-read-belongs belongs-requires add-i loop-less loop-again returns returns-2)
+span-end-spec = tie.close (tie.spec Inv-loop μ-loop loop-holds (λ c. search needs) (λ c κs. search needs) (λ c. search needs) (λ c. search needs) loop-again returns returns-2)
