@@ -11,7 +11,7 @@ use lib.Dec.{eqb}
 use lib.IntN.{ℤ}
 use lib.ListN.{drop, drop-of-length-le, length, length-append, take-append-drop}
 use borrow.Author.Tests.{eq-eqb, ne-eqb}
-use Rattle.convert.specs.Contracts.{Grown, GrownBy, HoldsAs, addedTo, formOf, holdingOf, sizeOrRefusal}
+use Rattle.convert.specs.Contracts.{Grown, GrownBy, HoldsAs, addedTo, measuredAs, holdingOf, sizeOrRefusal}
 use Rattle.convert.specs.declared.Measured.{Measured}
 use Rattle.table.specs.ColumnList.{listed}
 use Rattle.binary.specs.Binary.{flagBit}
@@ -76,18 +76,18 @@ few-more (d ∷ cs) (y ∷ xs) c more x f e g = (f .0, few-more cs xs c more x (
 
 -- what it takes is added; the first refusal stays
 module _ (m : Measured) where
-  pub form-bytes : (b : ℕ) → sizeOrRefusal (m .size + b) (m .number) (m .column) ≡ addedTo (formOf m) (good b)
-  form-bytes b = go (eqb (m .number) 0)
+  pub measured-bytes : (b : ℕ) → sizeOrRefusal (m .size + b) (m .number) (m .column) ≡ addedTo (measuredAs m) (good b)
+  measured-bytes b = go (eqb (m .number) 0)
     where
       go : (t : Bool) → cond t (good (m .size + b)) (bad (at (m .column) (m .number))) ≡ addedTo (cond t (good (m .size)) (bad (at (m .column) (m .number)))) (good b)
       go true = refl
       go false = refl
 
-  pub form-first : (size i k : ℕ) → m .number ≡ 0 → 0 < k → sizeOrRefusal size k i ≡ addedTo (formOf m) (bad (at i k))
-  form-first size i k z p = rw (ne-eqb k 0 (λ e. omega (arith, e, p)), eq-eqb (m .number) 0 z)
+  pub measured-first : (size i k : ℕ) → m .number ≡ 0 → 0 < k → sizeOrRefusal size k i ≡ addedTo (measuredAs m) (bad (at i k))
+  measured-first size i k z p = rw (ne-eqb k 0 (λ e. omega (arith, e, p)), eq-eqb (m .number) 0 z)
 
-  pub form-later : (size : ℕ) (v : Result Refusal ℕ) → (m .number ≡ 0 → ⊥) → sizeOrRefusal size (m .number) (m .column) ≡ addedTo (formOf m) v
-  form-later size v h = rw (ne-eqb (m .number) 0 h)
+  pub measured-later : (size : ℕ) (v : Result Refusal ℕ) → (m .number ≡ 0 → ⊥) → sizeOrRefusal size (m .number) (m .column) ≡ addedTo (measuredAs m) v
+  measured-later size v h = rw (ne-eqb (m .number) 0 h)
 
 -- a cell that was measured
 pub grown-of : (to : Rows) (c : Column) (i : ℕ) (m : Measured) (x : Cell) (entry exit : List ℤ) (q : Measured) (b : Bool) (n : ℕ) (size : Size)
@@ -95,7 +95,7 @@ pub grown-of : (to : Rows) (c : Column) (i : ℕ) (m : Measured) (x : Cell) (ent
     → ((cells : List ℤ) → HoldsAs entry cells (holdingOf (m .held)) → HoldsAs exit (cells ++ heldCell x) (holdingOf (q .held))) → Grown to c i m x entry exit q
 grown-of to c i m x entry exit q b n size g e be few k = record {
   nulls = g .nulls ∙ ap (λ (y : Bool). toDigits 2 i (m .nulls) ++ (flagBit y ∷ [])) be;
-  form = g .form ∙ ap (λ (y : Result ℕ ℕ). addedTo (formOf m) (refusedAs (at i) y)) e;
+  form = g .form ∙ ap (λ (y : Result ℕ ℕ). addedTo (measuredAs m) (refusedAs (at i) y)) e;
   short = g .short;
   few = few;
   held = k;
@@ -106,7 +106,7 @@ pub record RowMeasured (to : Rows) (cols : List Column) (acc : List Cell) (scrat
   pub short : m .size ≤ 100000 * i
   pub w : Result Refusal (List ℕ)
   pub writes : (xs : List Cell) → writeCells to cols (acc ++ xs) 0 ≡ join w (writeCells to (drop i cols) xs i)
-  pub says : formOf m ≡ lengthOf w
+  pub says : measuredAs m ≡ lengthOf w
   pub word : toDigits 2 i (m .nulls) ≡ nullBits acc
   pub many : length acc ≡ i
   pub few : FewCells cols acc
@@ -175,7 +175,7 @@ module _ (from to : Rows) (cols : Columns) (flags : ℕ) (s : List ℕ) (body pl
   pub row-cannot : (m .number ≡ 0 → ⊥) → writeRow to (listed cols) (read .acc) ≡ bad (at (m .column) (m .number))
   unfolding writeRow
   row-cannot h =
-      let f : formOf m ≡ bad (at (m .column) (m .number)) = rw (ne-eqb (m .number) 0 h) in
+      let f : measuredAs m ≡ bad (at (m .column) (m .number)) = rw (ne-eqb (m .number) 0 h) in
       rw (write-all, said-cannot (inv .w) (m .number) (m .column) (sym f ∙ inv .says))
 
   -- the whole scratch: the cells, and whatever is behind them
@@ -196,7 +196,7 @@ module _ (from to : Rows) (cols : Columns) (flags : ℕ) (s : List ℕ) (body pl
   module _ (z : m .number ≡ 0) where
     formed : good (m .size) ≡ lengthOf (inv .w)
     formed =
-        let f : formOf m ≡ good (m .size) = rw (eq-eqb (m .number) 0 z) in
+        let f : measuredAs m ≡ good (m .size) = rw (eq-eqb (m .number) 0 z) in
         sym f ∙ inv .says
 
     cells : List ℕ

@@ -27,8 +27,8 @@ use Rattle.table.specs.declared.Size.{Size}
 abbrev pub sizeOrRefusal : ℕ → ℕ → ℕ → Result Refusal ℕ
 sizeOrRefusal size number column = cond (eqb number 0) (good size) (bad (at column number))
 
-abbrev pub formOf : Measured → Result Refusal ℕ
-formOf m = sizeOrRefusal (m .size) (m .number) (m .column)
+abbrev pub measuredAs : Measured → Result Refusal ℕ
+measuredAs m = sizeOrRefusal (m .size) (m .number) (m .column)
 
 -- sizes added, or the first refusal
 abbrev pub addedTo : Result Refusal ℕ → Result Refusal ℕ → Result Refusal ℕ
@@ -50,7 +50,7 @@ HoldsAs l cells Holding.Lost = Unit {0}
 -- it is column i's, null or not, of n elements, and takes so much
 pub record GrownBy (i : ℕ) (isNull : Bool) (n : ℕ) (size : Size) (m q : Measured) : Type 0 where
   pub nulls : toDigits 2 (i + 1) (q .nulls) ≡ toDigits 2 i (m .nulls) ++ (flagBit isNull ∷ [])
-  pub form : formOf q ≡ addedTo (formOf m) (refusedAs (at i) (sizeAs size))
+  pub form : measuredAs q ≡ addedTo (measuredAs m) (refusedAs (at i) (sizeAs size))
   pub short : q .size ≤ 100000 * (i + 1)
   pub holds : m .held < 4096 → q .held ≡ m .held + 1 + n
   pub lost : 4096 ≤ m .held → 8192 < q .held
@@ -58,7 +58,7 @@ pub record GrownBy (i : ℕ) (isNull : Bool) (n : ℕ) (size : Size) (m q : Meas
 -- it is x
 pub record Grown (to : Rows) (c : Column) (i : ℕ) (m : Measured) (x : Cell) (entry exit : List ℤ) (q : Measured) : Type 0 where
   pub nulls : toDigits 2 (i + 1) (q .nulls) ≡ toDigits 2 i (m .nulls) ++ (flagBit (isNull x) ∷ [])
-  pub form : formOf q ≡ addedTo (formOf m) (refusedAs (at i) (sizeOf (writeCell to c x)))
+  pub form : measuredAs q ≡ addedTo (measuredAs m) (refusedAs (at i) (sizeOf (writeCell to c x)))
   pub short : q .size ≤ 100000 * (i + 1)
   pub few : FewIn c x
   pub held : (cells : List ℤ) → HoldsAs entry cells (holdingOf (m .held)) → HoldsAs exit (cells ++ heldCell x) (holdingOf (q .held))

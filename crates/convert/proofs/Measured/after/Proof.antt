@@ -1,8 +1,8 @@
 -- convert::Measured::after: by what the cell takes, each way is one law of Measuring.
 use Prim.Native.Nat.{ℕ}
 use mathlib.Core.Path.{_∙_, ap, subst, sym}
-use Rattle.convert.proofs.Measuring.{form-bytes, form-first, form-later}
-use Rattle.convert.specs.Contracts.{addedTo, formOf}
+use Rattle.convert.proofs.Measuring.{measured-bytes, measured-first, measured-later}
+use Rattle.convert.specs.Contracts.{addedTo, measuredAs}
 use Rattle.row_writing.specs.Contracts.{SizeWithin}
 use Rattle.table.specs.Contracts.{sizeAs}
 use Rattle.table.specs.Outcome.{Refusal, at}
@@ -15,7 +15,7 @@ use Rattle.convert.proofs.Measured.after.Tie as tie
 
 -- what the cell takes, where its size is known
 abbrev with-size : tie.Start → Size → Result Refusal ℕ
-with-size a z = addedTo (formOf (a .args .self)) (refusedAs (at (a .args .i)) (sizeAs z))
+with-size a z = addedTo (measuredAs (a .args .self)) (refusedAs (at (a .args .i)) (sizeAs z))
 
 add-t12 : tie.Need-add-t12
 add-t12 c =
@@ -29,7 +29,7 @@ returns c =
     let z = c .before .before .size .given .1 in
     record {
       nulls = c .before .before .before .before .before .add-flag .ensures;
-      form = form-bytes (a .args .self) (c .before .before .size .given .0 .0) ∙ ap (with-size a) (sym z);
+      form = measured-bytes (a .args .self) (c .before .before .size .given .0 .0) ∙ ap (with-size a) (sym z);
       short = omega (arith, a .pre .0, subst SizeWithin z (a .pre .2));
       holds = h .0;
       lost = h .1;
@@ -42,7 +42,7 @@ returns-2 c =
     let z = c .before .before .size2 .given .1 in
     record {
       nulls = c .before .before .before .before .before .add-flag .ensures;
-      form = form-first (a .args .self) (a .args .self .size) (a .args .i) (c .before .before .size2 .given .0 .0) (c .if1 .taken) (subst SizeWithin z (a .pre .2)) ∙ ap (with-size a) (sym z);
+      form = measured-first (a .args .self) (a .args .self .size) (a .args .i) (c .before .before .size2 .given .0 .0) (c .if1 .taken) (subst SizeWithin z (a .pre .2)) ∙ ap (with-size a) (sym z);
       short = omega (arith, a .pre .0);
       holds = h .0;
       lost = h .1;
@@ -54,7 +54,7 @@ returns-3 c =
     let h = c .before .before .before .before .held-with .ensures in
     record {
       nulls = c .before .before .before .before .before .add-flag .ensures;
-      form = form-later (a .args .self) (a .args .self .size) (refusedAs (at (a .args .i)) (sizeAs (a .args .size))) (c .if1 .left);
+      form = measured-later (a .args .self) (a .args .self .size) (refusedAs (at (a .args .i)) (sizeAs (a .args .size))) (c .if1 .left);
       short = omega (arith, a .pre .0);
       holds = h .0;
       lost = h .1;
