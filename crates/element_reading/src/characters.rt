@@ -4,9 +4,9 @@ use super::references::expand;
 use text::Tag;
 use text::whole_tag;
 ghost use Prim.Native.Nat.{_≤_};
-ghost use Rattle.tabledata.specs.TableData.{characters, plain, reference};
+ghost use Rattle.tabledata.specs.TableData.{characters, reference};
 ghost use Rattle.element_reading.specs.Characters.{ItemIs, NameIs, charactersOf, ended, spoiledNumber};
-ghost use Rattle.element_reading.specs.declared.characters.Source.the-variants.{Markup, Plain};
+ghost use Rattle.element_reading.specs.declared.characters.Source.the-variants.{Markup};
 ghost use lib.ListN.{drop, length};
 ghost use mathlib.Core.List.{[]};
 ghost use mathlib.Core.Path.{_≡_};
@@ -64,44 +64,31 @@ fn end_tag(s: &[u8], at: usize) -> Item
     Item::End(next)
 }
 
-// The character at a place of a cell's text, or where that ends.
-fn markup_character(s: &[u8], at: usize) -> Item
-    requires { ⌜ at ≤ length (now s) ⌝ }
-    ensures { λ r. ⌜ ItemIs Markup (characters plain (drop at (now (s .entry)))) (now (s .entry)) at r ⌝ }
-{
-    if s.len() <= at {
-        return Item::Broken;
-    }
-    let c = s[at];
-    if c == 60 {
-        return end_tag(s, at);
-    }
-    if c == 38 {
-        return refer(s, at + 1);
-    }
-    Item::Code(c as u32, at + 1)
-}
-
-// The byte at a place of a plain part, or its end.
-fn plain_character(s: &[u8], at: usize) -> Item
-    requires { ⌜ at ≤ length (now s) ⌝ }
-    ensures { λ r. ⌜ ItemIs Plain (charactersOf Plain (drop at (now (s .entry)))) (now (s .entry)) at r ⌝ }
-{
-    if s.len() <= at {
-        return Item::End(at);
-    }
-    Item::Code(s[at] as u32, at + 1)
-}
-
-// The character at a place, or where the text ends.
+// The character at a place, or where the text ends: only markup has tags and references, and an end that is asked for.
 pub(crate) fn character_at(s: &[u8], at: usize, source: Source) -> Item
     requires { ⌜ at ≤ length (now s) ⌝ }
     ensures { λ r. ⌜ ItemIs source (charactersOf source (drop at (now (s .entry)))) (now (s .entry)) at r ⌝ }
 {
-    match source {
-        Source::Markup => markup_character(s, at),
-        Source::Plain => plain_character(s, at),
+    if s.len() <= at {
+        return match source {
+            Source::Markup => Item::Broken,
+            Source::Plain => Item::End(at),
+        };
     }
+    let c = s[at];
+    if c == 60 {
+        return match source {
+            Source::Markup => end_tag(s, at),
+            Source::Plain => Item::Code(60, at + 1),
+        };
+    }
+    if c == 38 {
+        return match source {
+            Source::Markup => refer(s, at + 1),
+            Source::Plain => Item::Code(38, at + 1),
+        };
+    }
+    Item::Code(c as u32, at + 1)
 }
 
 // A text that has a character or an element it should not have: 10 is still to be looked for through its end.

@@ -93,16 +93,22 @@ module _ (s : List ℕ) (i : ℕ) where
   unfolding characters step follow
   text-reference h n e = rw (next1 s i h) (rw (ne-eqb (getD s i 0) 60 n, eq-eqb (getD s i 0) 38 e))
 
-  pub text-plain : i < length s → (getD s i 0 ≡ 60 → ⊥) → (getD s i 0 ≡ 38 → ⊥) → characters plain (drop i s) ≡ consText (getD s i 0) (characters plain (drop (i + 1) s))
+  text-plain : i < length s → (getD s i 0 ≡ 60 → ⊥) → (getD s i 0 ≡ 38 → ⊥) → characters plain (drop i s) ≡ consText (getD s i 0) (characters plain (drop (i + 1) s))
   unfolding characters step follow
   text-plain h n e = rw (next1 s i h) (rw (ne-eqb (getD s i 0) 60 n, ne-eqb (getD s i 0) 38 e))
 
   pub plain-end : i ≤ length s → length s ≤ i → ItemIs Plain (charactersOf Plain (drop i s)) s i (End i)
   plain-end l h = record { found = rw (done s i h); within = (omega arith, omega arith) }
 
-  pub plain-more : i < length s → charactersOf Plain (drop i s) ≡ consText (getD s i 0) (charactersOf Plain (drop (i + 1) s))
+  plain-more : i < length s → charactersOf Plain (drop i s) ≡ consText (getD s i 0) (charactersOf Plain (drop (i + 1) s))
   unfolding consText
   plain-more h = rw (next1 s i h)
+
+  pub plain-code : (c : ℕ) → i < length s → getD s i 0 ≡ c → ItemIs Plain (charactersOf Plain (drop i s)) s i (Code c (i + 1))
+  plain-code c h e = record {
+    found = plain-more h ∙ ap (λ (b : ℕ). consText b (charactersOf Plain (drop (i + 1) s))) e;
+    within = (omega arith, omega arith);
+  }
 
   -- a byte that neither begins a tag nor a reference stands for itself, wherever it is read
   pub itself : (source : Source) → i < length s → (getD s i 0 ≡ 60 → ⊥) → (getD s i 0 ≡ 38 → ⊥)
