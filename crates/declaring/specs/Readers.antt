@@ -5,6 +5,7 @@ use mathlib.Core.List.{List, [], _∷_}
 use mathlib.Core.Option.{Option, none, some}
 use mathlib.Core.Path.{_≡_}
 use lib.Dec.{eqb}
+use lib.IntN.{ℤ}
 use lib.ListN.{drop, length, take}
 use Rattle.fields.specs.Fields.{Attribute, Field, atMostOne, attributes, fieldBody, isNameByte, lengthOf, nullValue, readValue, valuesOf}
 use Rattle.declaring.specs.declared.attributes.Attributes.{Attributes}
@@ -33,7 +34,7 @@ use Rattle.declaring.specs.declared.attributes.Quoted.the-variants as of
 use Rattle.declaring.specs.declared.attributes.Tally.{Tally}
 use Rattle.declaring.specs.declared.attributes.Value.{Value}
 use Rattle.declaring.specs.declared.attributes.Value.the-variants as of-value
-use Rattle.table.specs.Bytes.{byte, bytes, ends, isWhite, same, skipWhite, tag, words}
+use Rattle.table.specs.Bytes.{byte, bytes, ends, same, skipWhite, tag, words}
 use Rattle.table.specs.Result.{Result, _>>=_, bad, good, orElse}
 use Rattle.table.specs.Shape.{Bits, Shape, Text, Truths, Whole}
 use Rattle.table.specs.declared.Column.{Column}
@@ -41,7 +42,7 @@ use Rattle.table.specs.declared.Kind.{Kind}
 use Rattle.table.specs.declared.Len.{Len}
 use Rattle.table.specs.declared.Len.the-variants.{Fixed}
 use Rattle.table.specs.declared.Null.{Null}
-use Rattle.table.specs.declared.Null.the-variants.{Undeclared}
+use Rattle.table.specs.declared.Null.the-variants.{Declared, Undeclared}
 use Rattle.text.specs.Contracts.{TagIs}
 use Rattle.text.specs.declared.Tag.{Tag}
 
@@ -54,7 +55,6 @@ part s a b = take (b - a) (drop a s)
 abbrev pub inClass : Class → ℕ → Bool
 inClass of-class.Name b = isNameByte b
 inClass (of-class.Quoted quote) b = not (eqb b quote || eqb b (byte "<"))
-inClass of-class.Word b = not (isWhite b)
 
 -- how many bytes at the front pass a test
 unfoldable pub span : (ℕ → Bool) → List ℕ → ℕ
@@ -253,6 +253,13 @@ lenRead (of-len.Shaped l) = good l
 abbrev pub nullRead : NullRead → Result ℕ Null
 nullRead of-null.Broken = bad 4
 nullRead (of-null.Counts n) = good n
+
+-- 4: a null value is one element
+unfoldable pub oneNull : Result ℕ (List ℤ) → Result ℕ Null
+oneNull (good []) = bad 4
+oneNull (good (z ∷ [])) = good (Declared z)
+oneNull (good (z ∷ y ∷ es)) = bad 4
+oneNull (bad n) = bad 4
 
 -- the null value of a scalar: "`null` counts only on scalar integer columns" "Elsewhere it is skipped."
 unfoldable pub nullOfScalar : Shape → List ℕ → Result ℕ Null

@@ -1,17 +1,14 @@
 // The column that a FIELD declares: its kind, its length, its null value.
-ghost use mathlib.Core.List.{[], _∷_};
 ghost use mathlib.Core.Path.{_≡_};
-ghost use Rattle.number.specs.Contracts.{isSigned, widthOf};
-ghost use Rattle.table.specs.Bytes.{words};
+ghost use Rattle.element_reading.specs.Elements.{elementsOf};
 ghost use Rattle.table.specs.Shape.{shape};
-ghost use Rattle.fields.specs.Fields.{beforeStar, boundedLen, judge, kindOf, kinds, lenBefore, lenOf, lengthOf, nullOf, nullValue};
-ghost use Rattle.declaring.specs.Readers.{ElementIn, ValueIn, asWritten, elementOf, fixedLen, judged, kindRead, lenRead, lengthRead, nullOfScalar, nullRead};
+ghost use Rattle.fields.specs.Fields.{beforeStar, boundedLen, judge, kindOf, kinds, lenBefore, lenOf, lengthOf, nullOf};
+ghost use Rattle.declaring.specs.Readers.{ElementIn, ValueIn, asWritten, elementOf, fixedLen, judged, kindRead, lenRead, lengthRead, nullOfScalar, nullRead, oneNull};
 use crate::attributes::Value;
 use crate::elements::Element;
-use crate::spans::Class;
-use crate::spans::span_end;
+use element_reading::Counted;
+use element_reading::plain_elements;
 use number::Elements;
-use number::Integer;
 use number::elements_of;
 use table::Column;
 use table::Kind;
@@ -20,8 +17,6 @@ use table::Null;
 use table::column_of;
 use table::is_scalar;
 use text::same_bytes;
-use text::skip_white;
-use words::IntegerRead;
 
 // What an attribute's value says, or that it says nothing.
 enum KindRead {
@@ -152,28 +147,20 @@ fn read_len(s: &[u8], v: Value) -> LenRead
     }
 }
 
-// A word "read as a cell of that kind".
-fn null_word(word: &[u8], kind: Integer) -> NullRead
-    ensures { λ r. ⌜ nullValue (isSigned kind) (widthOf kind) (now (word .entry) ∷ []) ≡ nullRead r ⌝ }
+// "read as a cell of that kind; an empty one is refused", and so is more than one element.
+fn null_value(t: &[u8], kind: Kind) -> NullRead
+    ensures { λ r. ⌜ oneNull (elementsOf (shape kind) (now (t .entry))) ≡ nullRead r ⌝ }
 {
-    match words::read_word(word, kind) {
-        IntegerRead::Value(z) => NullRead::Counts(Null::Declared(z)),
-        IntegerRead::Outside => NullRead::Broken,
-        IntegerRead::Unwritten => NullRead::Broken,
+    let mut element = [0i64; 1];
+    match plain_elements(t, kind, &mut element) {
+        Counted::Refused(_) => NullRead::Broken,
+        Counted::All(count) => {
+            if count == 1 {
+                return NullRead::Counts(Null::Declared(element[0]));
+            }
+            NullRead::Broken
+        }
     }
-}
-
-// "an empty one is refused", and so is more than one word.
-fn null_value(t: &[u8], kind: Integer) -> NullRead
-    ensures { λ r. ⌜ nullValue (isSigned kind) (widthOf kind) (words (now (t .entry))) ≡ nullRead r ⌝ }
-{
-    let start = skip_white(t, 0);
-    let end = span_end(t, start, Class::Word);
-    let behind = skip_white(t, end);
-    if behind == t.len() {
-        return null_word(&t[start..end], kind);
-    }
-    NullRead::Broken
 }
 
 fn null_of(t: &[u8], kind: Kind) -> NullRead
@@ -183,7 +170,7 @@ fn null_of(t: &[u8], kind: Kind) -> NullRead
         Elements::Truths => NullRead::Counts(Null::Undeclared),
         Elements::Bits => NullRead::Counts(Null::Undeclared),
         Elements::Text => NullRead::Counts(Null::Undeclared),
-        Elements::Whole(integer) => null_value(t, integer),
+        Elements::Whole(_) => null_value(t, kind),
     }
 }
 

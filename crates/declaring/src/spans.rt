@@ -4,13 +4,11 @@ ghost use Prim.Native.Nat.{_≤_};
 ghost use lib.ListN.{length};
 ghost use Rattle.fields.specs.Fields.{isNameByte};
 ghost use Rattle.declaring.specs.Readers.{SpanEnd, inClass};
-use text::is_white;
 
-// Bytes that stand together: a name, what a quote holds, a word.
+// Bytes that stand together: a name, or what a quote holds.
 pub enum Class {
     Name,
     Quoted(u8),
-    Word,
 }
 
 fn is_name_byte(c: u8) -> bool
@@ -34,7 +32,6 @@ fn belongs(class: Class, c: u8) -> bool
             }
             c != 60
         }
-        Class::Word => !is_white(c as u32),
     }
 }
 

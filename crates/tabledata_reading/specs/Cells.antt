@@ -16,7 +16,7 @@ use Rattle.table.specs.declared.Found.{Found}
 use Rattle.table.specs.declared.Kind.{Kind}
 use Rattle.table.specs.declared.Len.{Len}
 use Rattle.tabledata.specs.TableData.{countFits}
-use Rattle.tabledata_reading.specs.Elements.{Stored}
+use Rattle.element_reading.specs.Elements.{Stored}
 
 -- does a count above 0 fit?
 unfoldable pub roomAnd : Kind → Len → ℕ → Bool

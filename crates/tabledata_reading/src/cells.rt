@@ -1,54 +1,31 @@
 // "A cell shows null or a list of elements."
-use super::bits::bits;
-use super::characters::Opening;
-use super::characters::open_cell;
-use super::chars::chars;
-use super::elements::Taken;
-use super::numerals::integers;
-use super::truths::truths;
-use number::Integer;
+use super::openings::Opening;
+use super::openings::open_cell;
+use element_reading::Source;
+use element_reading::Taken;
+use element_reading::read_elements;
 use table::Column;
 use table::Found;
 use table::Kind;
 use table::Len;
+use table::is_char;
 ghost use Prim.Native.Nat.{_≤_};
 ghost use Rattle.table.specs.Cell.{bound, roomFits};
 ghost use Rattle.table.specs.Contracts.{Reads};
 ghost use Rattle.table.specs.Shape.{shape};
 ghost use Rattle.tabledata.specs.TableData.{readText};
 ghost use Rattle.tabledata_reading.specs.Cells.{CellShows, roomAnd};
-ghost use Rattle.tabledata_reading.specs.Elements.{Takes, cellElements};
 ghost use lib.ListN.{drop, length};
 ghost use mathlib.Core.Path.{_≡_};
-
-// A cell's elements, by its kind.
-fn elements(s: &[u8], from: usize, kind: Kind, scratch: &mut [i64]) -> Taken
-    requires { ⌜ from ≤ length (now s) ⌝ }
-    ensures { λ r. ⌜ Takes (cellElements (shape kind) (drop from (now (s .entry)))) (now (s .entry)) from (now (scratch .entry)) (now (scratch .exit)) r ⌝ }
-{
-    match kind {
-        Kind::Boolean => truths(s, from, scratch),
-        Kind::Bit => bits(s, from, scratch),
-        Kind::UnsignedByte => integers(s, from, Integer::UnsignedByte, scratch),
-        Kind::Short => integers(s, from, Integer::Short, scratch),
-        Kind::Int => integers(s, from, Integer::Int, scratch),
-        Kind::Long => integers(s, from, Integer::Long, scratch),
-        Kind::Char => chars(s, from, scratch),
-    }
-}
 
 // "not n of them in a fixed column; fixed char may be shorter, not longer"
 fn fills(kind: Kind, n: usize, count: usize) -> bool
     ensures { λ r. ⌜ r ≡ roomFits (shape kind) n count ⌝ }
 {
-    match kind {
-        Kind::Boolean => count == n,
-        Kind::Bit => count == n,
-        Kind::UnsignedByte => count == n,
-        Kind::Short => count == n,
-        Kind::Int => count == n,
-        Kind::Long => count == n,
-        Kind::Char => count <= n,
+    if is_char(kind) {
+        count <= n
+    } else {
+        count == n
     }
 }
 
@@ -98,7 +75,7 @@ pub fn read_text(s: &[u8], at: usize, column: Column, scratch: &mut [i64]) -> Fo
         Opening::Empty(next) => Found::Null(next),
         Opening::Content(from) => {
             let kind = column.kind;
-            match elements(s, from, kind, scratch) {
+            match read_elements(s, from, Source::Markup, kind, scratch) {
                 Taken::Refused(n) => Found::Refused(n),
                 Taken::Held(count, next) => cell_shows(column, count, next, scratch),
             }

@@ -1,11 +1,5 @@
 // A cell of TABLEDATA is read, and what it shows.
-mod bits;
 mod cells;
-mod characters;
-mod chars;
-mod elements;
-mod numerals;
-mod references;
-mod truths;
+mod openings;
 
 pub use cells::read_text;

@@ -2,11 +2,13 @@
 -- unfolding of the definition at the byte that stands there.
 use Prim.Native.Nat.{_+_, _<_, _≤_, suc, ℕ}
 use native.Mathlib.Omega.{arith}
-use mathlib.Core.Bool.{and-false, false, true}
-use mathlib.Core.List.{List, [], _∷_}
+use mathlib.Core.Bool.{Bool, and-false, false, true}
+use mathlib.Core.List.{List, [], _++_, _∷_}
 use mathlib.Core.Path.{_∙_, _≡_, ap, refl}
+use lib.Dec.{eqb}
 use lib.ListN.{drop, getD, length}
-use borrow.Author.Tests.{eq-eqb, ne-eqb}
+use borrow.Author.Tests.{eq-eqb, eqb-true, ne-eqb}
+use Rattle.table.proofs.Laws.{bad-good}
 use Rattle.table.proofs.Places.{done, next1}
 use Rattle.table.specs.Bytes.{after, bytes, ends, isWhite, same, skipWhite, tag}
 use Rattle.table.specs.Result.{Result, bad, good}
@@ -30,6 +32,17 @@ module _ (s : List ℕ) (i : ℕ) where
   skip-end h = rw (done s i h)
 
 -- ---- a word that the text goes on with
+
+-- what a text goes on with stands at its front
+pub after-is : (n : ℕ) (word t r : List ℕ) → after n word t ≡ good r → t ≡ word ++ r
+unfolding after
+after-is n [] t r e = let q : _≡_ {A = Result ℕ (List ℕ)} (good t) (good r) = e in cc
+after-is n (w ∷ word) [] r e = absurd (bad-good e)
+after-is n (w ∷ word) (b ∷ t) r e = go (eqb w b) refl (λ k. after-is n word t r k)
+  where
+    go : (x : Bool) → eqb w b ≡ x → (after n word t ≡ good r → t ≡ word ++ r) → b ∷ t ≡ w ∷ word ++ r
+    go true q ih = let h : after n word t ≡ good r = rw q at e in rw (eqb-true w b q) (ap (λ (l : List ℕ). b ∷ l) (ih h))
+    go false q ih = absurd (bad-good (rw q at e))
 
 module _ (n : ℕ) (w s : List ℕ) (k j : ℕ) where
   pub after-all : length w ≤ k → after n (drop k w) (drop j s) ≡ good (drop j s)

@@ -9,8 +9,7 @@ use mathlib.Core.List.{List, [], _++_, _∷_}
 use mathlib.Core.Path.{_∙_, _≡_, ap, refl, sym}
 use lib.Dec.{eqb, lit<, lit≤, ltb}
 use lib.IntN.{negsuc, negℤ, pos, ℤ}
-use lib.ListN.{drop, drop-of-length-le, getD, length}
-use lib.Seq.{drop-cons}
+use lib.ListN.{length}
 use borrow.Author.Tests.{eq-eqb, eqb-false, eqb-true, le-ltb, lt-ltb, ltb-false, ltb-true, ne-eqb}
 use Rattle.number.proofs.Laws.{digit-fails, digit-lt, digit-no, hexadigit-fails, hexadigit-lt, pow-16, size-le}
 use Rattle.number.specs.Contracts.{isSigned, size}
@@ -390,14 +389,6 @@ pub feed-more : (w : Word) (s : List ℕ) (c : ℕ) → feed w (s ++ (c ∷ []))
 unfolding feed
 feed-more w [] c = refl
 feed-more w (b ∷ s) c = feed-more (nextWord w b) s c
-
-pub feed-next : (w : Word) (s : List ℕ) (i : ℕ) → i < length s → feed w (drop i s) ≡ feed (nextWord w (getD s i 0)) (drop (i + 1) s)
-unfolding feed
-feed-next w s i h = rw (add-one i, drop-cons s i 0 h)
-
-pub feed-none : (w : Word) (s : List ℕ) (i : ℕ) → length s ≤ i → feed w (drop i s) ≡ w
-unfolding feed
-feed-none w s i h = rw (drop-of-length-le s h)
 
 -- ---- what the code's answers are
 

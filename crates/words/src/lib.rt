@@ -5,7 +5,6 @@ ghost use mathlib.Core.Bool.{false, true};
 ghost use Prim.Native.Nat.{_*_, _<_, _≤_};
 ghost use lib.ListN.{length};
 ghost use Rattle.number.specs.Contracts.{isSigned, size};
-ghost use Rattle.number.specs.Number.{readInteger};
 ghost use Rattle.words.specs.Contracts.{Earlier, QuickIs, DigitsAt, readingOf, top};
 ghost use Rattle.words.specs.Words.{brokenWord, capped, decimalNext, decimalReading, firstNext, fresh, hexadecimalNext, hexadecimalReading, reading, signedReading, nextWord, zeroNext};
 use number::Integer;
@@ -267,19 +266,6 @@ impl Word {
             Form::Broken => IntegerRead::Unwritten,
         }
     }
-}
-
-// The whole text as one word.
-pub fn read_word(s: &[u8], kind: Integer) -> IntegerRead
-    ensures { λ r. ⌜ readingOf r ≡ readInteger (isSigned kind) (size kind) (now (s .entry)) ⌝ }
-{
-    let mut word = Word::new();
-    let mut i = 0;
-    while i < s.len() {
-        word = word.next(s[i]);
-        i += 1;
-    }
-    word.read(kind)
 }
 
 // ---- words of plain digits, quickly

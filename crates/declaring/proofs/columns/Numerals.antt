@@ -13,6 +13,7 @@ use borrow.Author.Tests.{eq-eqb, le-leb, lt-leb, ne-eqb}
 use Rattle.table.proofs.Bytes.{between-no}
 use Rattle.table.proofs.Places.{done, next1}
 use Rattle.fields.specs.Fields.{beforeStar, boundedLen, lengthOf}
+use Rattle.number.proofs.Laws.{digit-no, digit-yes}
 use Rattle.number.specs.Number.{Fault, Unwritten, digit, numeral}
 use Rattle.table.proofs.Laws.{between-is, between-yes}
 use Rattle.table.specs.Bytes.{between}
@@ -41,14 +42,6 @@ pub length-zero : (t : List ℕ) → 0 < length t → getD t 0 0 ≡ 48 → leng
 unfolding lengthOf
 length-zero [] h e = refl
 length-zero (b ∷ t) h e = rw (between-no 49 57 b (λ k l. omega arith))
-
-digit-no : (b : ℕ) → (48 ≤ b → b ≤ 57 → ⊥) → digit b ≡ bad Unwritten
-unfolding digit
-digit-no b h = rw (between-no 48 57 b h)
-
-digit-yes : (b : ℕ) → 48 ≤ b → b ≤ 57 → digit b ≡ good (b - 48)
-unfolding digit
-digit-yes b h k = rw (between-yes 48 57 b h k)
 
 pub length-numeral : (t : List ℕ) → 0 < length t → length t ≤ 4 → (getD t 0 0 ≡ 48 → ⊥) → lengthOf t ≡ capped (numeral digit 10 0 t)
 unfolding lengthOf numeral

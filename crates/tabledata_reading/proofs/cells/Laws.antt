@@ -21,12 +21,13 @@ use Rattle.table.specs.declared.Found.{Found}
 use Rattle.tabledata.proofs.Laws.{nil-elements}
 use Rattle.tabledata.specs.TableData.{allText, characters, countFits, plain, readText, textCell, textElements}
 use Rattle.tabledata_reading.specs.Cells.{CellShows, FoundCount, FoundNext, roomAnd, shownIn}
-use Rattle.tabledata_reading.specs.Characters.{OpeningIs}
-use Rattle.tabledata_reading.specs.Elements.{Stored, Takes, cellElements, elementsOf, onward}
-use Rattle.tabledata_reading.specs.declared.characters.Opening.the-variants.{Content, Empty}
-use Rattle.tabledata_reading.specs.declared.characters.Opening.{Opening}
-use Rattle.tabledata_reading.specs.declared.elements.Taken.the-variants.{Held}
-use Rattle.tabledata_reading.specs.declared.elements.Taken.{Taken}
+use Rattle.tabledata_reading.specs.Openings.{OpeningIs}
+use Rattle.element_reading.specs.Elements.{Stored, Takes, elementsFrom, elementsOf, onward}
+use Rattle.element_reading.specs.declared.characters.Source.the-variants.{Markup}
+use Rattle.tabledata_reading.specs.declared.openings.Opening.the-variants.{Content, Empty}
+use Rattle.tabledata_reading.specs.declared.openings.Opening.{Opening}
+use Rattle.element_reading.specs.declared.elements.Taken.the-variants.{Held}
+use Rattle.element_reading.specs.declared.elements.Taken.{Taken}
 
 -- a cell whose content begins at a place shows what its elements do
 abbrev withRest : {A : Type 0} → List ℕ → A → Result ℕ (A × List ℕ)
@@ -111,15 +112,15 @@ module _ (c : Column) {s : List ℕ} {place : ℕ} {entry : List ℤ} where
   text-empty o = record { found = rw (o .found, nil-elements, nil-not-null); within = o .within; long = refl }
 
 module _ (c : Column) {s : List ℕ} {place from : ℕ} (o : OpeningIs s place (Content from)) where
-  text-content : {r : Result ℕ (List ℤ × List ℕ)} → cellElements (shape (c .kind)) (drop from s) ≡ r → readText c (drop place s) ≡ (r >>= showing c)
-  unfolding readText cellElements
+  text-content : {r : Result ℕ (List ℤ × List ℕ)} → elementsFrom Markup (shape (c .kind)) (drop from s) ≡ r → readText c (drop place s) ≡ (r >>= showing c)
+  unfolding readText elementsFrom
   text-content e = rw (o .found) (text-go c (characters plain (drop from s)) ∙ ap (λ (r : Result ℕ (List ℤ × List ℕ)). r >>= showing c) e)
 
-  pub text-refused : {n : ℕ} {entry exit : List ℤ} → Takes (cellElements (shape (c .kind)) (drop from s)) s from entry exit (Taken.Refused n)
+  pub text-refused : {n : ℕ} {entry exit : List ℤ} → Takes (elementsFrom Markup (shape (c .kind)) (drop from s)) s from entry exit (Taken.Refused n)
       → Reads (readText c (drop place s)) s place entry exit (Refused n)
   text-refused t = record { found = text-content (t .found); within = tt; long = t .long }
 
-  pub text-shows : {n next : ℕ} {entry exit : List ℤ} (r : Found) → Takes (cellElements (shape (c .kind)) (drop from s)) s from entry exit (Held n next) → CellShows c n next exit r
+  pub text-shows : {n next : ℕ} {entry exit : List ℤ} (r : Found) → Takes (elementsFrom Markup (shape (c .kind)) (drop from s)) s from entry exit (Held n next) → CellShows c n next exit r
       → Reads (readText c (drop place s)) s place entry exit r
   text-shows {next = next} {exit = exit} r t f = record { found = text-content (t .found .1) ∙ f .found s (t .found .0) (t .found .2); within = go r (f .few) (f .place); long = t .long }
     where

@@ -1,4 +1,5 @@
 -- declaring::columns::null_of: the null value of a scalar column: by what its elements are.
+use Rattle.declaring.proofs.columns.Nulls.{null-is}
 use Rattle.declaring.specs.Readers.{nullOfScalar}
 use Rattle.number.proofs.Laws.{shape-of}
 use Rattle.number.specs.Contracts.{shapeAs}
@@ -27,8 +28,7 @@ unfolding nullOfScalar
 returns-3 c = known (c .before .before) (c .enum-told3 .given .1)
 
 returns-4 : tie.Need-returns-4
-unfolding nullOfScalar
-returns-4 c = known (c .before .before .before .before) (c .before .before .integer .given .1) ∙ c .null-value .ensures
+returns-4 c = null-is _ _ _ (shape-of (c .before .before .before .elements-of .ensures) (c .before .enum-told4 .given .1)) ∙ c .null-value .ensures
 
 pub null-of-spec : {M : Type 1} → statement M
 null-of-spec =

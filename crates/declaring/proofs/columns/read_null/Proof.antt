@@ -1,6 +1,6 @@
 -- declaring::columns::read_null: the null value counts on a scalar column alone.
 use Rattle.table.specs.Shape.{shape}
-use Rattle.declaring.proofs.columns.Words.{array-null, scalar-null}
+use Rattle.declaring.proofs.columns.Nulls.{array-null, scalar-null}
 use Rattle.declaring.specs.Readers.{ValueIn, asWritten}
 use Rattle.fields.specs.Fields.{nullOf}
 use borrow.Author.Needs.{needs}

@@ -1,8 +1,7 @@
 -- declaring::spans::belongs: by the cases of the class.
 use Rattle.declaring.proofs.spans.NameBytes.{class-is, quote-no, quote-other}
 use borrow.Author.Needs.{needs}
-use mathlib.Core.Bool.{not}
-use mathlib.Core.Path.{_∙_, ap}
+use mathlib.Core.Path.{_∙_}
 use Rattle.declaring.proofs.spans.belongs.Statement.{statement}
 use Rattle.declaring.proofs.spans.belongs.Tie as tie
 
@@ -15,9 +14,5 @@ returns-2 c = c .is-name-byte .ensures ∙ class-is _ _ _ (c .before .enum-told 
 returns-3 : tie.Need-returns-3
 returns-3 c = quote-other _ _ (c .if1 .left) ∙ class-is _ _ _ (c .before .before .class .given .1)
 
-returns-4 : tie.Need-returns-4
-returns-4 c = ap not (c .is-white .ensures) ∙ class-is _ _ _ (c .before .enum-told2 .given .1)
-
 pub belongs-spec : {M : Type 1} → statement M
-belongs-spec =
-    tie.close (tie.spec (λ c. search needs) (λ c κs. search needs) (λ c. search needs) returns (λ c. search needs) (λ c κs. search needs) returns-2 returns-3 returns-4)
+belongs-spec = tie.close (tie.spec (λ c. search needs) (λ c κs. search needs) (λ c. search needs) returns returns-2 returns-3)

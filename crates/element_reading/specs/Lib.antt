@@ -1,0 +1,4 @@
+pub mod References
+pub mod Characters
+pub mod Elements
+pub mod Words
