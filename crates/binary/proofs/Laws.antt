@@ -11,14 +11,18 @@ use lib.IntN.{negsuc, pos, ℤ}
 use lib.ListN.{drop, length, length-append, length-drop, length-map, length-replicate, length-take, replicate, take, take-append-drop}
 use lib.Seq.{drop-at, take-at}
 use borrow.Author.Tests.{eq-eqb, eqb-false, eqb-true, le-leb, le-ltb, leb-true, lt-ltb, ltb-false, ltb-true, ne-eqb}
-use Rattle.binary.specs.Binary.{allZero, atMost, beforeNul, bitBytes, bitOf, bitsOf, bytesOf, canBeEmpty, content, contentBytes, countBytes, countIn, counted, element, elementsBytes, front, groups, nullForm, number, numbers, numbersIn, pack, packed, readBinary, readBinary2, shows, truth, truthByte, unpack, writeBinary, writeBinary2, zeros}
+use Rattle.binary.specs.Binary.{allZero, atMost, beforeNul, bitBytes, bitOf, bitsOf, bytesOf, canBeEmpty, content, contentBytes, countBytes, countIn, counted}
+use Rattle.binary.specs.Binary.{element, elementsBytes, front, groups, nullForm, number, numbers, numbersIn, pack, packed, readBinary, readBinary2, shows, truth}
+use Rattle.binary.specs.Binary.{truthByte, unpack, writeBinary, writeBinary2, zeros}
 use Rattle.binary.specs.Contracts.{filledBytes}
 use Rattle.number.proofs.Laws.{all-to, in-range, length-to, of-lt, of-pattern, of-to, pattern-lt, to-of}
 use Rattle.number.specs.Number.{ofDigits, pattern, toDigits}
-use Rattle.table.proofs.Laws.{Numbered, all-append, all-drop, all-replicate, all-take, cond-cases, fails-bind, fails-cond, fails-every, holds-any, holds-bind, holds-cond, holds-weaken, same-self, show-fits}
+use Rattle.table.proofs.Laws.{Numbered, all-append, all-drop, all-replicate, all-take, cond-cases, fails-bind, fails-cond, fails-every, holds-any, holds-bind}
+use Rattle.table.proofs.Laws.{holds-cond, holds-weaken, null-stands, show-fits}
 use Rattle.table.specs.All.{All, AreBytes}
 use Rattle.table.specs.Bytes.{byte}
-use Rattle.table.specs.Cell.{Cell, Elements, Fits, IsColumn, below, bound, columnOf, emptyIsNull, fits-null, fits-shown, isChar, isElement, isNull, isNullList, isOne, null, nullElement, nullOfKind, roomFits, roomIn, show, shown}
+use Rattle.table.specs.Cell.{Cell, Elements, Fits, IsColumn, below, bound, columnOf, emptyIsNull, fits-null, fits-shown, isChar, isElement, isNull, isNullList, isOne}
+use Rattle.table.specs.Cell.{null, nullElement, nullOfKind, roomFits, roomIn, show, shown}
 use Rattle.table.specs.Outcome.{at}
 use Rattle.table.specs.Result.{Fails, Holds, every, fails, gives, good, holds, refuses}
 use Rattle.table.specs.Shape.{Bits, Shape, Text, Truths, Whole, last, shape}
@@ -307,10 +311,10 @@ null-back : (c : Column) (o : Option ℤ) → nullElement c ≡ o → IsColumn c
 unfolding nullElement nullForm Back1 readBinary show emptyIsNull isNullList
 null-back c none q i =
     holds-cond (canBeEmpty (shape (c .kind)) (c .len))
-    (λ t. holds (λ rest. rw (elements-back c [] rest i (record { each = tt; room = empty-room (shape (c .kind)) (c .len) t; few = zero-le }), q))) (λ _. refuses)
+    (λ t. holds (λ rest. rw (elements-back c [] rest i (record { each = tt; room = empty-room (shape (c .kind)) (c .len) t; few = zero-le })))) (λ _. refuses)
 null-back c (some z) q i =
     let s : (roomFits (shape (c .kind)) (roomIn (c .len) 1) 1 ≡ true) × (1 ≤ bound (c .len)) = scalar-room (shape (c .kind)) (c .len) (nullOfKind (shape (c .kind)) (c .null)) z q in
-    holds {a = elementsBytes c (z ∷ [])} (λ rest. rw (elements-back c (z ∷ []) rest i (record { each = (i .null-is z q, tt); room = s .0; few = s .1 }), q, same-self z))
+    holds {a = elementsBytes c (z ∷ [])} (λ rest. rw (elements-back c (z ∷ []) rest i (record { each = (i .null-is z q, tt); room = s .0; few = s .1 }), null-stands c z q))
 
 pub binary-cell-back : (c : Column) (x : Cell) → IsColumn c → Fits c x → Holds (λ (b : List ℕ). (rest : List ℕ) → readBinary c (b ++ rest) ≡ good (x, rest)) (writeBinary c x)
 unfolding writeBinary readBinary show emptyIsNull Back1

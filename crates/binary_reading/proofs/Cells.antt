@@ -10,7 +10,7 @@ use Rattle.binary_reading.specs.declared.Content.{Content}
 use Rattle.binary_reading.specs.declared.Content.the-variants.{Broken, Filled}
 use Rattle.number.specs.Contracts.{size}
 use Rattle.number.specs.Number.{ofDigits}
-use Rattle.table.specs.Cell.{Cell, emptyIsNull, isNullList, null, nullElement, show, shown}
+use Rattle.table.specs.Cell.{Cell, emptyIsNull, isNullList, null, show, shown, standsForNull}
 use Rattle.table.specs.Contracts.{FoundWithin, Reads}
 use Rattle.table.specs.Outcome.{at}
 use Rattle.table.specs.Result.{Result, _>>=_, bad, every, good}
@@ -88,12 +88,12 @@ module _ (c : Column) (flagged : Bool) (n at size : ℕ) (s : List ℕ) (e : siz
       unfolding shows
       counted-good es r = counted-at ∙ rw (f, ← q, r)
 
-      pub counted-null : (es : List ℤ) → content (shape (c .kind)) n p ≡ good es → isNullList (nullElement c) es ≡ true
+      pub counted-null : (es : List ℤ) → content (shape (c .kind)) n p ≡ good es → isNullList (standsForNull c) es ≡ true
           → readCounted c flagged n (drop at s) ≡ good (null, drop (at + size) s)
       unfolding show
       counted-null es r t = counted-good es r ∙ rw t
 
-      pub counted-shown : (es : List ℤ) → content (shape (c .kind)) n p ≡ good es → isNullList (nullElement c) es ≡ false
+      pub counted-shown : (es : List ℤ) → content (shape (c .kind)) n p ≡ good es → isNullList (standsForNull c) es ≡ false
           → readCounted c flagged n (drop at s) ≡ good (shown es, drop (at + size) s)
       unfolding show
       counted-shown es r t = counted-good es r ∙ rw t

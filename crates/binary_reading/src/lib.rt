@@ -202,7 +202,7 @@ fn read_counted(
     match content {
         Content::Broken(k) => Found::Refused(k),
         Content::Filled(m) => {
-            if table::is_null(table::null_element(column), m, scratch) {
+            if table::is_null(column, m, scratch) {
                 Found::Null(next)
             } else {
                 Found::Shown(m, next)

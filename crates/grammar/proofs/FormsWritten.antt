@@ -6,11 +6,12 @@ use mathlib.Core.Option.{Option, none, some}
 use mathlib.Core.Path.{_∙_, _≡_, refl, subst, sym}
 use lib.IntN.{negsuc, pos, ℤ}
 use Rattle.binary.specs.Binary.{canBeEmpty, elementsBytes, nullForm, writeBinary}
-use Rattle.grammar.proofs.ShownRead.{stands-for-is, stands-for-read}
+use Rattle.grammar.proofs.ShownRead.{stands-for-is, stands-written}
 use Rattle.grammar.proofs.TextRead.{text-is, text-read}
-use Rattle.grammar.specs.Valid.{HasForm, XmlForm, form-binary-bounded, form-binary-chars, form-binary-elements, form-binary-free, form-binary-null, form-binary2, form-text-chars, form-text-elements, form-text-null, xml-form}
+use Rattle.grammar.specs.Valid.{HasForm, XmlForm, form-binary-bounded, form-binary-chars, form-binary-elements, form-binary-free, form-binary-null, form-binary2}
+use Rattle.grammar.specs.Valid.{form-text-chars, form-text-elements, form-text-null, xml-form}
 use Rattle.rows.specs.Stream.{writeCell}
-use Rattle.table.proofs.Laws.{good-bind}
+use Rattle.table.proofs.Laws.{good-bind, null-stands}
 use Rattle.table.specs.All.{All}
 use Rattle.table.specs.Cell.{Cell, isChar, null, nullElement, shown}
 use Rattle.table.specs.Result.{IsGood, Result, _>>=_, bad, good}
@@ -70,7 +71,7 @@ form-written {c} (form-text-elements {e = e} {es = es} h) = good-bind (elementTe
 form-written {c} (form-text-chars {e = e} {es = es} k a) =
     good-bind (elementText (shape (c .kind)) (e ∷ es)) _ (rw k (unfold elementText in chars-written (e ∷ es) a)) (λ t. tt)
 form-written form-binary-elements = tt
-form-written {c} (form-binary-null h) = rw (stands-for-read h) (unfold nullForm in tt)
+form-written {c} (form-binary-null h) = rw (stands-written h .1) (unfold nullForm in tt)
 form-written {c} (form-binary-bounded h) = empty-written c (nullElement c) (rw h (unfold canBeEmpty in refl))
 form-written {c} (form-binary-free h) = empty-written c (nullElement c) (rw h (unfold canBeEmpty in refl))
 form-written {c} (form-binary-chars h) = empty-written c (nullElement c) (rw h (chars-empty (c .len)))
@@ -115,7 +116,7 @@ null-form c g = by-element (nullElement c) refl g
 
     by-element : (o : Option ℤ) → nullElement c ≡ o → IsGood (nullForm c o) → HasForm c Binary null
     by-element none q g = unfold nullForm in can-be (canBeEmpty (shape (c .kind)) (c .len)) refl g
-    by-element (some z) q g = form-binary-null (stands-for-is c z q)
+    by-element (some z) q g = form-binary-null (stands-for-is c z (null-stands c z q))
 
 pub form-is : (to : Rows) (c : Column) (x : Cell) → IsGood (writeCell to c x) → HasForm c to x
 unfolding writeCell writeText writeBinary

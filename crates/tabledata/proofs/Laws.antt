@@ -11,15 +11,21 @@ use lib.ListN.{length}
 use borrow.Author.Tests.{eqb-true, le-leb, le-ltb, leb-true, lt-ltb, ltb-true, ne-eqb}
 use Rattle.number.proofs.Laws.{IsDigit, digits-are, digits-some, integer-is, read-shortest}
 use Rattle.number.specs.Number.{digits, hexadigit, numeral, readInteger, shortest, sized}
-use Rattle.table.proofs.Laws.{IsWord, Numbered, after-fails, after-le, all-append, all-map, all-weaken, and-both, between-is, between-yes, cond-cases, every-back, fails-always, fails-bind, fails-cond, fails-else, fails-every, good-bind, holds-any, holds-as, holds-at, holds-bind, holds-cond, holds-else, holds-every, holds-weaken, last-le, nil-not-null, no-white, not-empty, or-either, pieces-space, pieces-word, skip-le, tag-fails, tag-le}
+use Rattle.table.proofs.Laws.{IsWord, Numbered, after-fails, after-le, all-append, all-map, all-weaken, and-both, between-is, between-yes, cond-cases, every-back}
+use Rattle.table.proofs.Laws.{fails-always, fails-bind, fails-cond, fails-else, fails-every, good-bind, holds-any, holds-as, holds-at, holds-bind, holds-cond}
+use Rattle.table.proofs.Laws.{holds-else, holds-every, holds-weaken, last-le, nil-not-null, no-white, not-empty, or-either, pieces-space, pieces-word, skip-le}
+use Rattle.table.proofs.Laws.{tag-fails, tag-le}
 use Rattle.table.specs.All.{All}
 use Rattle.table.specs.Bytes.{after, between, byte, bytes, ends, isWhite, notEmpty, pieces, same, skipWhite, tag, words}
-use Rattle.table.specs.Cell.{Cell, Fits, below, bound, emptyIsNull, fits-null, fits-shown, isElement, isNullList, null, nullElement, roomFits, roomIn, show, shown}
+use Rattle.table.specs.Cell.{Cell, Fits, below, bound, emptyIsNull, fits-null, fits-shown, isElement, isNullList, null, roomFits, roomIn, show, shown, standsForNull}
 use Rattle.table.specs.Contracts.{formBytes}
 use Rattle.table.specs.Result.{Fails, Holds, IsGood, Result, bad, every, fails, gives, good, holds, refuses}
 use Rattle.table.specs.Shape.{Bits, Shape, Text, Truths, Whole, Width, last, shape}
 use Rattle.table.specs.declared.Column.{Column}
-use Rattle.tabledata.specs.TableData.{Step, Where, allText, bitLetter, bitText, bitWords, broken, cellText, characters, close-TD, consText, countFits, elementBytes, elementText, emit, emitted, escaped, expanded, follow, formOf, forms, goes, integerWord, isText, joined, lower, named, names, numeric, open-TD, plain, readText, spaced, step, tagBegins, tagged, textBytes, textCell, textElements, truthLetter, truthText, truthWord, writeText}
+use Rattle.tabledata.specs.TableData.{Step, Where, allText, bitLetter, bitText, bitWords, broken, cellText, characters, close-TD, consText, countFits}
+use Rattle.tabledata.specs.TableData.{elementBytes, elementText, emit, emitted, escaped, expanded, follow, formOf, forms, goes, integerWord, isText, joined}
+use Rattle.tabledata.specs.TableData.{lower, named, names, numeric, open-TD, plain, readText, spaced, step, tagBegins, tagged, textBytes, textCell, textElements}
+use Rattle.tabledata.specs.TableData.{truthLetter, truthText, truthWord, writeText}
 
 -- ---- words
 
@@ -329,7 +335,7 @@ cell-fits c (e ∷ es) a h =
     or-either (eqb (suc (length es)) 0) (roomFits (shape (c .kind)) (roomIn (c .len) (suc (length es))) (suc (length es)) && leb (suc (length es)) (bound (c .len))) h
     (λ z. absurd (omega (arith, eqb-true (suc (length es)) 0 z)))
     (λ z. let b : (roomFits (shape (c .kind)) (roomIn (c .len) (suc (length es))) (suc (length es)) ≡ true) × (leb (suc (length es)) (bound (c .len)) ≡ true) = and-both _ _ z in
-    cond-cases (λ (x : Cell). TextFits c (emptyIsNull x)) (isNullList (nullElement c) (e ∷ es)) null (shown (e ∷ es))
+    cond-cases (λ (x : Cell). TextFits c (emptyIsNull x)) (isNullList (standsForNull c) (e ∷ es)) null (shown (e ∷ es))
     (λ _. null-fits c)
     (λ f. record {
       fits = fits-shown (record { each = all-weaken _ _ (e ∷ es) (λ e h. h .0) a; room = b .0; few = leb-true _ _ (b .1) }) f;

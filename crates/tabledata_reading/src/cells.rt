@@ -59,7 +59,7 @@ fn cell_shows(column: Column, count: usize, next: usize, scratch: &[i64]) -> Fou
     if !count_fits(kind, len, count) {
         return Found::Refused(12);
     }
-    if table::is_null(table::null_element(column), count, scratch) {
+    if table::is_null(column, count, scratch) {
         return Found::Null(next);
     }
     Found::Shown(count, next)

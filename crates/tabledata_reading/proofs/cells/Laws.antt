@@ -11,7 +11,7 @@ use lib.ListN.{drop, length, take}
 use lib.Seq.{take-all}
 use borrow.Author.Tests.{eq-eqb, le-leb, leb-true, ne-eqb}
 use Rattle.table.proofs.Laws.{and-both, nil-not-null}
-use Rattle.table.specs.Cell.{Cell, bound, emptyIsNull, isNullList, null, nullElement, roomFits, roomIn, show, shown}
+use Rattle.table.specs.Cell.{Cell, bound, emptyIsNull, isNullList, null, roomFits, roomIn, show, shown, standsForNull}
 use Rattle.table.specs.Contracts.{FoundWithin, Reads}
 use Rattle.table.specs.Result.{Result, _>>=_, bad, good}
 use Rattle.table.specs.Shape.{Bits, Shape, Text, Truths, Whole, shape}
@@ -80,11 +80,11 @@ module _ (c : Column) {es : List ℤ} {n : ℕ} {l : List ℤ} (rest : List ℕ)
       held-all : take n l ≡ es
       held-all = p .first ∙ take-all (length l) es (omega (arith, p .all, room-few c n e))
 
-      pub shown-null : isNullList (nullElement c) (take n l) ≡ true → shownIn c es rest ≡ good (null, rest)
+      pub shown-null : isNullList (standsForNull c) (take n l) ≡ true → shownIn c es rest ≡ good (null, rest)
       unfolding shownIn show emptyIsNull
       shown-null q = rw (counts h, e, sym held-all, q)
 
-      pub shown-some : isNullList (nullElement c) (take n l) ≡ false → shownIn c es rest ≡ good (shown (take n l), rest)
+      pub shown-some : isNullList (standsForNull c) (take n l) ≡ false → shownIn c es rest ≡ good (shown (take n l), rest)
       unfolding shownIn show
       shown-some q = rw (counts h, e, sym held-all, q) (ap (λ (x : Cell). good (x, rest)) (some-shown (take n l) (omega (arith, p .all, ap length held-all))))
         where

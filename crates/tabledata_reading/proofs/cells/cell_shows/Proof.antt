@@ -2,14 +2,12 @@
 use Prim.Native.Nat.{_≤_}
 use native.Mathlib.Omega.{arith}
 use mathlib.Core.Bool.{true}
-use mathlib.Core.Option.{Option}
-use mathlib.Core.Path.{_∙_, _≡_, ap, refl, sym}
-use lib.IntN.{ℤ}
+use mathlib.Core.Path.{_∙_, _≡_, refl, sym}
 use lib.ListN.{length, take}
 use borrow.Author.Needs.{needs}
 use borrow.Author.Tests.{not-false, not-true}
 use denote.Ref.{now}
-use Rattle.table.specs.Cell.{bound, isNullList, nullElement}
+use Rattle.table.specs.Cell.{bound, isNullList, standsForNull}
 use Rattle.tabledata_reading.proofs.cells.Laws.{room-few, shown-none, shown-not, shown-null, shown-some}
 use Rattle.tabledata_reading.specs.Cells.{roomAnd}
 use Rattle.tabledata_reading.proofs.cells.cell_shows.Statement.{statement}
@@ -31,11 +29,8 @@ room c = omega (arith, c .before .before .before .pre .0, c .before .before .bef
 
 -- whether the elements stand for null
 null : (c : tie.After-is-null) →
-    let at-start = c .before .before .before .before .before in
-    let a = at-start .args in isNullList (nullElement (a .column)) (take (a .count) (now (a .scratch))) ≡ c .is-null .result
-null c =
-    let a = c .before .before .before .before .before .args in
-    sym (ap (λ (o : Option ℤ). isNullList o (take (a .count) (now (a .scratch)))) (c .before .null-element .ensures)) ∙ sym (c .is-null .ensures)
+    let a = c .before .before .before .before .args in isNullList (standsForNull (a .column)) (take (a .count) (now (a .scratch))) ≡ c .is-null .result
+null c = sym (c .is-null .ensures)
 
 returns : tie.Need-returns
 returns c = record { found = λ s es p. shown-none (c .before .args .column) _ p (c .if1 .taken); few = tt; place = refl }
@@ -50,11 +45,11 @@ returns-2 c =
     }
 
 is-null-requires : tie.Need-is-null-requires
-is-null-requires c κs = few (c .before)
+is-null-requires c κs = few c
 
 returns-3 : tie.Need-returns-3
 returns-3 c =
-    let at-if2 = c .before .before .before in let at-if1 = at-if2 .before .before in let at-start = at-if1 .before in
+    let at-if2 = c .before .before in let at-if1 = at-if2 .before .before in let at-start = at-if1 .before in
     record {
       found = λ s es p. shown-null (at-start .args .column) _ p (at-if1 .if1 .left) (fits at-if2) (room at-if2) (null (c .before) ∙ c .if3 .taken);
       few = tt;
@@ -63,7 +58,7 @@ returns-3 c =
 
 returns-4 : tie.Need-returns-4
 returns-4 c =
-    let at-if2 = c .before .before .before in let at-if1 = at-if2 .before .before in let at-start = at-if1 .before in
+    let at-if2 = c .before .before in let at-if1 = at-if2 .before .before in let at-start = at-if1 .before in
     record {
       found = λ s es p. shown-some (at-start .args .column) _ p (at-if1 .if1 .left) (fits at-if2) (room at-if2) (null (c .before) ∙ c .if3 .left);
       few = few at-if2;
@@ -77,7 +72,6 @@ cell-shows-spec =
     returns
     (λ c κs. search needs)
     returns-2
-    (λ c κs. search needs)
     is-null-requires
     returns-3
     returns-4)
