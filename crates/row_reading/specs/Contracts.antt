@@ -1,5 +1,5 @@
 -- What the functions that read rows promise: each case of an answer as the definitions have it.
-use Prim.Native.Nat.{_<_, _≤_, ℕ}
+use Prim.Native.Nat.{_≤_, suc, ℕ}
 use mathlib.Core.Bool.{Bool}
 use mathlib.Core.List.{List, [], map}
 use mathlib.Core.Path.{_≡_}
@@ -63,6 +63,6 @@ abbrev pub PassesCells : Result Refusal (List Cell × List ℕ) → List ℕ →
 PassesCells definition s place (Passed.At next) = (xs : List Cell) × (definition ≡ good (xs, drop next s)) × (place ≤ next) × (next ≤ length s)
 PassesCells definition s place (Passed.Refused n k) = definition ≡ bad (at k n)
 
+-- a row takes at least a byte
 abbrev pub PassesRow : Result Refusal (List Cell × List ℕ) → List ℕ → ℕ → Passed → Type 0
-PassesRow definition s place (Passed.At next) = (xs : List Cell) × (definition ≡ good (xs, drop next s)) × (place < next) × (next ≤ length s)
-PassesRow definition s place (Passed.Refused n k) = definition ≡ bad (at k n)
+PassesRow definition s place r = PassesCells definition s (suc place) r
