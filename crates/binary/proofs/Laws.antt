@@ -12,7 +12,7 @@ use lib.ListN.{drop, length, length-append, length-drop, length-map, length-repl
 use lib.Seq.{drop-at, take-at}
 use borrow.Author.Tests.{eq-eqb, eqb-false, eqb-true, le-leb, le-ltb, leb-true, lt-ltb, ltb-false, ltb-true, ne-eqb}
 use Rattle.binary.specs.Binary.{allZero, atMost, beforeNul, bitBytes, bitOf, bitsOf, bytesOf, canBeEmpty, content, contentBytes, countBytes, countIn, counted}
-use Rattle.binary.specs.Binary.{element, elementsBytes, front, groups, nullForm, number, numbers, numbersIn, pack, packed, readBinary, readBinary2, shows, truth}
+use Rattle.binary.specs.Binary.{element, elementsBytes, firstBytes, groups, nullForm, number, numbers, numbersIn, pack, packed, readBinary, readBinary2, shows, truth}
 use Rattle.binary.specs.Binary.{truthByte, unpack, writeBinary, writeBinary2, zeros}
 use Rattle.binary.specs.Contracts.{filledBytes}
 use Rattle.number.proofs.Laws.{all-to, in-range, length-to, of-lt, of-pattern, of-to, pattern-lt, to-of}
@@ -222,18 +222,18 @@ content-back k n es h a =
 
 -- ---- a cell
 
-pub front-back : (n : ℕ) (p rest : List ℕ) → length p ≡ n → front n (p ++ rest) ≡ good (p, rest)
-unfolding front
-front-back n p rest h =
+pub first-back : (n : ℕ) (p rest : List ℕ) → length p ≡ n → firstBytes n (p ++ rest) ≡ good (p, rest)
+unfolding firstBytes
+first-back n p rest h =
     rw (take-at p rest n h, drop-at p rest n h, le-ltb (length (p ++ rest)) n (simp length-append (omega arith)))
 
 pub count-back : (l : Len) (m : ℕ) (t : List ℕ) → bound l ≤ 4096 → m ≤ bound l → countIn l (countBytes l m ++ t) ≡ good (roomIn l m, t)
 unfolding countIn countBytes counted atMost
 count-back (Fixed n) m t b h = refl
 count-back (Bounded n) m t b h =
-    rw (front-back 4 (toDigits 256 4 m) t (length-to 256 4 m), of-to 256 (lit< tt) 4 m (omega arith), le-ltb n m h)
+    rw (first-back 4 (toDigits 256 4 m) t (length-to 256 4 m), of-to 256 (lit< tt) 4 m (omega arith), le-ltb n m h)
 count-back Free m t b h =
-    rw (front-back 4 (toDigits 256 4 m) t (length-to 256 4 m), of-to 256 (lit< tt) 4 m (omega arith), le-ltb 4096 m h)
+    rw (first-back 4 (toDigits 256 4 m) t (length-to 256 4 m), of-to 256 (lit< tt) 4 m (omega arith), le-ltb 4096 m h)
 
 -- "a 4-byte unsigned count of elements, not bytes": two shorts are counted as 2
 counts-elements : take 4 (elementsBytes (columnOf Short Free Undeclared) (pos 7 ∷ pos 8 ∷ [])) ≡ 0 ∷ 0 ∷ 0 ∷ 2 ∷ []
@@ -250,14 +250,14 @@ elements-back c es rest i x =
     rw (
       append-assoc,
       count-back (c .len) (length es) (bytesOf (shape (c .kind)) n ns ++ rest) (i .most-room) (x .few),
-      front-back (contentBytes (shape (c .kind)) n) (bytesOf (shape (c .kind)) n ns) rest (length-bytes n ns (shape (c .kind)) h),
+      first-back (contentBytes (shape (c .kind)) n) (bytesOf (shape (c .kind)) n ns) rest (length-bytes n ns (shape (c .kind)) h),
       content-back (shape (c .kind)) n es (x .room) (x .each),
     )
 
 pub zeros-back : (c : Column) (rest : List ℕ) → IsColumn c → readBinary2 c true (zeros c ++ rest) ≡ good (null, rest)
 unfolding readBinary2 zeros shows
 zeros-back c rest i =
-    rw (append-assoc, count-back (c .len) 0 _ (i .most-room) zero-le, front-back _ _ rest (length-replicate _ _))
+    rw (append-assoc, count-back (c .len) 0 _ (i .most-room) zero-le, first-back _ _ rest (length-replicate _ _))
 
 -- ---- room
 
@@ -324,16 +324,22 @@ binary-cell-back c (shown (e ∷ es)) i (fits-shown h n) = holds {a = elementsBy
 
 -- ---- what is read fits
 
-pub front-is : (n : ℕ) (s : List ℕ) → AreBytes s → Holds (λ (p : List ℕ × List ℕ). (length (p .0) ≡ n) × AreBytes (p .0) × AreBytes (p .1)) (front n s)
-unfolding front
-front-is n s a =
+pub first-splits : (n : ℕ) (s : List ℕ) → Holds (λ (p : List ℕ × List ℕ). (length (p .0) ≡ n) × (s ≡ p .0 ++ p .1)) (firstBytes n s)
+unfolding firstBytes
+first-splits n s =
+    holds-cond (ltb (length s) n) (λ _. refuses)
+    (λ f. holds (length-take n s ∙ omega (arith, ltb-false (length s) n f), sym (take-append-drop n s)))
+
+pub first-is : (n : ℕ) (s : List ℕ) → AreBytes s → Holds (λ (p : List ℕ × List ℕ). (length (p .0) ≡ n) × AreBytes (p .0) × AreBytes (p .1)) (firstBytes n s)
+unfolding firstBytes
+first-is n s a =
     holds-cond (ltb (length s) n) (λ _. refuses)
     (λ f. holds (length-take n s ∙ omega (arith, ltb-false (length s) n f), all-take _ n s a, all-drop _ n s a))
 
 counted-is : (most : ℕ) (s : List ℕ) → AreBytes s → Holds (λ (p : ℕ × List ℕ). (p .0 ≤ most) × AreBytes (p .1)) (counted most s)
 unfolding counted atMost
 counted-is most s a =
-    holds-bind (front-is 4 s a) (λ p h. holds-cond (ltb most (ofDigits 256 0 (p .0))) (λ _. refuses) (λ f. holds (ltb-false _ _ f, h .2)))
+    holds-bind (first-is 4 s a) (λ p h. holds-cond (ltb most (ofDigits 256 0 (p .0))) (λ _. refuses) (λ f. holds (ltb-false _ _ f, h .2)))
 
 abbrev Counted : Len → ℕ × List ℕ → Type 0
 Counted l p = (roomIn l (p .0) ≡ p .0) × (p .0 ≤ bound l) × AreBytes (p .1)
@@ -395,14 +401,14 @@ pub binary2-fits : (c : Column) (flagged : Bool) (s : List ℕ) → AreBytes s �
 unfolding readBinary2
 binary2-fits c flagged s a =
     holds-bind (count-is (c .len) s a) (λ n h.
-    holds-bind (front-is (contentBytes (shape (c .kind)) (n .0)) (n .1) (h .2)) (λ p g.
+    holds-bind (first-is (contentBytes (shape (c .kind)) (n .0)) (n .1) (h .2)) (λ p g.
     holds-bind (shows-is c flagged (n .0) (p .0) (h .0) (h .1) (g .0) (g .1)) (λ x f. holds (f, g .2))))
 
 -- ---- a cell takes at least a byte
 
-pub front-less : (n : ℕ) (s : List ℕ) → Holds (λ (p : List ℕ × List ℕ). length (p .1) + n ≡ length s) (front n s)
-unfolding front
-front-less n s = holds-cond (ltb (length s) n) (λ _. refuses) (λ f. holds (omega (arith, ltb-false (length s) n f, length-drop n s)))
+pub first-less : (n : ℕ) (s : List ℕ) → Holds (λ (p : List ℕ × List ℕ). length (p .1) + n ≡ length s) (firstBytes n s)
+unfolding firstBytes
+first-less n s = holds-cond (ltb (length s) n) (λ _. refuses) (λ f. holds (omega (arith, ltb-false (length s) n f, length-drop n s)))
 
 content-some : (k : Shape) (n : ℕ) → 1 ≤ n → 1 ≤ contentBytes k n
 unfolding contentBytes bitBytes
@@ -414,7 +420,7 @@ content-some Text n h = h
 counted-less : (most : ℕ) (s : List ℕ) → Holds (λ (p : ℕ × List ℕ). length (p .1) < length s) (counted most s)
 unfolding counted atMost
 counted-less most s =
-    holds-bind (front-less 4 s) (λ p h. holds-cond (ltb most (ofDigits 256 0 (p .0))) (λ _. refuses) (λ _. holds (omega arith)))
+    holds-bind (first-less 4 s) (λ p h. holds-cond (ltb most (ofDigits 256 0 (p .0))) (λ _. refuses) (λ _. holds (omega arith)))
 
 count-less : (k : Shape) (l : Len) (s : List ℕ) → 1 ≤ bound l → Holds (λ (p : ℕ × List ℕ). length (p .1) < length s + contentBytes k (p .0)) (countIn l s)
 unfolding countIn
@@ -426,7 +432,7 @@ pub binary-less : (c : Column) (flagged : Bool) (s : List ℕ) → IsColumn c �
 unfolding readBinary2
 binary-less c flagged s i =
     holds-bind (count-less (shape (c .kind)) (c .len) s (i .some-room)) (λ n h.
-    holds-bind (front-less (contentBytes (shape (c .kind)) (n .0)) (n .1)) (λ p g.
+    holds-bind (first-less (contentBytes (shape (c .kind)) (n .0)) (n .1)) (λ p g.
     holds-bind (holds-any (shows c flagged (n .0) (p .0))) (λ x _. holds (omega arith))))
 
 -- ---- the numbers of its refusals
@@ -456,13 +462,13 @@ in-fails Bits n s = unpack-fails n s
 in-fails (Whole g v) n s = gives
 in-fails Text n s = gives
 
-pub front-fails : (n : ℕ) (s : List ℕ) → Fails (Numbered 8 13) (front n s)
-unfolding front
-front-fails n s = fails-cond (ltb (length s) n) (fails (lit≤ tt, lit≤ tt)) gives
+pub first-fails : (n : ℕ) (s : List ℕ) → Fails (Numbered 8 13) (firstBytes n s)
+unfolding firstBytes
+first-fails n s = fails-cond (ltb (length s) n) (fails (lit≤ tt, lit≤ tt)) gives
 
 counted-fails : (most : ℕ) (s : List ℕ) → Fails (Numbered 8 13) (counted most s)
 unfolding counted atMost
-counted-fails most s = fails-bind (front-fails 4 s) (λ p. fails-cond (ltb most (ofDigits 256 0 (p .0))) (fails (lit≤ tt, lit≤ tt)) gives)
+counted-fails most s = fails-bind (first-fails 4 s) (λ p. fails-cond (ltb most (ofDigits 256 0 (p .0))) (fails (lit≤ tt, lit≤ tt)) gives)
 
 count-fails : (l : Len) (s : List ℕ) → Fails (Numbered 8 13) (countIn l s)
 unfolding countIn
@@ -480,7 +486,7 @@ pub binary2-fails : (c : Column) (flagged : Bool) (s : List ℕ) → Fails (Numb
 unfolding readBinary2
 binary2-fails c flagged s =
     fails-bind (count-fails (c .len) s) (λ n.
-    fails-bind (front-fails (contentBytes (shape (c .kind)) (n .0)) (n .1)) (λ p.
+    fails-bind (first-fails (contentBytes (shape (c .kind)) (n .0)) (n .1)) (λ p.
     fails-bind (shows-fails c flagged (n .0) (p .0)) (λ x. gives)))
 
 pub binary-fails : (c : Column) (s : List ℕ) → Fails (Numbered 8 13) (readBinary c s)

@@ -1,6 +1,6 @@
 -- A turn of each loop that reads: what is still to come from here, behind what stands in the scratch, is the whole.
 use Prim.Native.Nat.{_%_, _*_, _+_, _-_, _/_, _<_, _^_, _≤_, suc, zero, ℕ}
-use Rattle.binary.specs.Binary.{atMost, beforeNul, counted, element, front, truth}
+use Rattle.binary.specs.Binary.{atMost, beforeNul, counted, element, firstBytes, truth}
 use Rattle.binary.specs.Reading.{integers}
 use Rattle.number.specs.Number.{ofDigits, ofPattern, toDigits}
 use Rattle.table.specs.Outcome.{at}
@@ -143,12 +143,12 @@ truth-rest b t f u =
 -- ---- the count
 
 pub count-short : (most at : ℕ) (s : List ℕ) → length s - at < 4 → counted most (drop at s) ≡ bad 8
-unfolding counted front
+unfolding counted firstBytes
 count-short most at s h = rw (length-drop, lt-ltb _ 4 h)
 
 module _ (most at : ℕ) (s : List ℕ) (h : 4 ≤ length s - at) where
   count-at : counted most (drop at s) ≡ atMost most (ofDigits 256 0 (take 4 (drop at s))) (drop (at + 4) s)
-  unfolding counted front
+  unfolding counted firstBytes
   count-at = rw (length-drop, le-ltb _ 4 h, drop-drop 4 at s)
 
   pub count-over : (n : ℕ) → n ≡ ofDigits 256 0 (take 4 (drop at s)) → most < n → counted most (drop at s) ≡ bad 9

@@ -110,8 +110,8 @@ content k n s = numbersIn k n s >>= λ ns. every (element k) ns
 -- ---- a cell is read
 
 -- the first n bytes, and what follows them; 8: "BINARY or BINARY2 stream ends inside a row"
-unfoldable pub front : ℕ → List ℕ → Result ℕ (List ℕ × List ℕ)
-front n s = cond (ltb (length s) n) (bad 8) (good (take n s, drop n s))
+unfoldable pub firstBytes : ℕ → List ℕ → Result ℕ (List ℕ × List ℕ)
+firstBytes n s = cond (ltb (length s) n) (bad 8) (good (take n s, drop n s))
 
 -- 9: "element count over the column's bound"
 unfoldable pub atMost : ℕ → ℕ → List ℕ → Result ℕ (ℕ × List ℕ)
@@ -119,7 +119,7 @@ atMost most n s = cond (ltb most n) (bad 9) (good (n, s))
 
 -- "a 4-byte unsigned count of elements, not bytes"
 unfoldable pub counted : ℕ → List ℕ → Result ℕ (ℕ × List ℕ)
-counted most s = front 4 s >>= λ p. atMost most (ofDigits 256 0 (p .0)) (p .1)
+counted most s = firstBytes 4 s >>= λ p. atMost most (ofDigits 256 0 (p .0)) (p .1)
 
 -- "Bounded and free columns begin with" a count
 unfoldable pub countIn : Len → List ℕ → Result ℕ (ℕ × List ℕ)
@@ -130,7 +130,7 @@ countIn Free s = counted 4096 s
 -- "A BINARY2 row begins with (columns+7)/8 bytes, rounded down, of flags: first column in the highest bit, .. spare bits 0": a bit for each
 -- column, and what follows
 unfoldable pub readFlags : ℕ → List ℕ → Result ℕ (List ℕ × List ℕ)
-readFlags n s = front (bitBytes n) s >>= λ p. unpack n (p .0) >>= λ bits. good (bits, p .1)
+readFlags n s = firstBytes (bitBytes n) s >>= λ p. unpack n (p .0) >>= λ bits. good (bits, p .1)
 
 -- "1 for null"
 abbrev pub flagBit : Bool → ℕ
@@ -146,7 +146,7 @@ shows c false n p = content (shape (c .kind)) n p >>= λ es. good (show c es)
 unfoldable pub readBinary2 : Column → Bool → List ℕ → Result ℕ (Cell × List ℕ)
 readBinary2 c flagged s = do
   (n, t) ← countIn (c .len) s
-  (p, rest) ← front (contentBytes (shape (c .kind)) n) t
+  (p, rest) ← firstBytes (contentBytes (shape (c .kind)) n) t
   x ← shows c flagged n p
   good (x, rest)
 

@@ -4,7 +4,7 @@ use mathlib.Core.Bool.{Bool}
 use mathlib.Core.List.{List, [], _∷_}
 use lib.IntN.{ℤ}
 use lib.ListN.{drop, take}
-use Rattle.binary.specs.Binary.{contentBytes, front, shows}
+use Rattle.binary.specs.Binary.{contentBytes, firstBytes, shows}
 use Rattle.number.specs.Number.{ofDigits, ofPattern}
 use Rattle.table.specs.Cell.{Cell}
 use Rattle.table.specs.Result.{Result, _>>=_, good}
@@ -19,6 +19,6 @@ integers g w (suc n) s = ofPattern g w (ofDigits 256 0 (take w s)) ∷ integers 
 -- a cell of n elements, after its count
 unfoldable pub readCounted : Column → Bool → ℕ → List ℕ → Result ℕ (Cell × List ℕ)
 readCounted c flagged n t = do
-  (p, rest) ← front (contentBytes (shape (c .kind)) n) t
+  (p, rest) ← firstBytes (contentBytes (shape (c .kind)) n) t
   x ← shows c flagged n p
   good (x, rest)

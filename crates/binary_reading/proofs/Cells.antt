@@ -3,7 +3,7 @@ use Prim.Native.Nat.{_*_, _+_, _-_, _<_, _≤_, suc, zero, ℕ}
 use Rattle.binary.proofs.Digits.{take-of-sets}
 use Rattle.binary.proofs.Laws.{flagged-unread}
 use Rattle.binary.proofs.Loops.{length-integers}
-use Rattle.binary.specs.Binary.{beforeNul, content, contentBytes, countIn, element, front, numbers, numbersIn, readBinary, readBinary2, shows}
+use Rattle.binary.specs.Binary.{beforeNul, content, contentBytes, countIn, element, firstBytes, numbers, numbersIn, readBinary, readBinary2, shows}
 use Rattle.binary_reading.specs.Contracts.{Fills}
 use Rattle.binary.specs.Reading.{integers, readCounted}
 use Rattle.binary_reading.specs.declared.Content.{Content}
@@ -68,12 +68,12 @@ whole-filled g v n s entry exit h l q =
 
 module _ (c : Column) (flagged : Bool) (n at size : ℕ) (s : List ℕ) (e : size ≡ contentBytes (shape (c .kind)) n) where
   pub counted-short : length s - at < size → readCounted c flagged n (drop at s) ≡ bad 8
-  unfolding readCounted front
+  unfolding readCounted firstBytes
   counted-short h = rw (← e, length-drop at s, lt-ltb (length s - at) size h)
 
   module _ (h : size ≤ length s - at) where
     counted-at : readCounted c flagged n (drop at s) ≡ (shows c flagged n (take size (drop at s)) >>= λ x. good (x, drop (at + size) s))
-    unfolding readCounted front
+    unfolding readCounted firstBytes
     counted-at = rw (← e, length-drop at s, le-ltb (length s - at) size h, drop-drop size at s)
 
     pub counted-flagged : flagged ≡ true → readCounted c flagged n (drop at s) ≡ good (null, drop (at + size) s)

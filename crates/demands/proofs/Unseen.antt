@@ -7,15 +7,14 @@ use mathlib.Core.List.{List, [], _++_, _∷_, append-assoc, map}
 use mathlib.Core.Path.{_∙_, _≡_, ap, ap₂, refl, subst, subst₂, sym}
 use lib.Dec.{eqb, ltb}
 use lib.IntN.{ℤ}
-use lib.ListN.{getD, length, length-append, length-replicate, length-take, replicate, take, take-append-drop}
+use lib.ListN.{getD, length, length-append, length-replicate, replicate, take}
 use lib.Seq.{take-at}
-use borrow.Author.Tests.{ltb-false}
-use Rattle.binary.proofs.Laws.{front-back}
-use Rattle.binary.specs.Binary.{atMost, beforeNul, bitBytes, content, contentBytes, countIn, counted, element, front, numbersIn, readBinary2, readFlags, shows, unpack}
+use Rattle.binary.proofs.Laws.{first-back, first-splits}
+use Rattle.binary.specs.Binary.{atMost, beforeNul, bitBytes, content, contentBytes, countIn, counted, element, numbersIn, readBinary2, readFlags, shows, unpack}
 use Rattle.demands.specs.Places.{cellsShow, contentShows, marksOf, rowShows, showsAt, streamShows, throughNul}
 use Rattle.number.specs.Number.{ofDigits}
 use Rattle.rows.proofs.Laws.{read-step}
-use Rattle.rows.specs.Stream.{Table, atEnd, flag, flagsLeft, isEmpty, isOne, read, readCell, readCells, readEnd, readRow, readStart}
+use Rattle.rows.specs.Stream.{Table, atEnd, flag, flagsLeft, isEmpty, isSet, read, readCell, readCells, readEnd, readRow, readStart}
 use Rattle.rows.specs.Sequence.{Sequence, finished, row, rowThen, sequence, sequenceF}
 use Rattle.table.proofs.Laws.{cond-cases, holds-bind, holds-cond, holds-eq}
 use Rattle.table.specs.Cell.{AreColumns, Cell, show}
@@ -59,7 +58,7 @@ both-then f a b refuse = refuse
 cell-reads : (c : Column) (f : Bool) (n : ℕ) (count p rest : List ℕ) → ((t : List ℕ) → countIn (c .len) (count ++ t) ≡ good (n, t)) → length p ≡ contentBytes (shape (c .kind)) n
     → readBinary2 c f (count ++ (p ++ rest)) ≡ (shows c f n p >>= λ x. good (x, rest))
 unfolding readBinary2
-cell-reads c f n count p rest h l = rw (h (p ++ rest), front-back (contentBytes (shape (c .kind)) n) p rest l)
+cell-reads c f n count p rest h l = rw (h (p ++ rest), first-back (contentBytes (shape (c .kind)) n) p rest l)
 
 cells-both : (c : Column) (cs : List Column) (fs : List Bool) (s t u v : List ℕ) {rest left : List ℕ} (k : ℕ) (r : Result ℕ Cell)
     → readBinary2 c (flag fs) s ≡ (r >>= λ x. good (x, u)) → readBinary2 c (flag fs) t ≡ (r >>= λ x. good (x, v))
@@ -70,7 +69,7 @@ cells-both c cs fs s t u v k (bad n) e f b = rw (e, f) refuse
 cells-both c cs fs s t u v k (good x) e f b = rw (e, f) (both-then (λ (xs : List Cell). x ∷ xs) _ _ b)
 
 row-both : (cs : List Column) (s t bits u v : List ℕ) {rest left : List ℕ} → readFlags (length cs) s ≡ good (bits, u) → readFlags (length cs) t ≡ good (bits, v)
-    → Both rest left (readCells Binary2 cs (map isOne bits) 0 u) (readCells Binary2 cs (map isOne bits) 0 v) → Both rest left (readRow Binary2 cs s) (readRow Binary2 cs t)
+    → Both rest left (readCells Binary2 cs (map isSet bits) 0 u) (readCells Binary2 cs (map isSet bits) 0 v) → Both rest left (readRow Binary2 cs s) (readRow Binary2 cs t)
 unfolding readRow readStart readEnd
 row-both cs s t bits u v e f b = rw (e, f) (both-then (λ (xs : List Cell). xs) _ _ b)
 
@@ -102,22 +101,16 @@ countPart (Fixed n) s = []
 countPart (Bounded n) s = take 4 s
 countPart Free s = take 4 s
 
-front-splits : (n : ℕ) (s : List ℕ) → Holds (λ (p : List ℕ × List ℕ). (s ≡ p .0 ++ p .1) × (length (p .0) ≡ n)) (front n s)
-unfolding front
-front-splits n s =
-    holds-cond (ltb (length s) n) (λ _. refuses)
-    (λ f. holds (sym (take-append-drop n s), length-take n s ∙ omega (arith, ltb-false (length s) n f)))
-
 abbrev Counts : Len → List ℕ → ℕ × List ℕ → Type 0
 Counts l s p = (s ≡ countPart l s ++ p .1) × ((t : List ℕ) → countIn l (countPart l s ++ t) ≡ good (p .0, t))
 
 counted-splits : (most : ℕ) (s : List ℕ) → Holds (λ (p : ℕ × List ℕ). (s ≡ take 4 s ++ p .1) × ((t : List ℕ) → counted most (take 4 s ++ t) ≡ good (p .0, t))) (counted most s)
 unfolding counted atMost
 counted-splits most s =
-    holds-bind (front-splits 4 s) (λ p h.
-    let e : take 4 s ≡ p .0 = ap (take 4) (h .0) ∙ take-at (p .0) (p .1) 4 (h .1) in
+    holds-bind (first-splits 4 s) (λ p h.
+    let e : take 4 s ≡ p .0 = ap (take 4) (h .1) ∙ take-at (p .0) (p .1) 4 (h .0) in
     holds-cond (ltb most (ofDigits 256 0 (p .0))) (λ _. refuses)
-    (λ g. holds (h .0 ∙ ap (λ (x : List ℕ). x ++ p .1) (sym e), λ t. rw (e, front-back 4 (p .0) t (h .1), g))))
+    (λ g. holds (h .1 ∙ ap (λ (x : List ℕ). x ++ p .1) (sym e), λ t. rw (e, first-back 4 (p .0) t (h .0), g))))
 
 count-splits : (l : Len) (s : List ℕ) → Holds (Counts l s) (countIn l s)
 unfolding countIn countPart
@@ -262,16 +255,16 @@ unfolding cellsShow readCells
 cells-agree [] fs s = holds (λ ns w a. record { left = w; behind = a; both = λ k. give })
 cells-agree (c ∷ cs) fs s =
     holds-bind (count-splits (c .len) s) (λ n h.
-    holds-bind (front-splits (contentBytes (shape (c .kind)) (n .0)) (n .1)) (λ p g.
+    holds-bind (first-splits (contentBytes (shape (c .kind)) (n .0)) (n .1)) (λ p g.
     holds-bind (cells-agree cs (flagsLeft fs) (p .1)) (λ m more.
-    holds (one-cell c cs fs s (n .0) (n .1) (p .0) (p .1) (m .0) (m .1) h (g .0) (g .1) more))))
+    holds (one-cell c cs fs s (n .0) (n .1) (p .0) (p .1) (m .0) (m .1) h (g .1) (g .0) more))))
 
 flags-split : (n : ℕ) (s : List ℕ)
     → Holds (λ (p : List ℕ × List ℕ). (flags : List ℕ) × (s ≡ flags ++ p .1) × (length flags ≡ bitBytes n) × ((u : List ℕ) → readFlags n (flags ++ u) ≡ good (p .0, u))) (readFlags n s)
 unfolding readFlags
 flags-split n s =
-    holds-bind (front-splits (bitBytes n) s) (λ f h.
-    holds-bind (holds-eq (unpack n (f .0))) (λ bits e. holds (f .0, h .0, h .1, λ u. rw (front-back (bitBytes n) (f .0) u (h .1), e))))
+    holds-bind (first-splits (bitBytes n) s) (λ f h.
+    holds-bind (holds-eq (unpack n (f .0))) (λ bits e. holds (f .0, h .1, h .0, λ u. rw (first-back (bitBytes n) (f .0) u (h .0), e))))
 
 -- a row's marks, and those of what follows it
 abbrev RowAgrees : List Column → List ℕ → List Bool × List ℕ → Type 0
@@ -281,7 +274,7 @@ RowAgrees cs s m =
 
 one-row : (cs : List Column) → AreColumns cs → (s flags bits t : List ℕ) (m : List Bool × List ℕ) → s ≡ flags ++ t → length flags ≡ bitBytes (length cs)
     → ((u : List ℕ) → readFlags (length cs) (flags ++ u) ≡ good (bits, u))
-    → ((ns : List Bool) (w : List ℕ) → Agree (m .0 ++ ns) t w → CellsAgree cs (map isOne bits) t w (m .1) ns)
+    → ((ns : List Bool) (w : List ℕ) → Agree (m .0 ++ ns) t w → CellsAgree cs (map isSet bits) t w (m .1) ns)
     → RowAgrees cs s (replicate (bitBytes (length cs)) true ++ m .0, m .1)
 one-row cs i s flags bits t m e l u more ns w behind a =
     let marks : List Bool = replicate (length flags) true in
@@ -289,7 +282,7 @@ one-row cs i s flags bits t m e l u more ns w behind a =
     = subst₂ (λ (x : List Bool) (y : List ℕ). Agree x y w)
     (append-assoc (replicate (bitBytes (length cs)) true) (m .0) ns ∙ ap (λ (k : ℕ). replicate k true ++ (m .0 ++ ns)) (sym l)) e a in
     let first : Cut marks (m .0 ++ ns) flags t w = cut marks (m .0 ++ ns) flags t w (length-replicate (length flags) true) a′ in
-    let second : CellsAgree cs (map isOne bits) t (first .left) (m .1) ns = more ns (first .left) (first .rest) in
+    let second : CellsAgree cs (map isSet bits) t (first .left) (m .1) ns = more ns (first .left) (first .rest) in
     let e′ : w ≡ flags ++ first .left = first .splits ∙ ap (λ (x : List ℕ). x ++ first .left) (all-seen flags (first .other) (first .here)) in
     stream-both cs i s w (agree-length ((replicate (bitBytes (length cs)) true ++ m .0) ++ ns) s w a)
     (row-both cs s w bits t (first .left) (ap (readFlags (length cs)) e ∙ u t) (ap (readFlags (length cs)) e′ ∙ u (first .left)) (second .both 0))
@@ -299,7 +292,7 @@ row-agree : (cs : List Column) → AreColumns cs → (s : List ℕ) → Holds (R
 unfolding rowShows
 row-agree cs i s =
     holds-bind (flags-split (length cs) s) (λ f h.
-    holds-bind (cells-agree cs (map isOne (f .0)) (f .1)) (λ m more. holds (one-row cs i s (h .0) (f .0) (f .1) m (h .1) (h .2) (h .3) more)))
+    holds-bind (cells-agree cs (map isSet (f .0)) (f .1)) (λ m more. holds (one-row cs i s (h .0) (f .0) (f .1) m (h .1) (h .2) (h .3) more)))
 
 abbrev rowsShow : ℕ → List Column → List ℕ → Sequence (List Bool)
 rowsShow f cs = sequenceF f isEmpty (λ s. refusedAs (at 0) (rowShows cs s))

@@ -5,9 +5,9 @@ use mathlib.Core.Bool.{Bool, cond, false, true}
 use mathlib.Core.List.{List, [], _++_, _∷_, map}
 use lib.Dec.{eqb}
 use lib.ListN.{getD, length, replicate}
-use Rattle.binary.specs.Binary.{bitBytes, contentBytes, countIn, front, readFlags}
+use Rattle.binary.specs.Binary.{bitBytes, contentBytes, countIn, firstBytes, readFlags}
 use Rattle.rows.specs.Sequence.{Sequence, finished, row, sequence, stopped}
-use Rattle.rows.specs.Stream.{flag, flagsLeft, isEmpty, isOne}
+use Rattle.rows.specs.Stream.{flag, flagsLeft, isEmpty, isSet}
 use Rattle.table.specs.Outcome.{at}
 use Rattle.table.specs.Result.{Result, _>>=_, good, refusedAs}
 use Rattle.table.specs.Shape.{Bits, Shape, Text, Truths, Whole, shape}
@@ -31,7 +31,7 @@ unfoldable pub cellsShow : List Column → List Bool → List ℕ → Result ℕ
 cellsShow [] fs s = good ([], s)
 cellsShow (c ∷ cs) fs s = do
   (n, t) ← countIn (c .len) s
-  (p, u) ← front (contentBytes (shape (c .kind)) n) t
+  (p, u) ← firstBytes (contentBytes (shape (c .kind)) n) t
   (marks, rest) ← cellsShow cs (flagsLeft fs) u
   good (replicate (length s - length t) true ++ (contentShows (shape (c .kind)) (flag fs) p ++ marks), rest)
 
@@ -39,7 +39,7 @@ cellsShow (c ∷ cs) fs s = do
 unfoldable pub rowShows : List Column → List ℕ → Result ℕ (List Bool × List ℕ)
 rowShows cs s = do
   (bits, t) ← readFlags (length cs) s
-  (marks, rest) ← cellsShow cs (map isOne bits) t
+  (marks, rest) ← cellsShow cs (map isSet bits) t
   good (replicate (bitBytes (length cs)) true ++ marks, rest)
 
 -- row after row, up to the first that cannot be told apart

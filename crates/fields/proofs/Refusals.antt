@@ -9,7 +9,7 @@ use lib.ListN.{length}
 use borrow.Author.Tests.{eqb-false}
 use Rattle.fields.specs.Fields.{Field, atMostOne, attributeComes, attributes, attributesF, beforeStar, begins, boundedLen, declare, exactlyOne, fieldBody, fieldsF, fieldsThen, judge, kindOf, kinds, lenBefore, lenOf, lengthOf, nullOf, nullValue, readAttribute, readField, readValue, readValues, someName, spanName, spanValue, valuesOf}
 use Rattle.number.specs.Number.{digit, numeral, readInteger}
-use Rattle.table.proofs.Laws.{Numbered, after-fails, cond-cases, fails-always, fails-as, fails-bind, fails-cond, fails-else}
+use Rattle.table.proofs.Laws.{Numbered, after-fails, cond-cases, fails-always, fails-as, fails-bind, fails-cond, fails-else, tag-fails}
 use Rattle.table.specs.Bytes.{after, between, byte, bytes, ends, same, skipWhite, words}
 use Rattle.table.specs.Cell.{columnOf, isScalar}
 use Rattle.table.specs.Outcome.{Refusal, at, mostDeclarations}
@@ -77,7 +77,7 @@ body-fails : (s : List ℕ) → Fails (Numbered 1 6) (fieldBody s)
 unfolding fieldBody ends
 body-fails s =
     fails-bind (begins-fails (after 1 (bytes "<VALUES") (skipWhite s)) (values-fails s) gives) (λ v.
-    fails-bind (after-fails 1 (bytes "</FIELD") (skipWhite (v .1)) one) (λ u. fails-bind (after-fails 1 (bytes ">") (skipWhite u) one) (λ r. gives)))
+    fails-bind (tag-fails 1 (bytes "</FIELD") (skipWhite (v .1)) one) (λ r. gives))
 
 field-fails : (s : List ℕ) → Fails (Numbered 1 6) (readField s)
 unfolding readField attributes ends

@@ -6,7 +6,7 @@ use mathlib.Core.Option.{Option, none, some}
 use lib.Dec.{eqb, leb, ltb}
 use lib.ListN.{length}
 use Rattle.number.specs.Number.{digit, numeral, readInteger}
-use Rattle.table.specs.Bytes.{after, between, byte, bytes, ends, isWhite, same, skipWhite, words}
+use Rattle.table.specs.Bytes.{after, between, byte, bytes, ends, isWhite, same, skipWhite, tag, words}
 use Rattle.table.specs.Cell.{columnOf, isScalar}
 use Rattle.table.specs.Outcome.{Refusal, at, mostDeclarations}
 use Rattle.table.specs.Result.{Result, _>>=_, bad, good, orElse, refusedAs}
@@ -122,8 +122,7 @@ begins (bad n) x y = y
 unfoldable pub fieldBody : List ℕ → Result ℕ (Option (List ℕ) × List ℕ)
 fieldBody s = do
   (v, t) ← begins (ends 1 (bytes "<VALUES") s) (readValues s) (good (none, s))
-  u ← ends 1 (bytes "</FIELD") t
-  rest ← ends 1 (bytes ">") u
+  rest ← tag 1 (bytes "</FIELD") (skipWhite t)
   good (v, rest)
 
 -- "an empty-element tag, or a start tag, at most one VALUES as an empty-element tag, and the end tag"

@@ -2,7 +2,7 @@
 use Prim.Native.Nat.{_%_, _*_, _+_, _-_, _/_, _<_, _^_, _≤_, suc, zero, ℕ}
 use Rattle.binary.proofs.Digits.{digits-split, unit-is, zero-digits}
 use Rattle.binary.proofs.Laws.{length-pack}
-use Rattle.binary.specs.Binary.{bitBytes, bitsOf, front, pack, packed, readFlags, unpack}
+use Rattle.binary.specs.Binary.{bitBytes, bitsOf, firstBytes, pack, packed, readFlags, unpack}
 use Rattle.number.proofs.Laws.{digits-last, digits-low, length-to, of-from, of-lt, of-to-from, pow-pos}
 use Rattle.number.specs.Number.{ofDigits, toDigits}
 use Rattle.table.proofs.Laws.{all-drop, all-take}
@@ -91,7 +91,7 @@ round-up n = omega arith
 
 module _ (n at : ℕ) (s : List ℕ) where
   pub flags-short : length s - at < bitBytes n → readFlags n (drop at s) ≡ bad 8
-  unfolding readFlags front
+  unfolding readFlags firstBytes
   flags-short h = rw (length-drop at s, lt-ltb (length s - at) (bitBytes n) h)
 
   module _ (h : bitBytes n ≤ length s - at) (x : ℕ) (q : x ≡ ofDigits 256 0 (take (bitBytes n) (drop at s))) (a : AreBytes s) where
@@ -114,7 +114,7 @@ module _ (n at : ℕ) (s : List ℕ) where
     bits-are-x = bits-number p are ∙ ap₂ (λ (k y : ℕ). toDigits 2 k y) (ap (λ (k : ℕ). 8 * k) long ∙ round-up n) number-is-x
 
     flags-at : readFlags n (drop at s) ≡ (unpack n p >>= λ bits. good (bits, drop (at + bitBytes n) s))
-    unfolding readFlags front p
+    unfolding readFlags firstBytes p
     flags-at = rw (length-drop at s, le-ltb (length s - at) (bitBytes n) h, drop-drop (bitBytes n) at s)
 
     pub flags-good : x % 2 ^ (8 * bitBytes n - n) ≡ 0 → readFlags n (drop at s) ≡ good (toDigits 2 n (x / 2 ^ (8 * bitBytes n - n)), drop (at + bitBytes n) s)

@@ -11,8 +11,8 @@ use lib.ListN.{drop, length, length-append, length-drop, length-take, replicate,
 use lib.Seq.{drop-at, take-at}
 use borrow.Author.Tests.{eqb-false, eqb-true, le-ltb, lt-ltb, ltb-false, ltb-true, ne-eqb}
 use Rattle.binary.proofs.Digits.{every-bits}
-use Rattle.binary.proofs.Laws.{allZero-zeros, front-back}
-use Rattle.binary.specs.Binary.{allZero, atMost, beforeNul, bitBytes, bitsOf, content, contentBytes, countIn, counted, element, front, numbers, numbersIn, readBinary, readBinary2, shows, truth, unpack}
+use Rattle.binary.proofs.Laws.{allZero-zeros, first-back, first-splits}
+use Rattle.binary.specs.Binary.{allZero, atMost, beforeNul, bitBytes, bitsOf, content, contentBytes, countIn, counted, element, numbers, numbersIn, readBinary, readBinary2, shows, truth, unpack}
 use Rattle.grammar.proofs.Fronts.{Front}
 use Rattle.grammar.proofs.ShownRead.{shows-is, shows-read}
 use Rattle.grammar.proofs.WordsRead.{letters-false, letters-true, stands-is, stands-read, three-bytes}
@@ -38,10 +38,6 @@ parts-bytes s t r e a = go t r (subst AreBytes e a)
     go : (t r : List ℕ) → AreBytes (t ++ r) → AreBytes t × AreBytes r
     go [] r a = (tt, a)
     go (b ∷ t) r a = ((a .0, go t r (a .1) .0), go t r (a .1) .1)
-
-pub front-part : (n : ℕ) (s : List ℕ) → Holds (λ (p : List ℕ × List ℕ). (length (p .0) ≡ n) × (s ≡ p .0 ++ p .1)) (front n s)
-unfolding front
-front-part n s = holds-cond (ltb (length s) n) (λ _. refuses) (λ f. holds (length-take n s ∙ omega (arith, ltb-false (length s) n f), sym (take-append-drop n s)))
 
 -- ---- numbers
 
@@ -265,7 +261,7 @@ takes-is Text n = takes-chars
 
 count-read : (most : ℕ) {b : List ℕ} {m : ℕ} → BigEndian 4 b m → m ≤ most → (t : List ℕ) → counted most (b ++ t) ≡ good (m, t)
 unfolding counted atMost
-count-read most {b} {m} (big-endian l n) h t = rw (front-back 4 b t l, itself-read n, le-ltb most m h)
+count-read most {b} {m} (big-endian l n) h t = rw (first-back 4 b t l, itself-read n, le-ltb most m h)
 
 counted-read : {l : Len} {b : List ℕ} {m : ℕ} → Counted l b m → (t : List ℕ) → countIn l (b ++ t) ≡ good (m, t)
 unfolding countIn
@@ -275,7 +271,7 @@ counted-read (counted-free e h) t = count-read 4096 e h t
 
 count-is : (most : ℕ) (s : List ℕ) → Holds (Front (λ (b : List ℕ) (m : ℕ). BigEndian 4 b m × (m ≤ most)) s) (counted most s)
 unfolding counted atMost
-count-is most s = holds-bind (front-part 4 s) (λ p h.
+count-is most s = holds-bind (first-splits 4 s) (λ p h.
     holds-cond (ltb most (ofDigits 256 0 (p .0))) (λ _. refuses) (λ f.
     holds (record { taken = p .0; whole = h .1; spelled = (big-endian (h .0) (itself-is 256 (p .0) (rw (h .0) (lit≤ tt))), ltb-false most (ofDigits 256 0 (p .0)) f) })))
 
@@ -290,9 +286,9 @@ counted-is Free s = holds-weaken (count-is 4096 s) (λ p h. record { taken = h .
 pub binary2-read : {c : Column} {f : Bool} {t : List ℕ} {x : Cell} → Binary2Cell c f t x → (rest : List ℕ) → readBinary2 c f (t ++ rest) ≡ good (x, rest)
 unfolding readBinary2 shows
 binary2-read {c} (cell-flagged {a = a} b {n = n} h k l) rest =
-    rw (append-assoc a b rest, counted-read h (b ++ rest), front-back (contentBytes (shape (c .kind)) n) b rest (l ∙ sym (takes-read k)))
+    rw (append-assoc a b rest, counted-read h (b ++ rest), first-back (contentBytes (shape (c .kind)) n) b rest (l ∙ sym (takes-read k)))
 binary2-read {c} (cell-unflagged {a = a} {b = b} {n = n} h r s) rest =
-    rw (append-assoc a b rest, counted-read h (b ++ rest), front-back (contentBytes (shape (c .kind)) n) b rest (content-long r), content-read r, shows-read s)
+    rw (append-assoc a b rest, counted-read h (b ++ rest), first-back (contentBytes (shape (c .kind)) n) b rest (content-long r), content-read r, shows-read s)
 
 pub joined : (s a b t rest : List ℕ) → s ≡ a ++ t → t ≡ b ++ rest → s ≡ (a ++ b) ++ rest
 joined s a b t rest e k = e ∙ ap (λ (x : List ℕ). a ++ x) k ∙ sym (append-assoc a b rest)
@@ -301,7 +297,7 @@ pub binary2-is : (c : Column) (f : Bool) (s : List ℕ) → AreBytes s → Holds
 unfolding readBinary2
 binary2-is c f s a =
     holds-bind (counted-is (c .len) s) (λ n h.
-    holds-bind (front-part (contentBytes (shape (c .kind)) (n .0)) (n .1)) (λ p g.
+    holds-bind (first-splits (contentBytes (shape (c .kind)) (n .0)) (n .1)) (λ p g.
     let q : AreBytes (p .0) = parts-bytes (n .1) (p .0) (p .1) (g .1) (parts-bytes s (h .taken) (n .1) (h .whole) a .1) .0 in
     go f (n .0) (h .taken) (n .1) (p .0) (p .1) (h .whole) (h .spelled) (g .0) (g .1) q))
   where

@@ -16,7 +16,7 @@ use Rattle.grammar.proofs.WordsRead.{same-is, same-read, three-bytes}
 use Rattle.grammar.specs.Declarations.{AttributeText, AttributesText, FieldText, Inside, Name, NameByte, Quoted, ValueOf, ValuesTag, Without, attribute-text, attributes-end, attributes-then, field-empty, field-tags, inside-nothing, inside-values, name-capital, name-colon, name-dash, name-digit, name-dot, name-last, name-small, name-then, name-underscore, quoted-double, quoted-single, value-here, value-none, value-skipped, values-tag, without-end, without-then}
 use Rattle.grammar.specs.Words.{Tag, White, a-tag, white-end, white-then}
 use Rattle.table.proofs.Laws.{and-both, between-is, between-yes, cond-cases, holds-bind, holds-cond, holds-else, holds-weaken, no-white, or-either}
-use Rattle.table.specs.Bytes.{after, between, bytes, ends, isWhite, same, skipWhite}
+use Rattle.table.specs.Bytes.{after, between, bytes, ends, isWhite, same, skipWhite, tag}
 use Rattle.table.specs.Result.{Holds, Result, _>>=_, bad, good, holds, orElse, refuses}
 
 -- ---- names
@@ -404,29 +404,12 @@ no-values h (a-tag k) rest = rw (skip-white h, skip-stays 60 _ (no-white 60 (lit
 some-values : {w t : List ℕ} {o : Option (List ℕ)} → White w → ValuesTag t o → (rest : List ℕ) → (u : List ℕ) × (ends 1 (bytes "<VALUES") (w ++ (t ++ rest)) ≡ good u)
 some-values h (values-tag r v k) rest = (_, ends-word 1 60 (86 ∷ 65 ∷ 76 ∷ 85 ∷ 69 ∷ 83 ∷ []) _ (no-white 60 (lit≤ tt)) h)
 
-abbrev withNull : Option (List ℕ) → List ℕ → Result ℕ (Option (List ℕ) × List ℕ)
-withNull o rest = good (o, rest)
-
 abbrev ended : Option (List ℕ) × List ℕ → Result ℕ (Option (List ℕ) × List ℕ)
-ended v = end-tag (v .1) >>= λ rest. withNull (v .0) rest
+ended v = end-tag (v .1) >>= λ rest. good (v .0, rest)
 
-abbrev endedTwice : Option (List ℕ) × List ℕ → Result ℕ (Option (List ℕ) × List ℕ)
-endedTwice v = ends 1 (bytes "</FIELD") (v .1) >>= λ u. ends 1 (bytes ">") u >>= λ rest. withNull (v .0) rest
-
-body-split : (s : List ℕ) → fieldBody s ≡ (begins (ends 1 (bytes "<VALUES") s) (readValues s) (withNull none s) >>= ended)
-unfolding fieldBody
-body-split s = go (begins (ends 1 (bytes "<VALUES") s) (readValues s) (withNull none s))
-  where
-    again : (v : Option (List ℕ) × List ℕ) → endedTwice v ≡ ended v
-    again v = at-end (ends 1 (bytes "</FIELD") (v .1))
-      where
-        at-end : (r : Result ℕ (List ℕ)) → (r >>= λ u. ends 1 (bytes ">") u >>= λ rest. withNull (v .0) rest) ≡ ((r >>= λ u. ends 1 (bytes ">") u) >>= λ rest. withNull (v .0) rest)
-        at-end (good u) = refl
-        at-end (bad n) = refl
-
-    go : (r : Result ℕ (Option (List ℕ) × List ℕ)) → (r >>= endedTwice) ≡ (r >>= ended)
-    go (good v) = again v
-    go (bad n) = refl
+body-split : (s : List ℕ) → fieldBody s ≡ (begins (ends 1 (bytes "<VALUES") s) (readValues s) (good (none, s)) >>= ended)
+unfolding fieldBody tag ends
+body-split s = refl
 
 body-read : {b z : List ℕ} {o : Option (List ℕ)} → Inside b o → Tag (bytes "</FIELD") (bytes ">") z → (rest : List ℕ) → fieldBody (b ++ (z ++ rest)) ≡ good (o, rest)
 unfolding begins
@@ -452,10 +435,10 @@ body-is s = subst⁻¹ (Holds (IsBody s)) (body-split s) (go (ends 1 (bytes "<VA
               ∙ sym (append-assoc (h .white) (h .taken ++ k .0) (k .1 ++ rest)),
         )))
 
-    without : Holds (IsBody s) (end-tag s >>= λ rest. withNull none rest)
+    without : Holds (IsBody s) (end-tag s >>= λ rest. good (none, rest))
     without = holds-bind (end-tag-is s) (λ rest k. holds (k .0, k .1, inside-nothing (k .2), k .3, k .4))
 
-    go : (r : Result ℕ (List ℕ)) → Holds (IsBody s) (begins r (readValues s) (withNull none s) >>= ended)
+    go : (r : Result ℕ (List ℕ)) → Holds (IsBody s) (begins r (readValues s) (good (none, s)) >>= ended)
     go (good u) = unfold begins in with-values
     go (bad n) = unfold begins in without
 

@@ -6,9 +6,9 @@ use mathlib.Core.List.{List, [], _++_, _∷_, append-assoc, append-nil, map}
 use mathlib.Core.Path.{_∙_, _≡_, ap, refl, subst, subst⁻¹, sym}
 use lib.Dec.{lit≤}
 use lib.ListN.{length}
-use Rattle.binary.proofs.Laws.{front-back}
+use Rattle.binary.proofs.Laws.{first-back, first-splits}
 use Rattle.binary.specs.Binary.{bitBytes, readFlags}
-use Rattle.grammar.proofs.BinariesRead.{binary-is, binary-read, binary2-is, binary2-read, bits-in-all, bits-in-bytes, bits-in-is, bits-in-long, bits-in-read, front-part, joined, parts-bytes}
+use Rattle.grammar.proofs.BinariesRead.{binary-is, binary-read, binary2-is, binary2-read, bits-in-all, bits-in-bytes, bits-in-is, bits-in-long, bits-in-read, joined, parts-bytes}
 use Rattle.grammar.proofs.Fronts.{Front, skip-all, skip-is, skip-stays, skip-white, tag-is, tag-read}
 use Rattle.grammar.proofs.TextRead.{Indented, cell-is, cell-read}
 use Rattle.grammar.specs.Binaries.{Binary2Row, BinaryRow, BitsIn, FlaggedCells, RowStream, binary-end, binary-then, binary2-row, flagged-end, flagged-null, flagged-shown, stream-end, stream-row}
@@ -16,7 +16,7 @@ use Rattle.grammar.specs.Exact.{tableOf}
 use Rattle.grammar.specs.Text.{TextCells, TextRow, TextTable, cells-end, cells-then, table-end, table-row, text-row}
 use Rattle.grammar.specs.Words.{Tag, White, a-tag}
 use Rattle.rows.proofs.Laws.{read-row, read-step}
-use Rattle.rows.specs.Stream.{Table, atEnd, flag, flagsLeft, isEmpty, isOne, read, readCell, readCells, readEnd, readRow, readStart}
+use Rattle.rows.specs.Stream.{Table, atEnd, flag, flagsLeft, isEmpty, isSet, read, readCell, readCells, readEnd, readRow, readStart}
 use Rattle.rows.specs.Sequence.{finished, row, rowThen, stopped}
 use Rattle.table.proofs.Laws.{holds-as, holds-at, holds-bind, holds-weaken, no-white}
 use Rattle.table.specs.All.{All, AreBytes}
@@ -176,15 +176,15 @@ binary-row-is cs s a = holds-bind (binary-cells-are cs [] 0 s a) (λ p h. holds 
 
 -- ---- BINARY2
 
-flagged-read : {cs : List Column} {flags b : List ℕ} {xs : List Cell} → FlaggedCells cs flags b xs → (k : ℕ) (rest : List ℕ) → readCells Binary2 cs (map isOne flags) k (b ++ rest) ≡ good (xs, rest)
-unfolding readCells readCell flag flagsLeft isOne
+flagged-read : {cs : List Column} {flags b : List ℕ} {xs : List Cell} → FlaggedCells cs flags b xs → (k : ℕ) (rest : List ℕ) → readCells Binary2 cs (map isSet flags) k (b ++ rest) ≡ good (xs, rest)
+unfolding readCells readCell flag flagsLeft isSet
 flagged-read flagged-end k rest = refl
 flagged-read (flagged-null {b = b} {s = s} h r) k rest = rw (append-assoc b s rest, binary2-read h (s ++ rest), flagged-read r (k + 1) rest)
 flagged-read (flagged-shown {b = b} {s = s} h r) k rest = rw (append-assoc b s rest, binary2-read h (s ++ rest), flagged-read r (k + 1) rest)
 
 flagged-are : (cs : List Column) (flags : List ℕ) (k : ℕ) (s : List ℕ) → length flags ≡ length cs → All (λ (b : ℕ). b < 2) flags → AreBytes s
-    → Holds (Front (FlaggedCells cs flags) s) (readCells Binary2 cs (map isOne flags) k s)
-unfolding readCells readCell flag flagsLeft isOne
+    → Holds (Front (FlaggedCells cs flags) s) (readCells Binary2 cs (map isSet flags) k s)
+unfolding readCells readCell flag flagsLeft isSet
 flagged-are [] [] k s l f a = holds (record { taken = []; whole = refl; spelled = flagged-end })
 flagged-are [] (b ∷ flags) k s l f a = absurd (omega arith)
 flagged-are (c ∷ cs) [] k s l f a = absurd (omega arith)
@@ -207,17 +207,17 @@ flagged-are (c ∷ cs) (suc (suc n) ∷ flags) k s l f a = absurd (omega (arith,
 binary2-row-read : (cs : List Column) (b : List ℕ) (xs : List Cell) → Binary2Row cs b xs → (rest : List ℕ) → readRow Binary2 cs (b ++ rest) ≡ good (xs, rest)
 unfolding readRow readStart readEnd readFlags bitBytes
 binary2-row-read cs t xs (binary2-row {a = a} {b = b} h r) rest =
-    rw (append-assoc a b rest, front-back ((length cs + 7) / 8) a (b ++ rest) (bits-in-bytes h), bits-in-read h, flagged-read r 0 rest)
+    rw (append-assoc a b rest, first-back ((length cs + 7) / 8) a (b ++ rest) (bits-in-bytes h), bits-in-read h, flagged-read r 0 rest)
 
 flags-in : (n : ℕ) (s : List ℕ) → AreBytes s → Holds (λ (p : List ℕ × List ℕ). (a : List ℕ) × BitsIn n a (p .0) × (s ≡ a ++ p .1)) (readFlags n s)
 unfolding readFlags bitBytes
 flags-in n s a =
-    holds-bind (front-part ((n + 7) / 8) s) (λ p h.
+    holds-bind (first-splits ((n + 7) / 8) s) (λ p h.
     holds-bind (bits-in-is n (p .0) (h .0) (parts-bytes s (p .0) (p .1) (h .1) a .0)) (λ flags g. holds (p .0, g, h .1)))
 
 -- flags, and what follows them
 abbrev Flags : ℕ → List ℕ → List Bool × List ℕ → Type 0
-Flags n s p = (a : List ℕ) × (flags : List ℕ) × BitsIn n a flags × (p .0 ≡ map isOne flags) × (s ≡ a ++ p .1)
+Flags n s p = (a : List ℕ) × (flags : List ℕ) × BitsIn n a flags × (p .0 ≡ map isSet flags) × (s ≡ a ++ p .1)
 
 binary2-start-is : (n : ℕ) (s : List ℕ) → AreBytes s → Holds (Flags n s) (readStart Binary2 n s)
 unfolding readStart

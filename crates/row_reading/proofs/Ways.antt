@@ -14,7 +14,7 @@ use Rattle.flags.specs.declared.Flags.{Flags}
 use Rattle.number.proofs.Laws.{all-to, length-to}
 use Rattle.number.specs.Number.{toDigits}
 use Rattle.row_reading.specs.Contracts.{Begins, Closes, flagsIn}
-use Rattle.rows.specs.Stream.{flag, isEmpty, isOne, readEnd, readStart}
+use Rattle.rows.specs.Stream.{flag, isEmpty, isSet, readEnd, readStart}
 use Rattle.row_reading.specs.declared.Begin.{Begin}
 use Rattle.row_reading.specs.declared.Close.{Close}
 use Rattle.table.specs.All.{All}
@@ -73,13 +73,13 @@ begun-binary s place count h = record { begun = refl; within = (le-refl place, h
 
 -- ---- the flags of a row
 
-flag-digit : (b : ℕ) → b < 2 → eqb b 1 ≡ isOne b
-unfolding isOne
+flag-digit : (b : ℕ) → b < 2 → eqb b 1 ≡ isSet b
+unfolding isSet
 flag-digit zero h = refl
 flag-digit (suc zero) h = refl
 flag-digit (suc (suc b)) h = absurd (omega arith)
 
-flag-map : (ds : List ℕ) (k : ℕ) → k < length ds → All (λ (d : ℕ). d < 2) ds → eqb (getD ds k 0) 1 ≡ flag (drop k (map isOne ds))
+flag-map : (ds : List ℕ) (k : ℕ) → k < length ds → All (λ (d : ℕ). d < 2) ds → eqb (getD ds k 0) 1 ≡ flag (drop k (map isSet ds))
 unfolding flag
 flag-map [] k h a = absurd (omega arith)
 flag-map (d ∷ ds) zero h a = flag-digit d (a .0)
@@ -96,7 +96,7 @@ no-flag (suc k) = refl
 
 -- the digits that were read, as flags
 abbrev asFlags : Result ℕ (List ℕ × List ℕ) → Result ℕ (List Bool × List ℕ)
-asFlags r = r >>= λ p. good (map isOne (p .0), p .1)
+asFlags r = r >>= λ p. good (map isSet (p .0), p .1)
 
 module _ (s : List ℕ) (place count : ℕ) (r : Flags) (h : ReadsFlags (readFlags count (drop place s)) s place count r) where
   pub begun-binary2 : (word next : ℕ) → r ≡ Flags.Are word next → Begins Binary2 count s place (Begin.Row word next)

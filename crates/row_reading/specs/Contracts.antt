@@ -1,5 +1,5 @@
 -- What the functions that read rows promise: each case of an answer as the definitions have it.
-use Prim.Native.Nat.{_<_, _≤_, ℕ}
+use Prim.Native.Nat.{_≤_, suc, ℕ}
 use mathlib.Core.Bool.{Bool}
 use mathlib.Core.List.{List, [], map}
 use mathlib.Core.Path.{_≡_}
@@ -9,7 +9,7 @@ use Rattle.row_reading.specs.declared.Begin.{Begin}
 use Rattle.row_reading.specs.declared.Close.{Close}
 use Rattle.row_reading.specs.declared.Next.{Next}
 use Rattle.row_reading.specs.declared.Passed.{Passed}
-use Rattle.rows.specs.Stream.{isOne, readCells, readEnd, readStart}
+use Rattle.rows.specs.Stream.{isSet, readCells, readEnd, readStart}
 use Rattle.table.specs.Cell.{Cell}
 use Rattle.table.specs.Outcome.{Refusal, at}
 use Rattle.table.specs.Result.{Result, _>>=_, bad, good, refusedAs}
@@ -23,7 +23,7 @@ use Rattle.table.specs.declared.Rows.the-variants.{Binary, Binary2, TableData}
 unfoldable pub flagsIn : Rows → ℕ → ℕ → List Bool
 flagsIn TableData count word = []
 flagsIn Binary count word = []
-flagsIn Binary2 count word = map isOne (toDigits 2 count word)
+flagsIn Binary2 count word = map isSet (toDigits 2 count word)
 
 abbrev pub beginAs : Rows → ℕ → List ℕ → Begin → Result ℕ (List Bool × List ℕ)
 beginAs from count s (Begin.Row word next) = good (flagsIn from count word, drop next s)
@@ -63,6 +63,6 @@ abbrev pub PassesCells : Result Refusal (List Cell × List ℕ) → List ℕ →
 PassesCells definition s place (Passed.At next) = (xs : List Cell) × (definition ≡ good (xs, drop next s)) × (place ≤ next) × (next ≤ length s)
 PassesCells definition s place (Passed.Refused n k) = definition ≡ bad (at k n)
 
+-- a row takes at least a byte
 abbrev pub PassesRow : Result Refusal (List Cell × List ℕ) → List ℕ → ℕ → Passed → Type 0
-PassesRow definition s place (Passed.At next) = (xs : List Cell) × (definition ≡ good (xs, drop next s)) × (place < next) × (next ≤ length s)
-PassesRow definition s place (Passed.Refused n k) = definition ≡ bad (at k n)
+PassesRow definition s place r = PassesCells definition s (suc place) r

@@ -38,9 +38,9 @@ unfolding heldNext heldCell
 held-next c f null l = refl
 held-next c f (shown es) l = rw (take-append-seam es l, drop-append-seam es l)
 
--- the front of what is held
-front : (x : Cell) (xs : List Cell) (rest : List ℤ) → heldRow (x ∷ xs) ++ rest ≡ heldCell x ++ (heldRow xs ++ rest)
-front x xs rest = append-assoc (heldCell x) (heldRow xs) rest
+-- the first cell that is held, and the others
+held-first : (x : Cell) (xs : List Cell) (rest : List ℤ) → heldRow (x ∷ xs) ++ rest ≡ heldCell x ++ (heldRow xs ++ rest)
+held-first x xs rest = append-assoc (heldCell x) (heldRow xs) rest
 
 pub held-form : (to : Rows) (cs : List Column) (xs : List Cell) (rest : List ℤ) (j : ℕ) (b : List ℕ) → length xs ≡ length cs → writeCells to cs xs j ≡ good b
     → rowForm heldNext to cs [] (heldRow xs ++ rest) ≡ b
@@ -51,7 +51,7 @@ held-form to (c ∷ cs) (x ∷ xs) rest j b n w =
     let d : (y : List ℕ) × (z : List ℕ) × (refusedAs (at j) (writeCell to c x) ≡ good y) × (writeCells to cs xs (j + 1) ≡ good z) × (y ++ z ≡ b)
     = joined (refusedAs (at j) (writeCell to c x)) (writeCells to cs xs (j + 1)) b w in
     let k : writeCell to c x ≡ good (d .0) = placed j (writeCell to c x) (d .0) (d .2) in
-    rw (front x xs rest, held-next c (flag []) x (heldRow xs ++ rest))
+    rw (held-first x xs rest, held-next c (flag []) x (heldRow xs ++ rest))
     (ap₂ _++_ (form-bytes to c x (d .0) k) (held-form to cs xs rest (j + 1) (d .1) (omega arith) (d .3)) ∙ d .4)
 
 held-at : (c : Column) (x : Cell) (l : List ℤ) → FewIn c x → HeldAt c (heldCell x ++ l)
@@ -64,7 +64,7 @@ unfolding restOf
 held-within [] xs rest n f = tt
 held-within (c ∷ cs) [] rest n f = absurd (omega arith)
 held-within (c ∷ cs) (x ∷ xs) rest n f =
-    rw (front x xs rest)
+    rw (held-first x xs rest)
     (held-at c x (heldRow xs ++ rest) (f .0), rw (held-next c false x (heldRow xs ++ rest)) (held-within cs xs rest (omega arith) (f .1)))
 
 -- ---- a cell at a place of the scratch

@@ -12,11 +12,11 @@ use lib.IntN.{pos, ℤ}
 use lib.ListN.{length, length-map}
 use Rattle.binary.proofs.Laws.{binary-cell-back, binary-fails, binary-less, binary2-cell-back, binary2-fails, binary2-fits, write-binary-fails}
 use Rattle.binary.proofs.RowFlags.{flags-are, flags-back, flags-fails, flags-le}
-use Rattle.binary.specs.Binary.{content, contentBytes, countIn, flagBit, front, readBinary, readBinary2, shows}
+use Rattle.binary.specs.Binary.{content, contentBytes, countIn, firstBytes, flagBit, readBinary, readBinary2, shows}
 use Rattle.rows.proofs.Sequences.{AllRows, Stops, sequence-all, sequence-fuel, sequence-step, sequence-stops}
 use Rattle.rows.specs.Bounds.{Bounded, Within}
 use Rattle.rows.specs.Sequence.{finished, row, rowThen, sequence, sequenceF}
-use Rattle.rows.specs.Stream.{atEnd, flag, flagsLeft, isEmpty, isOne, read, readCell, readCells, readEnd, readRow, readStart, writeCell, writeCells, writeEnd, writeRow, writeStart}
+use Rattle.rows.specs.Stream.{atEnd, flag, flagsLeft, isEmpty, isSet, read, readCell, readCells, readEnd, readRow, readStart, writeCell, writeCells, writeEnd, writeRow, writeStart}
 use Rattle.table.proofs.Laws.{Numbered, all-weaken, bad-good, each-length, empty-fits, fails-as, fails-bind, fails-weaken, holds-any, holds-as, holds-at, holds-bind, holds-weaken, skip-le, tag-fails, tag-le}
 use Rattle.table.specs.All.{All, AreBytes}
 use Rattle.table.specs.Bytes.{after, ends, isWhite, skipWhite, tag}
@@ -93,10 +93,10 @@ ends-alike c flagged s = counted (countIn (c .len) s)
     filled n false (good p) = unfold shows in shown-alike (p .1) (content (shape (c .kind)) n (p .0))
 
     counted : (r : Result ℕ (ℕ × List ℕ))
-        → following (r >>= λ n. front (contentBytes (shape (c .kind)) (n .0)) (n .1) >>= λ p. shows c flagged (n .0) (p .0) >>= λ x. good (x, p .1))
-        ≡ following (r >>= λ n. front (contentBytes (shape (c .kind)) (n .0)) (n .1) >>= λ p. shows (bare c) flagged (n .0) (p .0) >>= λ x. good (x, p .1))
+        → following (r >>= λ n. firstBytes (contentBytes (shape (c .kind)) (n .0)) (n .1) >>= λ p. shows c flagged (n .0) (p .0) >>= λ x. good (x, p .1))
+        ≡ following (r >>= λ n. firstBytes (contentBytes (shape (c .kind)) (n .0)) (n .1) >>= λ p. shows (bare c) flagged (n .0) (p .0) >>= λ x. good (x, p .1))
     counted (bad k) = refl
-    counted (good n) = filled (n .0) flagged (front (contentBytes (shape (c .kind)) (n .0)) (n .1))
+    counted (good n) = filled (n .0) flagged (firstBytes (contentBytes (shape (c .kind)) (n .0)) (n .1))
 
 holds-following : (P : List ℕ → Type 0) (r q : Result ℕ (Cell × List ℕ)) → following r ≡ following q → Holds (λ (p : Cell × List ℕ). P (p .1)) q → Holds (λ (p : Cell × List ℕ). P (p .1)) r
 holds-following P (bad n) q e h = refuses
@@ -132,8 +132,8 @@ flags-left Binary x xs = refl
 flags-left Binary2 x xs = refl
 
 -- "1 for null"
-one-bit : (bs : List Bool) → map isOne (map flagBit bs) ≡ bs
-unfolding isOne
+one-bit : (bs : List Bool) → map isSet (map flagBit bs) ≡ bs
+unfolding isSet
 one-bit [] = refl
 one-bit (true ∷ bs) = ap (λ (t : List Bool). true ∷ t) (one-bit bs)
 one-bit (false ∷ bs) = ap (λ (t : List Bool). false ∷ t) (one-bit bs)

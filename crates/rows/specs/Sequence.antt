@@ -18,7 +18,8 @@ module _ {A : Type 0} where
   rowThen (good p) more = row (p .0) (more (p .1))
   rowThen (bad e) more = stopped e
 
-  -- "Rows: a row is read whole": the first number bounds the rows, and a stream that outlasted it would be refused
+  -- row after row. The first number bounds the turns, one for each row and one for the end, and is no rule of 01: a stream that outlasted it
+  -- would be refused
   unfoldable pub sequenceF : ℕ → (List ℕ → Bool) → (List ℕ → Result Refusal (A × List ℕ)) → List ℕ → Sequence A
   sequenceF zero ended next s = stopped (at 0 8)
   sequenceF (suc f) ended next s = cond (ended s) finished (rowThen (next s) (λ rest. sequenceF f ended next rest))

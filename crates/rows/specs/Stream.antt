@@ -41,9 +41,9 @@ readCells from (c ∷ cs) fs k s = do
   good (x ∷ xs, rest)
 
 -- "1 for null"
-unfoldable pub isOne : ℕ → Bool
-isOne zero = false
-isOne (suc n) = true
+unfoldable pub isSet : ℕ → Bool
+isSet zero = false
+isSet (suc n) = true
 
 -- what begins a row: `<TR>`, nothing, or the flags
 unfoldable pub readStart : Rows → ℕ → List ℕ → Result ℕ (List Bool × List ℕ)
@@ -51,7 +51,7 @@ readStart TableData n s = tag 10 open-TR (skipWhite s) >>= λ t. good ([], t)
 readStart Binary n s = good ([], s)
 readStart Binary2 n s = do
   (bits, t) ← readFlags n s
-  good (map isOne bits, t)
+  good (map isSet bits, t)
 
 -- what ends it: `</TR>`, or nothing
 unfoldable pub readEnd : Rows → List ℕ → Result ℕ (List ℕ)

@@ -1,51 +1,21 @@
--- Which characters are white, which are text and which stand for themselves; and the byte that stands at a place.
-use Prim.Native.Nat.{_+_, _<_, _≤_, ℕ}
-use native.Mathlib.Numerals.{towards-suc}
+-- Which characters are text and which stand for themselves: by cases on the tests.
+use Prim.Native.Nat.{_<_, _≤_, ℕ}
 use native.Mathlib.Omega.{arith}
 use mathlib.Core.Bool.{Bool, _&&_, _||_, and-false, false, not, or-true, true}
-use mathlib.Core.List.{List, [], _∷_}
 use mathlib.Core.Path.{_≡_, refl}
 use lib.Dec.{eqb}
-use lib.ListN.{drop, drop-of-length-le, getD, length}
-use lib.Seq.{drop-cons}
 use borrow.Author.Tests.{eq-eqb, eqb-false, eqb-true, ne-eqb, not-true}
-use Rattle.table.proofs.Laws.{and-both, between-is, between-yes, or-either}
+use Rattle.table.proofs.Bytes.{between-no}
+use Rattle.table.proofs.Laws.{and-both, between-yes, or-either}
 use Rattle.table.specs.Bytes.{between, isWhite}
 use Rattle.tabledata.specs.Contracts.{isPlain}
 use Rattle.tabledata.specs.TableData.{isText}
 
-pub next1 : (s : List ℕ) (i : ℕ) → i < length s → drop i s ≡ getD s i 0 ∷ drop (i + 1) s
-next1 s i h = simp towards-suc (drop-cons s i 0 h)
-
-pub done : (s : List ℕ) (i : ℕ) → length s ≤ i → drop i s ≡ []
-done s i h = drop-of-length-le s h
-
--- ---- tests
-
-pub between-no : (lo hi b : ℕ) → ((lo ≤ b) × (b ≤ hi) → ⊥) → between lo hi b ≡ false
-between-no lo hi b n = go (between lo hi b) refl
-  where
-    go : (t : Bool) → between lo hi b ≡ t → between lo hi b ≡ false
-    go true e = absurd (n (between-is lo hi b e))
-    go false e = e
-
--- ---- which characters are white, and which are text
-
-pub white-not : (c : ℕ) → (c ≡ 9 → ⊥) → (c ≡ 10 → ⊥) → (c ≡ 13 → ⊥) → (c ≡ 32 → ⊥) → isWhite c ≡ false
-unfolding isWhite
-white-not c x y z w = rw (ne-eqb c 9 x, ne-eqb c 10 y, ne-eqb c 13 z, ne-eqb c 32 w)
-
-pub white-yes : (c : ℕ) → 9 ≤ c → c ≤ 10 → isWhite c ≡ true
-unfolding isWhite
-white-yes c h k = go (eqb c 9) refl
-  where
-    go : (t : Bool) → eqb c 9 ≡ t → isWhite c ≡ true
-    go true e = rw e
-    go false e = rw (e, eq-eqb c 10 (omega (arith, eqb-false c 9 e)))
+-- ---- which characters are text
 
 pub text-not : (c : ℕ) → (c ≡ 9 → ⊥) → (c ≡ 10 → ⊥) → (c ≡ 13 → ⊥) → ((32 ≤ c) × (c ≤ 127) → ⊥) → isText c ≡ false
 unfolding isText
-text-not c x y z w = rw (ne-eqb c 9 x, ne-eqb c 10 y, ne-eqb c 13 z, between-no 32 127 c w)
+text-not c x y z w = rw (ne-eqb c 9 x, ne-eqb c 10 y, ne-eqb c 13 z, between-no 32 127 c (λ h k. w (h, k)))
 
 pub text-yes : (c : ℕ) → 32 ≤ c → c ≤ 127 → isText c ≡ true
 unfolding isText
@@ -79,8 +49,8 @@ plain-yes c x y h k = rw (ne-eqb c 38 x, ne-eqb c 60 y, between-yes 32 127 c h k
 
 pub plain-low : (c : ℕ) → c < 32 → isPlain c ≡ false
 unfolding isPlain
-plain-low c h = rw (between-no 32 127 c (λ g. omega arith), and-false)
+plain-low c h = rw (between-no 32 127 c (λ a b. omega arith), and-false)
 
 pub plain-high : (c : ℕ) → 127 < c → isPlain c ≡ false
 unfolding isPlain
-plain-high c h = rw (between-no 32 127 c (λ g. omega arith), and-false)
+plain-high c h = rw (between-no 32 127 c (λ a b. omega arith), and-false)

@@ -86,23 +86,10 @@ values-after s = outer (ends 1 (bytes "<VALUES") s)
 
 -- ---- what stands in a FIELD
 
-abbrev held : Option (List ℕ) → List ℕ → Result ℕ (Option (List ℕ) × List ℕ)
-held v rest = good (v, rest)
-
 module _ (s : List ℕ) (from : ℕ) where
   body-is : fieldBody (drop from s) ≡ (begins (ends 1 (bytes "<VALUES") (drop from s)) (readValues (drop from s)) (good (none, drop from s)) >>= λ r. endTag (r .0) (r .1))
-  unfolding fieldBody endTag tag ends
-  body-is = outer (begins (ends 1 (bytes "<VALUES") (drop from s)) (readValues (drop from s)) (good (none, drop from s)))
-    where
-      inner : (v : Option (List ℕ)) (r : Result ℕ (List ℕ))
-          → (r >>= λ u. ends 1 (bytes ">") u >>= held v) ≡ ((r >>= λ u. ends 1 (bytes ">") u) >>= held v)
-      inner v (good u) = refl
-      inner v (bad n) = refl
-
-      outer : (r : Result ℕ (Option (List ℕ) × List ℕ))
-          → (r >>= λ x. ends 1 (bytes "</FIELD") (x .1) >>= λ u. ends 1 (bytes ">") u >>= held (x .0)) ≡ (r >>= λ x. endTag (x .0) (x .1))
-      outer (good x) = inner (x .0) (ends 1 (bytes "</FIELD") (x .1))
-      outer (bad n) = refl
+  unfolding fieldBody endTag
+  body-is = refl
 
   pub body-none : (r : Body) → EndsIs (bytes "<VALUES") s from Broken → BodyIs s from (endTag none (drop from s)) r → BodyIs s from (fieldBody (drop from s)) r
   unfolding begins
