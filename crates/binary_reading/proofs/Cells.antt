@@ -3,7 +3,7 @@ use Prim.Native.Nat.{_*_, _+_, _-_, _<_, _≤_, suc, zero, ℕ}
 use Rattle.binary.proofs.Digits.{take-of-sets}
 use Rattle.binary.proofs.Laws.{flagged-unread}
 use Rattle.binary.proofs.Loops.{length-integers}
-use Rattle.binary.specs.Binary.{beforeNul, content, contentBytes, countIn, element, firstBytes, numbers, numbersIn, readBinary, readBinary2, shows}
+use Rattle.binary.specs.Binary.{allZero, beforeNul, bitBytes, bitsOf, content, contentBytes, countIn, element, firstBytes, numbers, numbersIn, readBinary, readBinary2, shows, unpack}
 use Rattle.binary_reading.specs.Contracts.{Fills}
 use Rattle.binary.specs.Reading.{integers, readCounted}
 use Rattle.binary_reading.specs.declared.Content.{Content}
@@ -14,7 +14,7 @@ use Rattle.table.specs.Cell.{Cell, emptyIsNull, isNullList, null, show, shown, 
 use Rattle.table.specs.Contracts.{FoundWithin, Reads}
 use Rattle.table.specs.Outcome.{at}
 use Rattle.table.specs.Result.{Result, _>>=_, bad, every, good}
-use Rattle.table.specs.Shape.{Text, Truths, Whole, Width, last, shape}
+use Rattle.table.specs.Shape.{Bits, Shape, Text, Truths, Whole, Width, last, shape}
 use Rattle.table.specs.declared.Column.{Column}
 use Rattle.table.specs.declared.Found.{Found}
 use Rattle.table.specs.declared.Found.the-variants.{Refused, Shown}
@@ -38,6 +38,20 @@ numbers-bytes : (s : List ℕ) → numbers 1 (length s) s ≡ s
 unfolding numbers ofDigits
 numbers-bytes [] = refl
 numbers-bytes (b ∷ s) = ap₂ (λ (x : ℕ) (xs : List ℕ). x ∷ xs) (let e : 0 * 256 + b ≡ b = omega arith in e) (numbers-bytes s)
+
+none-in : (k : Shape) (s : List ℕ) → length s ≡ contentBytes k 0 → content k 0 s ≡ good []
+unfolding allZero beforeNul bitBytes bitsOf content contentBytes every numbers numbersIn unpack
+none-in Truths s h = refl
+none-in Bits [] h = refl
+none-in Bits (b ∷ s) h = absurd (omega arith)
+none-in (Whole g v) s h = refl
+none-in Text [] h = refl
+none-in Text (b ∷ s) h = absurd (omega arith)
+
+-- no elements take no bytes, and are none
+pub content-none : (k : Shape) (n : ℕ) (s : List ℕ) (entry : List ℤ) → n ≡ 0 → length s ≡ contentBytes k n → Fills (content k n s) n entry entry (Filled 0)
+content-none k n s entry e h =
+    rw e (record { found = none-in k s (rw (← e) h); within = le-refl 0; long = refl })
 
 pub content-truths : (n : ℕ) (s : List ℕ) → length s ≡ n → content Truths n s ≡ every (element Truths) s
 unfolding content numbersIn

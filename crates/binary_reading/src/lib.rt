@@ -163,10 +163,14 @@ fn read_bits(part: &[u8], n: usize, scratch: &mut [i64]) -> Content
     }
 }
 
+// No elements are told here, once, and not by the loop of each kind.
 fn read_content(part: &[u8], n: usize, kind: Kind, scratch: &mut [i64]) -> Content
     requires { ⌜ (length (now part) ≡ contentBytes (shape kind) n) × (n ≤ 4096) × (4096 ≤ length (now scratch)) ⌝ }
     ensures { λ r. ⌜ Fills (content (shape kind) n (now (part .entry))) n (now (scratch .entry)) (now (scratch .exit)) r ⌝ }
 {
+    if n == 0 {
+        return Content::Filled(0);
+    }
     match elements_of(kind) {
         Elements::Truths => read_truths(part, scratch),
         Elements::Bits => read_bits(part, n, scratch),

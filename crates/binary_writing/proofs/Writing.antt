@@ -8,8 +8,8 @@ use Rattle.number.proofs.Laws.{length-to, low-pattern, of-append, pattern-lt, p
 use Rattle.number.specs.Contracts.{size}
 use Rattle.number.specs.Number.{ofDigits, pattern, toDigits}
 use Rattle.table.proofs.Laws.{last-le}
-use Rattle.table.specs.Cell.{bound, nullElement, nullOfKind, roomIn, shown}
-use Rattle.table.specs.Contracts.{held}
+use Rattle.table.specs.Cell.{bound, isOne, nullElement, nullOfKind, roomIn, shown}
+use Rattle.table.specs.Contracts.{formBytes, held}
 use Rattle.table.specs.Outcome.{at}
 use Rattle.table.specs.Result.{bad, good}
 use Rattle.table.specs.Shape.{Bits, Shape, Text, Truths, Whole, Width, last, shape}
@@ -17,14 +17,15 @@ use Rattle.table.specs.Wrote.{Wrote}
 use Rattle.table.specs.declared.Column.{Column}
 use Rattle.table.specs.declared.Len.{Len}
 use Rattle.table.specs.declared.Len.the-variants.{Bounded, Fixed, Free}
-use lib.Dec.{lit<, lit≤}
+use borrow.Author.Tests.{eqb-true}
+use lib.Dec.{eqb, lit<, lit≤}
 use lib.IntN.{negsuc, pos, ℤ}
 use lib.ListN.{drop, getD, length, length-append, length-drop, length-map, length-replicate, replicate, set, take}
 use lib.Pow.{pow-add, pow-mono, shl-exact}
 use lib.Seq.{drop-append-le, drop-cons, drop-drop, length-take-le, sets, take-all, take-append-le, take-take}
-use mathlib.Core.Bool.{Bool, false, false≢true, true}
+use mathlib.Core.Bool.{Bool, cond, false, false≢true, true}
 use mathlib.Core.List.{List, [], _++_, _∷_, map}
-use mathlib.Core.Option.{none, some}
+use mathlib.Core.Option.{Option, none, some}
 use mathlib.Core.Path.{_∙_, _≡_, ap, ap₂, refl, sym}
 use native.Mathlib.Nat.{mul-le-mul-right, mul-one, pow-succ', sub-zero, suc-mul, zero-mul}
 use native.Mathlib.Numerals.{add-one}
@@ -64,6 +65,16 @@ write-shown c flag count scratch e n h =
 
 -- ---- null in BINARY
 
+-- an element that is written for null has a scalar column
+scalar-length : (l : Len) (o : Option ℤ) (z : ℤ) → cond (isOne l) o none ≡ some z → l ≡ Fixed 1
+scalar-length (Fixed n) o z h = go (eqb n 1) refl h
+  where
+    go : (b : Bool) → eqb n 1 ≡ b → cond b o none ≡ some z → Fixed n ≡ Fixed 1
+    go true e h = ap Fixed (eqb-true n 1 e)
+    go false e h = let q : _≡_ {A = ℕ} 0 1 = cc in absurd (omega arith)
+scalar-length (Bounded n) o z h = let q : _≡_ {A = ℕ} 0 1 = cc in absurd (omega arith)
+scalar-length Free o z h = let q : _≡_ {A = ℕ} 0 1 = cc in absurd (omega arith)
+
 module _ (c : Column) where
   pub null-bound : (z : ℤ) → nullElement c ≡ some z → 1 ≤ bound (c .len)
   unfolding nullElement
@@ -72,6 +83,12 @@ module _ (c : Column) where
   pub null-some : (z : ℤ) → nullElement c ≡ some z → nullForm c (nullElement c) ≡ good (elementsBytes c (z ∷ []))
   unfolding nullForm
   null-some z q = rw q
+
+  -- a scalar has no count before its element, and room for one
+  pub null-content : (z : ℤ) → nullElement c ≡ some z
+      → formBytes (nullForm c (nullElement c)) ≡ bytesOf (shape (c .kind)) 1 (map (number (shape (c .kind))) (z ∷ []))
+  unfolding nullElement elementsBytes countBytes
+  null-content z q = ap formBytes (null-some z q) ∙ rw (scalar-length (c .len) (nullOfKind (shape (c .kind)) (c .null)) z q)
 
   pub null-empty : nullElement c ≡ none → canBeEmpty (shape (c .kind)) (c .len) ≡ true → nullForm c (nullElement c) ≡ good (elementsBytes c [])
   unfolding nullForm

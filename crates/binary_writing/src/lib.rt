@@ -293,7 +293,7 @@ pub fn write_binary2(
     put_elements(column, count, scratch, out, at)
 }
 
-// A null that BINARY has a form for; nothing where it has none.
+// A null that BINARY has a form for; nothing where it has none. A declared null is a scalar's: no count stands before it.
 fn put_binary_null(column: Column, out: &mut [u8], at: usize) -> usize
     requires { ⌜ (bound (column .len) ≤ 4096) × (at + length (formBytes (nullForm column (nullElement column))) ≤ length (now out)) ⌝ }
     ensures { λ r. ⌜ Wrote (now (out .entry)) at (formBytes (nullForm column (nullElement column))) (now (out .exit)) r ⌝ }
@@ -304,7 +304,7 @@ fn put_binary_null(column: Column, out: &mut [u8], at: usize) -> usize
     match null {
         Null::Declared(z) => {
             let one = [z; 1];
-            put_elements(column, 1, &one, out, at)
+            put_content(kind, 1, 1, &one, out, at)
         }
         Null::Undeclared => {
             if can_be_empty(kind, len) {

@@ -1,5 +1,5 @@
--- binary_reading::read_content: what the elements are says the shape of the kind, and so the length of the part.
-use Rattle.binary_reading.proofs.Cells.{content-text, content-truths, fills-as}
+-- binary_reading::read_content: no elements are none of any kind; else what the elements are says the shape of the kind, and so the length of the part.
+use Rattle.binary_reading.proofs.Cells.{content-none, content-text, content-truths, fills-as}
 use Rattle.binary.specs.Binary.{bitBytes, contentBytes}
 use Rattle.number.proofs.Laws.{shape-of}
 use Rattle.number.specs.Contracts.{shapeAs}
@@ -14,9 +14,9 @@ use Rattle.binary_reading.proofs.read_content.Statement.{statement}
 use Rattle.binary_reading.proofs.read_content.Tie as tie
 
 long : (c : tie.After-elements-of) {e : Elements} → c .elements-of .result ≡ e
-    → let a = c .before .before .args in length (now (a .part)) ≡ contentBytes (shapeAs e) (a .n)
+    → let a = c .before .before .before .args in length (now (a .part)) ≡ contentBytes (shapeAs e) (a .n)
 long c told =
-    let start = c .before .before in
+    let start = c .before .before .before in
     start .pre .0 ∙ ap (λ (k : Shape). contentBytes k (start .args .n)) (shape-of (c .elements-of .ensures) told)
 
 read-truths-requires : tie.Need-read-truths-requires
@@ -37,26 +37,29 @@ unfolding contentBytes
 read-integers-requires c κs = (omega (arith, long (c .before .before .before .before) (c .before .before .integer .given .1)), omega arith)
 
 returns : tie.Need-returns
+returns c = let start = c .before .before in content-none _ _ _ _ (c .if1 .taken) (start .pre .0)
+
+returns-2 : tie.Need-returns-2
 unfolding contentBytes
-returns c =
+returns-2 c =
     let at-told = c .before .before .before in let at-elements = at-told .before .before in
     let e = long at-elements (at-told .enum-told .given .1) in
     rw (shape-of (at-elements .elements-of .ensures) (at-told .enum-told .given .1)) (fills-as (content-truths _ _ e) e (c .before .read-truths .ensures))
 
-returns-2 : tie.Need-returns-2
-returns-2 c =
+returns-3 : tie.Need-returns-3
+returns-3 c =
     let at-told = c .before .before .before in
     rw (shape-of (at-told .before .before .elements-of .ensures) (at-told .enum-told2 .given .1)) (c .before .read-bits .ensures)
 
-returns-3 : tie.Need-returns-3
+returns-4 : tie.Need-returns-4
 unfolding contentBytes
-returns-3 c =
+returns-4 c =
     let at-told = c .before .before .before in let at-elements = at-told .before .before in
     rw (shape-of (at-elements .elements-of .ensures) (at-told .enum-told3 .given .1))
     (fills-as (content-text _ _) (long at-elements (at-told .enum-told3 .given .1)) (c .before .read-characters .ensures))
 
-returns-4 : tie.Need-returns-4
-returns-4 c =
+returns-5 : tie.Need-returns-5
+returns-5 c =
     let at-told = c .before .before .before .before in
     rw (shape-of (at-told .before .before .elements-of .ensures) (at-told .integer .given .1)) (c .before .read-integers .ensures)
 
@@ -64,6 +67,7 @@ pub read-content-spec : {M : Type 1} → statement M
 read-content-spec =
     tie.close
     (tie.spec
+    returns
     (λ c κs. search needs)
     (λ c. search needs)
     read-truths-requires
@@ -74,10 +78,10 @@ read-content-spec =
     (λ c. search needs)
     read-integers-requires
     (λ c. search needs)
-    returns
-    (λ c. search needs)
     returns-2
     (λ c. search needs)
     returns-3
     (λ c. search needs)
-    returns-4)
+    returns-4
+    (λ c. search needs)
+    returns-5)

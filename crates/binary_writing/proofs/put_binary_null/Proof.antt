@@ -1,16 +1,18 @@
 -- `binary_writing::put_binary_null` meets its contract: an element that stands for null has a scalar column; an empty cell is zeros.
 use Prim.Native.Nat.{ℕ}
-use Rattle.binary_writing.proofs.Writing.{empty-zeros, null-bound, null-empty, null-none, null-some}
-use Rattle.binary.specs.Binary.{elementsBytes}
+use Rattle.binary_writing.proofs.Writing.{empty-zeros, null-content, null-empty, null-none}
+use Rattle.binary.proofs.Laws.{filled-length}
+use Rattle.binary.specs.Binary.{bytesOf, number}
 use Rattle.table.proofs.Wrote.{wrote-as}
 use Rattle.table.specs.Cell.{nullAs}
 use Rattle.table.specs.Contracts.{formBytes}
 use Rattle.table.specs.Result.{Result}
+use Rattle.table.specs.Shape.{shape}
 use borrow.Author.Needs.{needs}
 use lib.Dec.{lit≤}
 use lib.IntN.{ℤ}
 use lib.ListN.{length}
-use mathlib.Core.List.{List, [], _∷_}
+use mathlib.Core.List.{List, [], _∷_, map}
 use mathlib.Core.Path.{_∙_, _≡_, ap, refl, sym}
 use mir.Syntax.{w64}
 use mir.Val.{ofZ, toZ}
@@ -19,15 +21,16 @@ use native.Mathlib.Omega.{arith}
 use Rattle.binary_writing.proofs.put_binary_null.Statement.{statement}
 use Rattle.binary_writing.proofs.put_binary_null.Tie as tie
 
-put-elements-requires : tie.Need-put-elements-requires
-put-elements-requires c κs =
+put-content-requires : tie.Need-put-content-requires
+put-content-requires c κs =
     let a = c .before .before .before .before .before .before .before .args in
     let p = c .before .before .before .before .before .before .before .pre in
     let z = c .before .before .before .null .given .0 .0 in
     let q = sym (c .before .before .before .before .before .null-element .ensures) ∙ ap nullAs (c .before .before .before .null .given .1) in
-    let e : toZ w64 (ofZ w64 z) ≡ z = search needs in (
-      (p .0, null-bound (a .column) z q, lit≤ tt),
-      rw e (omega (arith, p .1, ap (λ (r : Result ℕ (List ℕ)). length (formBytes r)) (null-some (a .column) z q))),
+    let k = shape (a .column .kind) in (
+      lit≤ tt,
+      lit≤ tt,
+      omega (arith, p .1, ap length (null-content (a .column) z q), filled-length 1 (map (number k) (z ∷ [])) k (lit≤ tt)),
     )
 
 put-null-requires : tie.Need-put-null-requires
@@ -46,7 +49,7 @@ put-null-requires c κs =
     )
 
 same-length : tie.Need-same-length
-same-length c = c .before .before .put-elements .kept .1 .1 .1 .0
+same-length c = c .before .before .put-content .kept .1 .1 .1 .1 .0
 
 returns : tie.Need-returns
 returns c =
@@ -54,7 +57,8 @@ returns c =
     let z = c .before .before .before .before .before .before .null .given .0 .0 in
     let q = sym (c .before .before .before .before .before .before .before .before .null-element .ensures) ∙ ap nullAs (c .before .before .before .before .before .before .null .given .1) in
     let e : toZ w64 (ofZ w64 z) ≡ z = search needs in
-    wrote-as (ap (λ (x : ℤ). elementsBytes (a .column) (x ∷ [])) e ∙ sym (ap formBytes (null-some (a .column) z q))) (c .before .before .put-elements .ensures)
+    let k = shape (a .column .kind) in
+    wrote-as (ap (λ (x : ℤ). bytesOf k 1 (map (number k) (x ∷ []))) e ∙ sym (null-content (a .column) z q)) (c .before .before .put-content .ensures)
 
 same-length-2 : tie.Need-same-length-2
 same-length-2 c = c .before .before .put-null .kept .1 .0
@@ -79,7 +83,7 @@ put-binary-null-spec =
     (λ c κs. search needs)
     (λ c. search needs)
     (λ c. search needs)
-    put-elements-requires
+    put-content-requires
     (λ c. search needs)
     (λ c κs. search needs)
     put-null-requires
