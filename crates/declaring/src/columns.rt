@@ -1,6 +1,6 @@
 // The column that a FIELD declares: its kind, its length, its null value.
 ghost use mathlib.Core.Path.{_≡_};
-ghost use Rattle.element_reading.specs.Elements.{elementsOf};
+ghost use Rattle.tabledata.specs.TableData.{elementsOf};
 ghost use Rattle.table.specs.Shape.{shape};
 ghost use Rattle.fields.specs.Fields.{beforeStar, boundedLen, judge, kindOf, kinds, lenBefore, lenOf, lengthOf, nullOf};
 ghost use Rattle.declaring.specs.Readers.{ElementIn, ValueIn, asWritten, elementOf, fixedLen, judged, kindRead, lenRead, lengthRead, nullOfScalar, nullRead, oneNull};

@@ -8,7 +8,6 @@ use mathlib.Core.Path.{_∙_, _≡_, ap, refl, sym}
 use lib.Dec.{eqb}
 use lib.IntN.{ℤ}
 use borrow.Author.Tests.{eqb-true}
-use Rattle.element_reading.specs.Elements.{elementsOf}
 use Rattle.number.specs.Number.{Fault, decimal, digit, hexadecimal, hexadigit, numeral, ranged, readInteger, sized, withSign}
 use Rattle.table.proofs.Laws.{and-both, between-is, fails-always, fails-at, fails-every, holds-any, holds-as, holds-at, holds-bind, holds-cond, holds-weaken}
 use Rattle.table.specs.All.{All}
@@ -16,7 +15,7 @@ use Rattle.table.specs.Bytes.{attach, between, isWhite, notEmpty, pieces, words
 use Rattle.table.specs.Result.{Fails, Holds, Result, bad, every, good, holds, refuses}
 use Rattle.table.specs.Shape.{Whole, Width, last}
 use Rattle.tabledata.proofs.Characters.{text-yes, white-text}
-use Rattle.tabledata.specs.TableData.{allText, integerWord, isText, textElements}
+use Rattle.tabledata.specs.TableData.{allText, elementsOf, integerWord, isText, textElements}
 
 -- ---- an integer's letters
 

@@ -12,11 +12,11 @@ use Rattle.table.proofs.Words.{words-cut, words-last, words-none}
 use Rattle.table.specs.Bytes.{isWhite, notEmpty, words}
 use Rattle.table.specs.Result.{Result, _>>=_, bad, every, good}
 use Rattle.table.specs.Shape.{Shape}
-use Rattle.tabledata.specs.TableData.{textElements}
+use Rattle.tabledata.specs.TableData.{elementsOf, textElements}
 use Rattle.element_reading.proofs.characters.Passing.{passed-then, text-append}
 use Rattle.element_reading.proofs.elements.Laws.{ReadTo, read-on, spoilt}
 use Rattle.element_reading.specs.Characters.{charactersOf, spoiledNumber}
-use Rattle.element_reading.specs.Elements.{Takes, elementsFrom, elementsOf}
+use Rattle.element_reading.specs.Elements.{TakesElements, elementsFrom}
 use Rattle.element_reading.specs.Words.{Adds, CutAt, LastAt}
 use Rattle.element_reading.specs.declared.elements.Added.the-variants.{NoWord, To}
 use Rattle.element_reading.specs.declared.elements.Taken.the-variants.{Held}
@@ -106,7 +106,7 @@ module _ (k : Shape) {f : List ℕ → Result ℕ ℤ} (q : (w : List ℕ) → t
     unfolding elementsOf
     last-is e = read-on r k ∙ u .ends (λ cs. elementsOf k (r .w ++ cs)) ∙ rw (text-append (r .w) (u .w) (r .passed .text) (u .text), e)
 
-    pub word-last : {all : ℕ} {m : List ℤ} → Adds f Stands n l m (To all) → Takes (elementsFrom source k (drop from s)) s from entry m (Held all next)
+    pub word-last : {all : ℕ} {m : List ℤ} → Adds f Stands n l m (To all) → TakesElements (elementsFrom source k (drop from s)) s from entry m (Held all next)
     word-last d =
         let x = d .found (u .w) (u .text) (u .stands) in
         record {
@@ -120,7 +120,7 @@ module _ (k : Shape) {f : List ℕ → Result ℕ ℤ} (q : (w : List ℕ) → t
           long = d .long ∙ r .long;
         }
 
-    pub word-last-none : {m : List ℤ} → Adds f Stands n l m NoWord → Takes (elementsFrom source k (drop from s)) s from entry m (Taken.Refused 11)
+    pub word-last-none : {m : List ℤ} → Adds f Stands n l m NoWord → TakesElements (elementsFrom source k (drop from s)) s from entry m (Taken.Refused 11)
     word-last-none d = record {
       found = last-is (q (r .w ++ u .w) ∙ words-end (r .means) (u .w) (u .word) (d .found (u .w) (u .text) (u .stands)));
       long = d .long ∙ r .long;
@@ -142,7 +142,8 @@ module _ (k : Shape) {f : List ℕ → Result ℕ ℤ} (q : (w : List ℕ) → t
           high = u .high;
         }
 
-    pub word-cut-none : {x : ℕ} {m : List ℤ} → Adds f Stands n l m NoWord → x ≡ spoiledNumber (charactersOf source (drop next s)) → Takes (elementsFrom source k (drop from s)) s from entry m (Taken.Refused x)
+    pub word-cut-none : {x : ℕ} {m : List ℤ} → Adds f Stands n l m NoWord → x ≡ spoiledNumber (charactersOf source (drop next s))
+        → TakesElements (elementsFrom source k (drop from s)) s from entry m (Taken.Refused x)
     word-cut-none d e = record {
       found =
           spoilt k (passed-then (r .passed) (u .passed)) (λ v.

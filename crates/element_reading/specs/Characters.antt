@@ -56,12 +56,12 @@ pub record ItemIs (source : Source) (definition : Result ℕ (List ℕ × List �
   pub within : ItemWithin s place r
 
 -- where the text was seen to end just at a place, it does
-abbrev pub EndsAs : Source → List ℕ → ℕ → Tag → Type 0
-EndsAs source s place (At next) = ItemIs source (charactersOf source (drop place s)) s place (End next)
-EndsAs source s place Broken = Unit {0}
+abbrev pub TextEndsAs : Source → List ℕ → ℕ → Tag → Type 0
+TextEndsAs source s place (At next) = ItemIs source (charactersOf source (drop place s)) s place (End next)
+TextEndsAs source s place Broken = Unit {0}
 
-pub record EndsIs (source : Source) (s : List ℕ) (place : ℕ) (r : Tag) : Type 0 where
-  pub found : EndsAs source s place r
+pub record TextEnds (source : Source) (s : List ℕ) (place : ℕ) (r : Tag) : Type 0 where
+  pub found : TextEndsAs source s place r
 
 -- "a text cell 10, 11, 12": 10 where its text is broken, or else 11
 unfoldable pub spoiledNumber : Result ℕ (List ℕ × List ℕ) → ℕ

@@ -8,17 +8,13 @@ use lib.IntN.{pos, ℤ}
 use lib.ListN.{drop, length, take}
 use Rattle.table.specs.Result.{Result, _>>=_, bad, good}
 use Rattle.table.specs.Shape.{Shape}
-use Rattle.tabledata.specs.TableData.{allText, bitLetter, textElements}
+use Rattle.tabledata.specs.TableData.{allText, bitLetter, elementsOf}
 use Rattle.element_reading.specs.Characters.{charactersOf}
 use Rattle.element_reading.specs.declared.characters.Source.{Source}
 use Rattle.element_reading.specs.declared.elements.Counted.the-variants.{All}
 use Rattle.element_reading.specs.declared.elements.Counted.{Counted}
 use Rattle.element_reading.specs.declared.elements.Taken.the-variants.{Held}
 use Rattle.element_reading.specs.declared.elements.Taken.{Taken}
-
--- 11 for a character that a cell may not have, then what the kind makes of them
-unfoldable pub elementsOf : Shape → List ℕ → Result ℕ (List ℤ)
-elementsOf k cs = cond (allText cs) (textElements k cs) (bad 11)
 
 -- what g makes of a text's characters, and what follows the text
 unfoldable pub onward : (List ℕ → Result ℕ (List ℤ)) → Result ℕ (List ℕ × List ℕ) → Result ℕ (List ℤ × List ℕ)
@@ -38,7 +34,7 @@ TakenAs definition s place scratch (Held count next) =
     (es : List ℤ) × (definition ≡ good (es, drop next s)) × Stored es count scratch × (place ≤ next) × (next ≤ length s)
 TakenAs definition s place scratch (Taken.Refused n) = definition ≡ bad n
 
-pub record Takes (definition : Result ℕ (List ℤ × List ℕ)) (s : List ℕ) (place : ℕ) (entry exit : List ℤ) (r : Taken) : Type 0 where
+pub record TakesElements (definition : Result ℕ (List ℤ × List ℕ)) (s : List ℕ) (place : ℕ) (entry exit : List ℤ) (r : Taken) : Type 0 where
   pub found : TakenAs definition s place exit r
   pub long : length exit ≡ length entry
 
@@ -47,7 +43,7 @@ abbrev pub CountedAs : Result ℕ (List ℤ) → List ℤ → Counted → Type 0
 CountedAs definition scratch (All count) = (es : List ℤ) × (definition ≡ good es) × Stored es count scratch
 CountedAs definition scratch (Counted.Refused n) = definition ≡ bad n
 
-pub record Counts (definition : Result ℕ (List ℤ)) (entry exit : List ℤ) (r : Counted) : Type 0 where
+pub record CountsElements (definition : Result ℕ (List ℤ)) (entry exit : List ℤ) (r : Counted) : Type 0 where
   pub found : CountedAs definition exit r
   pub long : length exit ≡ length entry
 

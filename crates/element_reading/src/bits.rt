@@ -9,7 +9,7 @@ use super::elements::put;
 use text::is_white;
 ghost use Prim.Native.Nat.{_≤_};
 ghost use Rattle.table.specs.Shape.{Bits};
-ghost use Rattle.element_reading.specs.Elements.{BitIs, Takes, elementsFrom};
+ghost use Rattle.element_reading.specs.Elements.{BitIs, TakesElements, elementsFrom};
 ghost use lib.ListN.{drop, length};
 
 // A bit, or 2 for what is none: nothing is one behind the end of the word.
@@ -29,7 +29,7 @@ fn bit_of(c: u32, closed: bool) -> u32
 // The elements of a bit cell: one word, with white space around it.
 pub(crate) fn bits(s: &[u8], from: usize, source: Source, scratch: &mut [i64]) -> Taken
     requires { ⌜ from ≤ length (now s) ⌝ }
-    ensures { λ r. ⌜ Takes (elementsFrom source Bits (drop from (now (s .entry)))) (now (s .entry)) from (now (scratch .entry)) (now (scratch .exit)) r ⌝ }
+    ensures { λ r. ⌜ TakesElements (elementsFrom source Bits (drop from (now (s .entry)))) (now (s .entry)) from (now (scratch .entry)) (now (scratch .exit)) r ⌝ }
 {
     let mut i = from;
     let mut count = 0;

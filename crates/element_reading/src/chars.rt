@@ -10,7 +10,7 @@ use tabledata::is_plain;
 use tabledata::is_text;
 ghost use Prim.Native.Nat.{_≤_};
 ghost use Rattle.table.specs.Shape.{Text};
-ghost use Rattle.element_reading.specs.Elements.{Copied, Takes, elementsFrom};
+ghost use Rattle.element_reading.specs.Elements.{Copied, TakesElements, elementsFrom};
 ghost use lib.ListN.{drop, length};
 
 // Characters that stand for themselves, as long as there are some and they have room: the place after them.
@@ -38,7 +38,7 @@ fn copy_plain(s: &[u8], from: usize, scratch: &mut [i64], count: usize) -> usize
 // The elements of a char cell, from its first character on.
 pub(crate) fn chars(s: &[u8], from: usize, source: Source, scratch: &mut [i64]) -> Taken
     requires { ⌜ from ≤ length (now s) ⌝ }
-    ensures { λ r. ⌜ Takes (elementsFrom source Text (drop from (now (s .entry)))) (now (s .entry)) from (now (scratch .entry)) (now (scratch .exit)) r ⌝ }
+    ensures { λ r. ⌜ TakesElements (elementsFrom source Text (drop from (now (s .entry)))) (now (s .entry)) from (now (scratch .entry)) (now (scratch .exit)) r ⌝ }
 {
     let mut i = from;
     let mut count = 0;

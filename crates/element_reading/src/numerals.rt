@@ -21,8 +21,8 @@ ghost use Rattle.words.specs.Words.{feed, fresh};
 ghost use Rattle.table.specs.Shape.{Whole};
 ghost use Rattle.tabledata.specs.TableData.{integerWord};
 ghost use Rattle.element_reading.specs.Words.{Adds, NumeralIs, QuickWordIs, begunForm, spaceAt};
-ghost use Rattle.element_reading.specs.Characters.{EndsIs};
-ghost use Rattle.element_reading.specs.Elements.{Takes, elementsFrom};
+ghost use Rattle.element_reading.specs.Characters.{TextEnds};
+ghost use Rattle.element_reading.specs.Elements.{TakesElements, elementsFrom};
 ghost use lib.ListN.{drop, length};
 ghost use mathlib.Core.Path.{_≡_};
 
@@ -113,7 +113,7 @@ fn is_space(s: &[u8], at: usize) -> bool
 // Does a text end just here, a cell's with a bare `</TD>`? The place after it.
 fn ends_at(s: &[u8], at: usize, source: Source) -> Tag
     requires { ⌜ at ≤ length (now s) ⌝ }
-    ensures { λ r. ⌜ EndsIs source (now (s .entry)) at r ⌝ }
+    ensures { λ r. ⌜ TextEnds source (now (s .entry)) at r ⌝ }
 {
     match source {
         Source::Markup => goes_on(s, at, b"</TD>"),
@@ -157,7 +157,7 @@ pub(crate) fn integers(
     scratch: &mut [i64],
 ) -> Taken
     requires { ⌜ from ≤ length (now s) ⌝ }
-    ensures { λ r. ⌜ Takes (elementsFrom source (Whole (isSigned kind) (widthOf kind)) (drop from (now (s .entry)))) (now (s .entry)) from (now (scratch .entry)) (now (scratch .exit)) r ⌝ }
+    ensures { λ r. ⌜ TakesElements (elementsFrom source (Whole (isSigned kind) (widthOf kind)) (drop from (now (s .entry)))) (now (s .entry)) from (now (scratch .entry)) (now (scratch .exit)) r ⌝ }
 {
     let mut i = from;
     let mut count = 0;

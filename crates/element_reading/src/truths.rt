@@ -13,7 +13,7 @@ ghost use Prim.Native.Nat.{_<_, _≤_};
 ghost use Rattle.table.specs.Shape.{Truths};
 ghost use Rattle.tabledata.specs.TableData.{lower, truthWord};
 ghost use Rattle.element_reading.specs.Words.{Adds, PieceIs, spell, spelling, truthNumber};
-ghost use Rattle.element_reading.specs.Elements.{Takes, elementsFrom};
+ghost use Rattle.element_reading.specs.Elements.{TakesElements, elementsFrom};
 ghost use lib.ListN.{drop, length};
 ghost use mathlib.Core.Path.{_≡_};
 
@@ -110,7 +110,7 @@ fn add_truth(word: u64, scratch: &mut [i64], count: usize) -> Added
 // The elements of a boolean cell, word by word.
 pub(crate) fn truths(s: &[u8], from: usize, source: Source, scratch: &mut [i64]) -> Taken
     requires { ⌜ from ≤ length (now s) ⌝ }
-    ensures { λ r. ⌜ Takes (elementsFrom source Truths (drop from (now (s .entry)))) (now (s .entry)) from (now (scratch .entry)) (now (scratch .exit)) r ⌝ }
+    ensures { λ r. ⌜ TakesElements (elementsFrom source Truths (drop from (now (s .entry)))) (now (s .entry)) from (now (scratch .entry)) (now (scratch .exit)) r ⌝ }
 {
     let mut i = from;
     let mut count = 0;

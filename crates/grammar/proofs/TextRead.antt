@@ -35,7 +35,7 @@ use Rattle.table.specs.declared.Len.{Len}
 use Rattle.table.specs.declared.Len.the-variants.{Bounded, Fixed, Free}
 use Rattle.tabledata.specs.TableData.{Step, Where, allText, bitWords, cellText, characters, close-TD, consText, countFits, emit, emitted, expanded, follow, goes}
 use Rattle.tabledata.specs.TableData.{integerWord, isText, named, names, numeric, open-TD, plain, readText, reference, step, tagBegins, textCell, textElements}
-use Rattle.tabledata.specs.TableData.{truthWord}
+use Rattle.tabledata.specs.TableData.{elementsOf, truthWord}
 
 -- ---- references
 
@@ -335,18 +335,18 @@ something-left c e es =
     cond-cases (λ (x : Cell). emptyIsNull x ≡ x) (isNullList (standsForNull c) (e ∷ es)) null (shown (e ∷ es)) (λ _. refl) (λ _. refl)
 
 text-shows-read : {c : Column} {cs : List ℕ} {x : Cell} → All IsText cs → TextShows c cs x → textCell c cs ≡ good x
-unfolding textCell countFits
+unfolding textCell elementsOf countFits
 text-shows-read {c} {cs} a (shows-empty h) = rw (texts-read cs a, elements-read h) (ap good (nothing-left c))
 text-shows-read {c} {cs} a (shows-elements {e = e} {es = es} h m s) =
     rw (texts-read cs a, elements-read h, many-read m, or-true) (ap good (something-left c e es ∙ shows-read s))
 
 text-shows-is : (c : Column) (cs : List ℕ) → Holds (λ (x : Cell). All IsText cs × TextShows c cs x) (textCell c cs)
-unfolding textCell countFits
+unfolding textCell elementsOf countFits
 text-shows-is c cs =
-    holds-cond (allText cs) (λ a.
-    holds-bind (elements-are (shape (c .kind)) cs) (λ es h.
+    holds-bind {P = λ (es : List ℤ). All IsText cs × TextElements (shape (c .kind)) cs es}
+    (holds-cond (allText cs) (λ a. holds-weaken (elements-are (shape (c .kind)) cs) (λ es h. (texts-are cs a, h))) (λ _. refuses)) (λ es h.
     holds-cond (eqb (length es) 0 || (roomFits (shape (c .kind)) (roomIn (c .len) (length es)) (length es) && leb (length es) (bound (c .len))))
-    (λ m. holds (texts-are cs a, go es h m)) (λ _. refuses))) (λ _. refuses)
+    (λ m. holds (h .0, go es (h .1) m)) (λ _. refuses))
   where
     go : (es : List ℤ) → TextElements (shape (c .kind)) cs es
         → (eqb (length es) 0 || (roomFits (shape (c .kind)) (roomIn (c .len) (length es)) (length es) && leb (length es) (bound (c .len)))) ≡ true → TextShows c cs (emptyIsNull (show c es))

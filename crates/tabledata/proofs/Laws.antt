@@ -25,7 +25,7 @@ use Rattle.table.specs.declared.Column.{Column}
 use Rattle.tabledata.specs.TableData.{Step, Where, allText, bitLetter, bitText, bitWords, broken, cellText, characters, close-TD, consText, countFits}
 use Rattle.tabledata.specs.TableData.{elementBytes, elementText, emit, emitted, escaped, expanded, follow, formOf, forms, goes, integerWord, isText, joined}
 use Rattle.tabledata.specs.TableData.{lower, named, names, numeric, open-TD, plain, readText, spaced, step, tagBegins, tagged, textBytes, textCell, textElements}
-use Rattle.tabledata.specs.TableData.{truthLetter, truthText, truthWord, writeText}
+use Rattle.tabledata.specs.TableData.{elementsOf, truthLetter, truthText, truthWord, writeText}
 
 -- ---- words
 
@@ -207,7 +207,7 @@ nil-elements (Whole g v) = refl
 nil-elements Text = refl
 
 pub text-cell-back : (c : Column) (x : Cell) → Fits c x → Holds (λ (b : List ℕ). (rest : List ℕ) → readText c (b ++ rest) ≡ good (x, rest)) (writeText c x)
-unfolding writeText readText cellText after ends skipWhite isWhite open-TD close-TD tagged textCell allText countFits show emptyIsNull
+unfolding writeText readText cellText after ends skipWhite isWhite open-TD close-TD tagged textCell elementsOf allText countFits show emptyIsNull
 text-cell-back c null f = holds {a = bytes "<TD/>"} (λ rest. rw (nil-elements, nil-not-null))
 text-cell-back c (shown []) f = refuses
 text-cell-back c (shown (e ∷ es)) (fits-shown x n) =
@@ -343,11 +343,11 @@ cell-fits c (e ∷ es) a h =
     }))
 
 pub text-fits : (c : Column) (s : List ℕ) → Holds (λ (p : Cell × List ℕ). TextFits c (p .0)) (readText c s)
-unfolding readText textCell
+unfolding readText textCell elementsOf
 text-fits c s =
     holds-bind (holds-any (cellText s)) (λ p _.
-    holds-bind (holds-cond (allText (p .0)) (λ t. holds-bind (elements-are (shape (c .kind)) (p .0) t)
-    (λ es a. holds-cond (countFits c (length es)) (λ e. holds (cell-fits c es a e)) (λ _. refuses))) (λ _. refuses))
+    holds-bind (holds-bind (holds-cond (allText (p .0)) (elements-are (shape (c .kind)) (p .0)) (λ _. refuses))
+    (λ es a. holds-cond (countFits c (length es)) (λ e. holds (cell-fits c es a e)) (λ _. refuses)))
     (λ x h. holds h))
 
 -- ---- the numbers of its refusals
@@ -402,11 +402,11 @@ elements-fails (Whole g v) cs = fails-every (integerWord g (suc (last v))) (λ w
 elements-fails Text cs = gives
 
 pub text-fails : (c : Column) (s : List ℕ) → Fails (Numbered 8 13) (readText c s)
-unfolding readText textCell
+unfolding readText textCell elementsOf
 text-fails c s =
     fails-bind (cell-fails s) (λ p.
-    fails-bind (fails-cond (allText (p .0)) (fails-bind (elements-fails (shape (c .kind)) (p .0)) (λ es. fails-cond (countFits c (length es)) gives (fails (lit≤ tt, lit≤ tt))))
-    (fails eleven)) (λ x. gives))
+    fails-bind (fails-bind (fails-cond (allText (p .0)) (elements-fails (shape (c .kind)) (p .0)) (fails eleven))
+    (λ es. fails-cond (countFits c (length es)) gives (fails (lit≤ tt, lit≤ tt)))) (λ x. gives))
 
 form-fails : (e : ℤ) → Fails (Numbered 14 16) (formOf e)
 unfolding formOf

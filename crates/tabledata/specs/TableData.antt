@@ -139,16 +139,17 @@ textElements Bits cs = bitWords (words cs)
 textElements (Whole g v) cs = every (integerWord g (suc (last v))) (words cs)
 textElements Text cs = good (map pos cs)
 
+-- the elements of a text whose characters a cell may have; 11 for another
+unfoldable pub elementsOf : Shape → List ℕ → Result ℕ (List ℤ)
+elementsOf k cs = cond (allText cs) (textElements k cs) (bad 11)
+
 -- 12: "text cell with elements, but not n of them in a fixed column, or over the bound in another; fixed char may be shorter, not longer"
 unfoldable pub countFits : Column → ℕ → Bool
 countFits c m = eqb m 0 || (roomFits (shape (c .kind)) (roomIn (c .len) m) m && leb m (bound (c .len)))
 
 -- "In TABLEDATA and BINARY an empty cell is null: no characters are left (after trimming, but for char)"
 unfoldable pub textCell : Column → List ℕ → Result ℕ Cell
-textCell c cs =
-    cond (allText cs)
-    (textElements (shape (c .kind)) cs >>= λ es. cond (countFits c (length es)) (good (emptyIsNull (show c es))) (bad 12))
-    (bad 11)
+textCell c cs = elementsOf (shape (c .kind)) cs >>= λ es. cond (countFits c (length es)) (good (emptyIsNull (show c es))) (bad 12)
 
 -- "a text cell 10, 11, 12"
 unfoldable pub readText : Column → List ℕ → Result ℕ (Cell × List ℕ)

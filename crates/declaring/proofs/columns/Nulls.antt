@@ -10,7 +10,7 @@ use lib.IntN.{ℤ}
 use lib.ListN.{getD, length}
 use Rattle.declaring.specs.Readers.{nullOfScalar, oneNull}
 use Rattle.element_reading.proofs.Integers.{integers-text}
-use Rattle.element_reading.specs.Elements.{Counts, Stored, elementsOf}
+use Rattle.element_reading.specs.Elements.{CountsElements, Stored}
 use Rattle.element_reading.specs.declared.elements.Counted.the-variants.{All}
 use Rattle.element_reading.specs.declared.elements.Counted.{Counted}
 use Rattle.fields.specs.Fields.{nullOf, nullValue}
@@ -20,7 +20,7 @@ use Rattle.table.specs.Result.{Result, _>>=_, bad, every, good, refusedAs}
 use Rattle.table.specs.Shape.{Bits, Shape, Text, Truths, Whole, Width, last}
 use Rattle.table.specs.declared.Null.the-variants.{Declared, Undeclared}
 use Rattle.table.specs.declared.Null.{Null}
-use Rattle.tabledata.specs.TableData.{integerWord, textElements}
+use Rattle.tabledata.specs.TableData.{elementsOf, integerWord, textElements}
 
 -- ---- the words of the definition, as elements
 
@@ -63,14 +63,14 @@ not-one [] n = refl
 not-one (z ∷ []) n = absurd (n refl)
 not-one (z ∷ y ∷ es) n = refl
 
-module _ {r : Result ℕ (List ℤ)} {count : ℕ} {entry exit : List ℤ} (c : Counts r entry exit (All count)) where
+module _ {r : Result ℕ (List ℤ)} {count : ℕ} {entry exit : List ℤ} (c : CountsElements r entry exit (All count)) where
   pub counted-one : (d : ℤ) → length entry ≡ 1 → count ≡ 1 → oneNull r ≡ good (Declared (getD exit 0 d))
   counted-one d l e = ap oneNull (c .found .1) ∙ one-held (c .found .0) exit d (c .long ∙ l) (subst (λ (n : ℕ). Stored (c .found .0) n exit) e (c .found .2))
 
   pub counted-other : (count ≡ 1 → ⊥) → oneNull r ≡ bad 4
   counted-other n = ap oneNull (c .found .1) ∙ not-one (c .found .0) (λ e. n (c .found .2 .all ∙ e))
 
-pub counted-none : {r : Result ℕ (List ℤ)} {n : ℕ} {entry exit : List ℤ} → Counts r entry exit (Counted.Refused n) → oneNull r ≡ bad 4
+pub counted-none : {r : Result ℕ (List ℤ)} {n : ℕ} {entry exit : List ℤ} → CountsElements r entry exit (Counted.Refused n) → oneNull r ≡ bad 4
 unfolding oneNull
 counted-none c = rw (c .found)
 

@@ -21,7 +21,7 @@ use Rattle.element_reading.proofs.Words.{every-append}
 use Rattle.element_reading.proofs.characters.Passing.{no-text, passed-code, passed-then}
 use Rattle.element_reading.proofs.elements.Laws.{ReadTo, read-more, read-no-text, spoilt}
 use Rattle.element_reading.specs.Characters.{ItemIs, charactersOf, spoiledNumber}
-use Rattle.element_reading.specs.Elements.{BitIs, Takes, bitAs, elementsFrom}
+use Rattle.element_reading.specs.Elements.{BitIs, TakesElements, bitAs, elementsFrom}
 use Rattle.element_reading.specs.declared.characters.Item.the-variants.{Code}
 use Rattle.element_reading.specs.declared.elements.Taken.{Taken}
 use Rattle.element_reading.specs.declared.characters.Source.{Source}
@@ -178,10 +178,10 @@ module _ {source : Source} {s : List ℕ} {from i n : ℕ} {closed : Bool} {entr
   }
 
   pub bits-spoilt : {x m : ℕ} → isWhite c ≡ false → BitIs closed c x → x ≡ 2 → m ≡ spoiledNumber (charactersOf source (drop next s))
-      → Takes (elementsFrom source Bits (drop from s)) s from entry l (Taken.Refused m)
+      → TakesElements (elementsFrom source Bits (drop from s)) s from entry l (Taken.Refused m)
   bits-spoilt {x} {m} h b k e = go (isText c) refl
     where
-      go : (b : Bool) → isText c ≡ b → Takes (elementsFrom source Bits (drop from s)) s from entry l (Taken.Refused m)
+      go : (b : Bool) → isText c ≡ b → TakesElements (elementsFrom source Bits (drop from s)) s from entry l (Taken.Refused m)
       go true q = record {
         found =
             spoilt Bits {s = s} {from = from} {i = next} (passed-then (r .passed) (passed-code {s = s} {i = i} {j = next} {c = c} (t .found) q))

@@ -11,7 +11,7 @@ use Rattle.table.proofs.Places.{done, next1}
 use Rattle.table.specs.Bytes.{after, bytes, ends, isWhite, skipWhite, tag}
 use Rattle.table.specs.Result.{Result, bad, good}
 use Rattle.tabledata.specs.TableData.{Where, characters, close-TD, consText, emitted, expanded, follow, plain, reference, step}
-use Rattle.element_reading.specs.Characters.{EndsIs, ItemIs, NameIs, charactersOf, ended, referred, spoiledNumber}
+use Rattle.element_reading.specs.Characters.{TextEnds, ItemIs, NameIs, charactersOf, ended, referred, spoiledNumber}
 use Rattle.element_reading.specs.declared.characters.Item.the-variants.{Code, End}
 use Rattle.element_reading.specs.declared.characters.Item.{Item}
 use Rattle.element_reading.specs.declared.characters.Source.the-variants.{Markup, Plain}
@@ -33,7 +33,7 @@ quick-end {s} {i} {next} t = record {
   within = t .within;
 }
 
-pub ends-bare : {s : List ℕ} {i : ℕ} (r : Tag) → TagIs (λ n. after n (bytes "</TD>") (drop i s)) s i r → EndsIs Markup s i r
+pub ends-bare : {s : List ℕ} {i : ℕ} (r : Tag) → TagIs (λ n. after n (bytes "</TD>") (drop i s)) s i r → TextEnds Markup s i r
 ends-bare (At next) t = record { found = quick-end t }
 ends-bare Broken t = record { found = tt }
 

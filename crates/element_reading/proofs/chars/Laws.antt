@@ -31,7 +31,8 @@ chars-more w v es e = rw (e, map-append w v)
 pub stored-char : (es : List ℤ) (w : List ℕ) (c n : ℕ) (l : List ℤ) → Stored (es ++ map pos w) n l → Stored (es ++ map pos (w ++ (c ∷ []))) (n + 1) (set l n (pos c))
 stored-char es w c n l p = rw (map-append w (c ∷ []), ← append-assoc) (stored-more (es ++ map pos w) n l (pos c) p)
 
-pub chars-copied : {source : Source} {s : List ℕ} {from i n j : ℕ} {entry l m : List ℤ} → ReadTo CharsAre source s from i n entry l → Copied s i n l m j → ReadTo CharsAre source s from j (n + (j - i)) entry m
+pub chars-copied : {source : Source} {s : List ℕ} {from i n j : ℕ} {entry l m : List ℤ}
+    → ReadTo CharsAre source s from i n entry l → Copied s i n l m j → ReadTo CharsAre source s from j (n + (j - i)) entry m
 chars-copied r k = record {
   w = _;
   es = _;

@@ -15,10 +15,10 @@ use borrow.Author.Tests.{ltb-false, ltb-true}
 use Rattle.table.proofs.Laws.{cond-cases}
 use Rattle.table.specs.Result.{Result, bad, good}
 use Rattle.table.specs.Shape.{Shape}
-use Rattle.tabledata.specs.TableData.{allText, isText, textElements}
+use Rattle.tabledata.specs.TableData.{allText, elementsOf, isText, textElements}
 use Rattle.element_reading.proofs.characters.Passing.{onward-bad, onward-broken, onward-end, passed-code, passed-none, passed-then, text-not-all}
 use Rattle.element_reading.specs.Characters.{ItemIs, charactersOf, spoiledNumber}
-use Rattle.element_reading.specs.Elements.{Passed, Stored, Takes, elementsFrom, elementsOf, onward}
+use Rattle.element_reading.specs.Elements.{Passed, Stored, TakesElements, elementsFrom, onward}
 use Rattle.element_reading.specs.Words.{NoTextAt}
 use Rattle.element_reading.specs.declared.characters.Item.the-variants.{Code, End}
 use Rattle.element_reading.specs.declared.elements.Taken.the-variants.{Held}
@@ -93,11 +93,11 @@ module _ {As : List ℕ → List ℤ → Type 0} {source : Source} {s : List ℕ
   unfolding elementsFrom
   read-on k = r .passed .passes (elementsOf k)
 
-  pub read-broken : (k : Shape) → charactersOf source (drop i s) ≡ bad 10 → Takes (elementsFrom source k (drop from s)) s from entry l (Taken.Refused 10)
+  pub read-broken : (k : Shape) → charactersOf source (drop i s) ≡ bad 10 → TakesElements (elementsFrom source k (drop from s)) s from entry l (Taken.Refused 10)
   read-broken k e = record { found = read-on k ∙ ap (onward (λ cs. elementsOf k (r .w ++ cs))) e ∙ onward-broken _; long = r .long }
 
   pub read-end : (k : Shape) {next : ℕ} → ItemIs source (charactersOf source (drop i s)) s i (End next) → textElements k (r .w) ≡ good (r .es)
-      → Takes (elementsFrom source k (drop from s)) s from entry l (Held n next)
+      → TakesElements (elementsFrom source k (drop from s)) s from entry l (Held n next)
   unfolding elementsOf
   read-end k {next} t e = record {
     found = (
@@ -113,7 +113,7 @@ module _ {As : List ℕ → List ℤ → Type 0} {source : Source} {s : List ℕ
 
   -- a character that no cell may have
   pub read-no-text : (k : Shape) {next m : ℕ} → NoTextAt source s i next → m ≡ spoiledNumber (charactersOf source (drop next s))
-      → Takes (elementsFrom source k (drop from s)) s from entry l (Taken.Refused m)
+      → TakesElements (elementsFrom source k (drop from s)) s from entry l (Taken.Refused m)
   unfolding elementsOf
   read-no-text k t e = record {
     found = read-on k ∙ t .refuses (λ cs. elementsOf k (r .w ++ cs)) (λ cs h. rw (text-not-all (r .w) cs h)) ∙ ap bad (sym e);

@@ -3,7 +3,8 @@ use Prim.Native.Nat.{ℕ}
 use mathlib.Core.List.{List, []}
 use mathlib.Core.Path.{_∙_, _≡_, ap, refl, sym}
 use lib.IntN.{ℤ}
-use Rattle.element_reading.specs.Elements.{Counts, Takes, elementsFrom, elementsOf, onward}
+use Rattle.tabledata.specs.TableData.{elementsOf}
+use Rattle.element_reading.specs.Elements.{CountsElements, TakesElements, elementsFrom, onward}
 use Rattle.element_reading.specs.declared.characters.Source.the-variants.{Plain}
 use Rattle.element_reading.specs.declared.elements.Counted.the-variants.{All}
 use Rattle.element_reading.specs.declared.elements.Counted.{Counted}
@@ -32,11 +33,11 @@ part-means : (k : Shape) (part : List ℕ) {r : Result ℕ (List ℤ × List ℕ
 part-means k part e = firsts-whole (elementsOf k part) ∙ ap firsts (sym (part-is k part) ∙ e)
 
 module _ (k : Shape) {part : List ℕ} {place : ℕ} {entry exit : List ℤ} where
-  pub part-counted : {count next : ℕ} → Takes (elementsFrom Plain k part) part place entry exit (Held count next) → Counts (elementsOf k part) entry exit (All count)
+  pub part-counted : {count next : ℕ} → TakesElements (elementsFrom Plain k part) part place entry exit (Held count next) → CountsElements (elementsOf k part) entry exit (All count)
   part-counted t = record {
     found = (t .found .0, part-means k part (t .found .1), t .found .2);
     long = t .long;
   }
 
-  pub part-refused : {n : ℕ} → Takes (elementsFrom Plain k part) part place entry exit (Taken.Refused n) → Counts (elementsOf k part) entry exit (Counted.Refused n)
+  pub part-refused : {n : ℕ} → TakesElements (elementsFrom Plain k part) part place entry exit (Taken.Refused n) → CountsElements (elementsOf k part) entry exit (Counted.Refused n)
   part-refused t = record { found = part-means k part (t .found); long = t .long }

@@ -25,7 +25,7 @@ use Rattle.element_reading.proofs.Words.{added-word}
 use Rattle.element_reading.proofs.characters.Laws.{itself}
 use Rattle.element_reading.proofs.characters.Passing.{WordTo, passed-none, passed-plain, passed-then, word-cuts, word-ends}
 use Rattle.element_reading.proofs.elements.Laws.{put-more}
-use Rattle.element_reading.specs.Characters.{EndsIs, ItemIs, charactersOf}
+use Rattle.element_reading.specs.Characters.{TextEnds, ItemIs, charactersOf}
 use Rattle.element_reading.specs.Elements.{Passed}
 use Rattle.element_reading.specs.Words.{Adds, CutAt, LastAt, WordOf, begunForm, spaceAt}
 use Rattle.element_reading.specs.declared.characters.Item.the-variants.{Code}
@@ -162,7 +162,7 @@ module _ {k : Integer} {source : Source} {s : List ℕ} {from end : ℕ} {z : �
       } in
       word-cuts quick-to t (ap isText e) (ap isWhite e)
 
-  pub quick-last : {next : ℕ} → EndsIs source s end (At next) → LastAt (WordOf k z) source s from next
+  pub quick-last : {next : ℕ} → TextEnds source s end (At next) → LastAt (WordOf k z) source s from next
   quick-last t = word-ends quick-to (t .found)
 
 -- a word that was read at once adds its integer

@@ -19,10 +19,10 @@ use Rattle.table.specs.declared.Column.{Column}
 use Rattle.table.specs.declared.Found.the-variants.{Refused, Shown}
 use Rattle.table.specs.declared.Found.{Found}
 use Rattle.tabledata.proofs.Laws.{nil-elements}
-use Rattle.tabledata.specs.TableData.{allText, characters, countFits, plain, readText, textCell, textElements}
+use Rattle.tabledata.specs.TableData.{allText, characters, countFits, elementsOf, plain, readText, textCell, textElements}
 use Rattle.tabledata_reading.specs.Cells.{CellShows, FoundCount, FoundNext, roomAnd, shownIn}
 use Rattle.tabledata_reading.specs.Openings.{OpeningIs}
-use Rattle.element_reading.specs.Elements.{Stored, Takes, elementsFrom, elementsOf, onward}
+use Rattle.element_reading.specs.Elements.{Stored, TakesElements, elementsFrom, onward}
 use Rattle.element_reading.specs.declared.characters.Source.the-variants.{Markup}
 use Rattle.tabledata_reading.specs.declared.openings.Opening.the-variants.{Content, Empty}
 use Rattle.tabledata_reading.specs.declared.openings.Opening.{Opening}
@@ -42,16 +42,14 @@ unfolding shownIn
 show-rest c es rest true e = rw e
 show-rest c es rest false e = rw e
 
-show-bind : (c : Column) (t : Bool) (q : Result ℕ (List ℤ)) (rest : List ℕ)
-    → (cond {A = Result ℕ Cell} t (q >>= λ es. cond (countFits c (length es)) (good (emptyIsNull (show c es))) (bad 12)) (bad 11) >>= withRest rest)
-    ≡ (cond t q (bad 11) >>= withRest rest >>= showing c)
-show-bind c true (good es) rest = show-rest c es rest (countFits c (length es)) refl
-show-bind c true (bad n) rest = refl
-show-bind c false q rest = refl
+show-bind : (c : Column) (q : Result ℕ (List ℤ)) (rest : List ℕ)
+    → (q >>= (λ es. cond {A = Result ℕ Cell} (countFits c (length es)) (good (emptyIsNull (show c es))) (bad 12)) >>= withRest rest) ≡ (q >>= withRest rest >>= showing c)
+show-bind c (good es) rest = show-rest c es rest (countFits c (length es)) refl
+show-bind c (bad n) rest = refl
 
 text-go : (c : Column) (r : Result ℕ (List ℕ × List ℕ)) → (r >>= λ p. textCell c (p .0) >>= withRest (p .1)) ≡ (onward (elementsOf (shape (c .kind))) r >>= showing c)
-unfolding textCell onward elementsOf
-text-go c (good p) = show-bind c (allText (p .0)) (textElements (shape (c .kind)) (p .0)) (p .1)
+unfolding textCell onward
+text-go c (good p) = show-bind c (elementsOf (shape (c .kind)) (p .0)) (p .1)
 text-go c (bad n) = refl
 
 pub room-few : (c : Column) (n : ℕ) → roomAnd (c .kind) (c .len) n ≡ true → n ≤ bound (c .len)
@@ -108,7 +106,7 @@ module _ (c : Column) {s : List ℕ} {place : ℕ} {entry : List ℤ} where
   text-broken o = record { found = rw (o .found); within = tt; long = refl }
 
   pub text-empty : {next : ℕ} → OpeningIs s place (Empty next) → Reads (readText c (drop place s)) s place entry entry (Found.Null next)
-  unfolding readText textCell allText countFits show emptyIsNull
+  unfolding readText textCell elementsOf allText countFits show emptyIsNull
   text-empty o = record { found = rw (o .found, nil-elements, nil-not-null); within = o .within; long = refl }
 
 module _ (c : Column) {s : List ℕ} {place from : ℕ} (o : OpeningIs s place (Content from)) where
@@ -116,11 +114,11 @@ module _ (c : Column) {s : List ℕ} {place from : ℕ} (o : OpeningIs s place (
   unfolding readText elementsFrom
   text-content e = rw (o .found) (text-go c (characters plain (drop from s)) ∙ ap (λ (r : Result ℕ (List ℤ × List ℕ)). r >>= showing c) e)
 
-  pub text-refused : {n : ℕ} {entry exit : List ℤ} → Takes (elementsFrom Markup (shape (c .kind)) (drop from s)) s from entry exit (Taken.Refused n)
+  pub text-refused : {n : ℕ} {entry exit : List ℤ} → TakesElements (elementsFrom Markup (shape (c .kind)) (drop from s)) s from entry exit (Taken.Refused n)
       → Reads (readText c (drop place s)) s place entry exit (Refused n)
   text-refused t = record { found = text-content (t .found); within = tt; long = t .long }
 
-  pub text-shows : {n next : ℕ} {entry exit : List ℤ} (r : Found) → Takes (elementsFrom Markup (shape (c .kind)) (drop from s)) s from entry exit (Held n next) → CellShows c n next exit r
+  pub text-shows : {n next : ℕ} {entry exit : List ℤ} (r : Found) → TakesElements (elementsFrom Markup (shape (c .kind)) (drop from s)) s from entry exit (Held n next) → CellShows c n next exit r
       → Reads (readText c (drop place s)) s place entry exit r
   text-shows {next = next} {exit = exit} r t f = record { found = text-content (t .found .1) ∙ f .found s (t .found .0) (t .found .2); within = go r (f .few) (f .place); long = t .long }
     where

@@ -27,7 +27,8 @@ abbrev μ-loop : tie.MeasureT-loop
 -- the next character
 item : (c : tie.After-known-told2 Inv-loop μ-loop) →
     let at-loop = c .before .before .before .before in let at-start = at-loop .before .before .before in
-    let s = now (at-start .args .s) in let source = at-start .args .source in let i = at-loop .loop .i in ItemIs source (charactersOf source (drop i s)) s i (Code (c .before .c .given .0 .0) (c .before .c .given .0 .1 .0))
+    let s = now (at-start .args .s) in let source = at-start .args .source in let i = at-loop .loop .i in
+    ItemIs source (charactersOf source (drop i s)) s i (Code (c .before .c .given .0 .0) (c .before .c .given .0 .1 .0))
 item c = subst (ItemIs _ _ _ _) (c .before .c .given .1) (c .before .before .before .character-at .ensures)
 
 is-text : (c : tie.Else1 Inv-loop μ-loop) → isText (c .before .before .before .c .given .0 .0) ≡ true

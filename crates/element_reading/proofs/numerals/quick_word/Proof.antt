@@ -8,7 +8,7 @@ use denote.Ref.{now}
 use mir.Syntax.{w64}
 use mir.Val.{ofZ, toZ}
 use Rattle.element_reading.proofs.numerals.Laws.{quick-cut, quick-last}
-use Rattle.element_reading.specs.Characters.{EndsIs}
+use Rattle.element_reading.specs.Characters.{TextEnds}
 use Rattle.element_reading.specs.Words.{QuickWordIs}
 use Rattle.element_reading.specs.declared.numerals.QuickWord.{QuickWord}
 use Rattle.words.specs.Contracts.{QuickAt, QuickIs}
@@ -44,7 +44,7 @@ returns-5 c =
     let at-ends-at = c .before .before .before in let at-known = at-ends-at .before .before .before in
     let at-start = at-known .before .before .before .before .before .before in
     let a = at-start .args in
-    let t = subst (EndsIs _ _ _) (c .before .next .given .1) (at-ends-at .ends-at .ensures) in
+    let t = subst (TextEnds _ _ _) (c .before .next .given .1) (at-ends-at .ends-at .ensures) in
     subst (λ (z : ℤ). QuickWordIs (a .kind) (a .source) (now (a .s)) (a .from) (QuickWord.Last z (c .before .next .given .0 .0))) (integer at-known)
     (record { found = quick-last (digits at-known) t })
 

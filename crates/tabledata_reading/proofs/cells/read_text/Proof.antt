@@ -5,7 +5,7 @@ use borrow.Author.Needs.{needs}
 use denote.Ref.{now}
 use Rattle.tabledata_reading.proofs.cells.Laws.{text-broken, text-empty, text-refused, text-shows}
 use Rattle.tabledata_reading.specs.Openings.{OpeningIs}
-use Rattle.element_reading.specs.Elements.{Takes}
+use Rattle.element_reading.specs.Elements.{TakesElements}
 use Rattle.tabledata_reading.specs.declared.openings.Opening.the-variants.{Content}
 use Rattle.tabledata_reading.proofs.cells.read_text.Statement.{statement}
 use Rattle.tabledata_reading.proofs.cells.read_text.Tie as tie
@@ -36,7 +36,7 @@ same-length c = c .before .before .before .before .read-elements .ensures .long
 returns-3 : tie.Need-returns-3
 returns-3 c =
     let at-read-elements = c .before .before .before .before in let at-read-elements-lent = at-read-elements .before in
-    text-refused _ (opening at-read-elements-lent) (subst (Takes _ _ _ _ _) (c .before .n .given .1) (at-read-elements .read-elements .ensures))
+    text-refused _ (opening at-read-elements-lent) (subst (TakesElements _ _ _ _ _) (c .before .n .given .1) (at-read-elements .read-elements .ensures))
 
 same-length-2 : tie.Need-same-length-2
 same-length-2 c = c .before .before .before .before .before .before .read-elements .ensures .long
@@ -44,7 +44,7 @@ same-length-2 c = c .before .before .before .before .before .before .read-elemen
 returns-4 : tie.Need-returns-4
 returns-4 c =
     let at-count = c .before .before .before in let at-read-elements = at-count .before .before .before in let at-read-elements-lent = at-read-elements .before in
-    text-shows _ (opening at-read-elements-lent) _ (subst (Takes _ _ _ _ _) (at-count .count .given .1) (at-read-elements .read-elements .ensures)) (c .cell-shows .ensures)
+    text-shows _ (opening at-read-elements-lent) _ (subst (TakesElements _ _ _ _ _) (at-count .count .given .1) (at-read-elements .read-elements .ensures)) (c .cell-shows .ensures)
 
 pub read-text-spec : {M : Type 1} → statement M
 read-text-spec =
