@@ -5,10 +5,11 @@ use native.Mathlib.Omega.{arith}
 use mathlib.Core.Bool.{Bool, false, false≢true, true}
 use mathlib.Core.List.{List, [], _++_, _∷_, append-nil, map}
 use mathlib.Core.Path.{_∙_, _≡_, ap, refl, sym}
-use lib.IntN.{negsuc, pos, ℤ}
+use lib.IntN.{natAbs, negsuc, pos, ℤ}
 use lib.ListN.{drop, getD, length, length-append, length-map, set, take}
 use lib.Seq.{getD-take, length-take-le}
-use borrow.Author.Tests.{eq-eqb, ne-eqb}
+use lib.Signed.{leZ, ltZ}
+use borrow.Author.Tests.{eq-eqb, leb-false, leb-true, ltb-true, ne-eqb}
 use mir.Syntax.{w64}
 use mir.Val.{ofZ, toZ}
 use Rattle.number.specs.Number.{shortest}
@@ -196,12 +197,22 @@ pub form-none : (c : ℕ) → isText c ≡ false → formOf (pos c) ≡ bad 16
 unfolding formOf
 form-none c e = rw e
 
-pub form-high : (x : ℕ) → 128 ≤ x → formOf (pos x) ≡ formOf (pos 128)
+form-high : (x : ℕ) → 128 ≤ x → formOf (pos x) ≡ formOf (pos 128)
 form-high x h = form-none x (text-not x (λ e. omega arith) (λ e. omega arith) (λ e. omega arith) (λ e. omega arith)) ∙ sym (form-none 128 (unfold isText between in refl))
 
-pub form-negative : (z : ℤ) (n : ℕ) → z ≡ negsuc n → formOf z ≡ formOf (pos 128)
+pub form-over : (z : ℤ) → leZ (pos 128) z ≡ true → formOf z ≡ formOf (pos 128)
+form-over (pos n) e = form-high n (leb-true 128 n e)
+form-over (negsuc n) e = absurd (false≢true e)
+
+pub form-negative : (z : ℤ) → ltZ z (pos 0) ≡ true → formOf z ≡ formOf (pos 128)
 unfolding formOf isText between
-form-negative z n e = rw e
+form-negative (pos n) e = absurd (omega (arith, ltb-true n 0 e))
+form-negative (negsuc n) e = refl
+
+-- a number between the two is a code
+pub code-is : (z : ℤ) → ltZ z (pos 0) ≡ false → leZ (pos 128) z ≡ false → (z ≡ pos (natAbs z)) × (natAbs z < 128)
+code-is (pos n) e h = (refl, leb-false 128 n h)
+code-is (negsuc n) e h = absurd (false≢true (sym e))
 
 pub form-text : (c : ℕ) → isText c ≡ true → formOf (pos c) ≡ good (escaped c)
 unfolding formOf

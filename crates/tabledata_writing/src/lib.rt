@@ -22,16 +22,16 @@ ghost use mathlib.Core.Path.{_≡_};
 // ---- a cell is measured
 
 // The code of a char, 128 for what is none.
-fn small_code(x: u64) -> u32
-    ensures { λ r. ⌜ (formOf (pos x) ≡ formOf (pos r)) × (r ≤ 128) ⌝ }
-{
-    if x < 128 { x as u32 } else { 128 }
-}
-
 fn code_of(z: i64) -> u32
     ensures { λ r. ⌜ (formOf z ≡ formOf (pos r)) × (r ≤ 128) ⌝ }
 {
-    if 0 <= z { small_code(z as u64) } else { 128 }
+    if z < 0 {
+        return 128;
+    }
+    if 128 <= z {
+        return 128;
+    }
+    z as u32
 }
 
 // How many bytes a char takes, 0 where it has no form.

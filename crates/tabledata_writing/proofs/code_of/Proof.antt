@@ -1,25 +1,35 @@
--- `tabledata_writing::code_of` meets its contract: a code is not negative.
-use mathlib.Core.Path.{_∙_, ap, sym}
+-- `tabledata_writing::code_of` meets its contract: what is below 0 or beyond 127 has no form, whichever it is.
+use Prim.Native.Nat.{_<_}
+use mathlib.Core.Path.{_∙_, _≡_, ap, sym}
+use native.Mathlib.Omega.{arith}
 use lib.Dec.{lit≤}
-use lib.IntN.{natAbs, pos, ℤ}
-use borrow.Author.Needs.{needs}
+use lib.IntN.{natAbs, pos}
+use mir.Facts.{toZ-ofZ}
 use mir.Syntax.{w64}
-use Rattle.number.proofs.Signed.{down, up, up-cast, up-held}
-use Rattle.tabledata_writing.proofs.Writing.{form-negative}
+use mir.Val.{ofZ, toZ}
+use Rattle.tabledata_writing.proofs.Writing.{code-is, form-negative, form-over}
 use Rattle.tabledata.specs.TableData.{formOf}
 use Rattle.tabledata_writing.proofs.code_of.Statement.{statement}
 use Rattle.tabledata_writing.proofs.code_of.Tie as tie
 
-cast-small-code : tie.Need-cast-small-code
-cast-small-code c = up-cast w64 ((c .before) .args .z) ((c .before) .fits .z) ((c .if1) .taken)
+-- the number, as the tests see it
+held : (c : tie.Start) → toZ w64 (ofZ w64 (c .args .z)) ≡ c .args .z
+held c = toZ-ofZ (c .fits .z)
 
 returns : tie.Need-returns
-returns c =
-    let s = c .before .before in let z = s .args .z in let f = s .fits .z in let e = c .before .if1 .taken in
-    (ap formOf (up w64 z f e) ∙ ap (λ (y : ℤ). formOf (pos (natAbs y))) (sym (up-held w64 z f e)) ∙ c .small-code .ensures .0, c .small-code .ensures .1)
+returns c = (ap formOf (sym (held (c .before))) ∙ form-negative _ (c .if1 .taken), lit≤ tt)
 
 returns-2 : tie.Need-returns-2
-returns-2 c = (form-negative ((c .before) .args .z) _ (down w64 ((c .before) .args .z) ((c .before) .fits .z) ((c .if1) .left)), lit≤ tt)
+returns-2 c = (ap formOf (sym (held (c .before .before))) ∙ form-over _ (c .if2 .taken), lit≤ tt)
+
+small : (c : tie.Else2) → let z = toZ w64 (ofZ w64 (c .before .before .args .z)) in (z ≡ pos (natAbs z)) × (natAbs z < 128)
+small c = code-is _ (c .before .if1 .left) (c .if2 .left)
+
+cast-result : tie.Need-cast-result
+cast-result c = (rw (small c .0) tt, record { fits = omega (arith, small c .1) })
+
+returns-3 : tie.Need-returns-3
+returns-3 c = (ap formOf (sym (held (c .before .before)) ∙ small c .0), omega (arith, small c .1))
 
 pub code-of-spec : {M : Type 1} → statement M
-code-of-spec = tie.close (tie.spec cast-small-code (λ c κs. search needs) returns returns-2)
+code-of-spec = tie.close (tie.spec returns returns-2 cast-result returns-3)
