@@ -5,7 +5,6 @@ use Rattle.binary.proofs.Laws.{length-groups, length-pack, scalar-room}
 use Rattle.binary.proofs.Loops.{no-byte}
 use Rattle.binary.specs.Binary.{bitBytes, bitOf, bytesOf, canBeEmpty, contentBytes, countBytes, elementsBytes, groups, nullForm, number, pack, packed, truthByte, writeBinary, writeBinary2, zeros}
 use Rattle.number.proofs.Laws.{length-to, low-pattern, of-append, pattern-lt, pow-pos}
-use Rattle.number.specs.Contracts.{size}
 use Rattle.number.specs.Number.{ofDigits, pattern, toDigits}
 use Rattle.table.proofs.Laws.{last-le}
 use Rattle.table.specs.Cell.{bound, isOne, nullElement, nullOfKind, roomIn, shown}

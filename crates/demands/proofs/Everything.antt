@@ -28,5 +28,19 @@ use Rattle.tabledata.specs.TableData.{emitted, escaped, expanded, follow, formO
 use Rattle.tabledata.specs.TableData.{elementsOf, spaced, step, tagged, textCell, textElements, truthLetter, truthText, truthWord, writeText}
 
 unfoldable pub everything : ℕ
-unfolding between isWhite same skipWhite after ends tag attach pieces notEmpty words roomFits standsForNull nullElement sameInteger isNullList show emptyIsNull isNull below isElement at written rowsDone answerOf bufferOf ending mostInput mostDeclarations every half inRange ofDigits toDigits ofPattern pattern digit hexadigit numeral sized withSign ranged decimal hexadecimal readInteger digits shortest sextet letter isPad dense oneByte twoBytes threeBytes lastFour fours decode encode inRoom sizedInput stepOutcome decoding encoding decodeCall encodeCall truth truthByte bitOf element number bitBytes bitsOf packed pack allZero unpack readFlags contentBytes numbers beforeNul numbersIn content firstBytes atMost counted countIn shows readBinary2 readBinary countBytes groups bytesOf elementsBytes zeros writeBinary2 canBeEmpty nullForm writeBinary open-TD close-TD open-TR close-TR names named numeric expanded emitted step consText follow characters cellText isText allText lower truthLetter truthWord bitLetter bitWords integerWord textElements countFits elementsOf textCell readText escaped formOf forms truthText bitText spaced elementText tagged writeText isNameByte spanName someName spanValue readValue readAttribute nameComes attributeComes attributesF attributes valuesOf atMostOne exactlyOne readValues begins fieldBody readField kinds kindOf lengthOf beforeStar boundedLen lenBefore lenOf nullValue nullOf judge fieldsThen fieldsF declare front underColumns converting convert readCell flag flagsLeft readCells isSet readStart readEnd readRow isEmpty atEnd rowThen sequenceF sequence read writeCell writeCells writeStart writeEnd writeRow fitted wroteThen write run cases sameAnswer cameOut passes allPass output throughNul contentShows cellsShow rowShows streamShows marksOf showsAt count upTo rowAt lines inOrder rowLength rowLengths sum elementBytes
+unfolding
+    between isWhite same skipWhite after ends tag attach pieces notEmpty words roomFits standsForNull nullElement sameInteger isNullList show emptyIsNull
+    isNull below isElement at written rowsDone answerOf bufferOf ending mostInput mostDeclarations every half inRange ofDigits toDigits
+    ofPattern pattern digit hexadigit numeral sized withSign ranged decimal hexadecimal readInteger digits shortest sextet letter isPad dense
+    oneByte twoBytes threeBytes lastFour fours decode encode inRoom sizedInput stepOutcome decoding encoding decodeCall encodeCall truth
+    truthByte bitOf element number bitBytes bitsOf packed pack allZero unpack readFlags contentBytes numbers beforeNul numbersIn content
+    firstBytes atMost counted countIn shows readBinary2 readBinary countBytes groups bytesOf elementsBytes zeros writeBinary2 canBeEmpty
+    nullForm writeBinary open-TD close-TD open-TR close-TR names named numeric expanded emitted step consText follow characters cellText isText
+    allText lower truthLetter truthWord bitLetter bitWords integerWord textElements countFits elementsOf textCell readText escaped formOf forms truthText
+    bitText spaced elementText tagged writeText isNameByte spanName someName spanValue readValue readAttribute nameComes attributeComes
+    attributesF attributes valuesOf atMostOne exactlyOne readValues begins fieldBody readField kinds kindOf lengthOf beforeStar boundedLen
+    lenBefore lenOf nullValue nullOf judge fieldsThen fieldsF declare front underColumns converting convert readCell flag flagsLeft readCells
+    isSet readStart readEnd readRow isEmpty atEnd rowThen sequenceF sequence read writeCell writeCells writeStart writeEnd writeRow fitted
+    wroteThen write run cases sameAnswer cameOut passes allPass output throughNul contentShows cellsShow rowShows streamShows marksOf showsAt
+    count upTo rowAt lines inOrder rowLength rowLengths sum elementBytes
 everything = 0

@@ -1,6 +1,6 @@
 -- Laws of TABLEDATA cells: a cell that is written is read back; a cell takes at least a byte; what is read fits its column and has a text;
 -- what is written is the form, where there is one.
-use Prim.Native.Nat.{_+_, _-_, _<_, _≤_, suc, zero, ℕ}
+use Prim.Native.Nat.{_-_, _<_, _≤_, suc, zero, ℕ}
 use native.Mathlib.Omega.{arith}
 use mathlib.Core.Bool.{Bool, _&&_, _||_, cond, false, false≢true, or-true, true}
 use mathlib.Core.List.{List, [], _++_, _∷_, append-assoc, map}
