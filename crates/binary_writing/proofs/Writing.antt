@@ -9,7 +9,6 @@ use Rattle.number.specs.Number.{ofDigits, pattern, toDigits}
 use Rattle.table.proofs.Laws.{last-le}
 use Rattle.table.specs.Cell.{bound, isOne, nullElement, nullOfKind, roomIn, shown}
 use Rattle.table.specs.Contracts.{formBytes, held}
-use Rattle.table.specs.Outcome.{at}
 use Rattle.table.specs.Result.{bad, good}
 use Rattle.table.specs.Shape.{Bits, Shape, Text, Truths, Whole, Width, last, shape}
 use Rattle.table.specs.Wrote.{Wrote}

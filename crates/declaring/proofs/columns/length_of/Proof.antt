@@ -1,6 +1,7 @@
 -- declaring::columns::length_of: a length: what the digits from `i` on make of `n` is what all of them make.
 use Prim.Native.Nat.{_-_, _<_, _^_, _≤_, zero-le, ℕ}
-use Rattle.declaring.proofs.columns.Numerals.{capped, capped-more, capped-no, capped-yes, digits-grow, digits-small, length-long, length-none, length-numeral, length-zero, numeral-end, numeral-more, numeral-no}
+use Rattle.declaring.proofs.columns.Numerals.{capped, capped-more, capped-no, capped-yes, digits-grow, digits-small}
+use Rattle.declaring.proofs.columns.Numerals.{length-long, length-none, length-numeral, length-zero, numeral-end, numeral-more, numeral-no}
 use Rattle.fields.specs.Fields.{lengthOf}
 use Rattle.number.specs.Number.{Unwritten, digit, numeral}
 use borrow.Author.Needs.{needs}
