@@ -21,7 +21,7 @@ use Rattle.table.proofs.Laws.{Numbered, all-append, all-drop, all-replicate, al
 use Rattle.table.proofs.Laws.{holds-cond, holds-weaken, null-stands, show-fits}
 use Rattle.table.specs.All.{All, AreBytes}
 use Rattle.table.specs.Bytes.{byte}
-use Rattle.table.specs.Cell.{Cell, Elements, Fits, IsColumn, below, bound, columnOf, emptyIsNull, fits-null, fits-shown, isChar, isElement, isNull, isNullList, isOne}
+use Rattle.table.specs.Cell.{Cell, Elements, Fits, IsColumn, below, bound, columnOf, emptyIsNull, fits-null, fits-shown, isChar, isElement, isNull, isNullList, isOne, mostElements}
 use Rattle.table.specs.Cell.{null, nullElement, nullOfKind, roomFits, roomIn, show, shown}
 use Rattle.table.specs.Outcome.{at}
 use Rattle.table.specs.Result.{Fails, Holds, every, fails, gives, good, holds, refuses}
@@ -227,13 +227,13 @@ unfolding firstBytes
 first-back n p rest h =
     rw (take-at p rest n h, drop-at p rest n h, le-ltb (length (p ++ rest)) n (simp length-append (omega arith)))
 
-pub count-back : (l : Len) (m : ℕ) (t : List ℕ) → bound l ≤ 4096 → m ≤ bound l → countIn l (countBytes l m ++ t) ≡ good (roomIn l m, t)
+pub count-back : (l : Len) (m : ℕ) (t : List ℕ) → bound l ≤ mostElements → m ≤ bound l → countIn l (countBytes l m ++ t) ≡ good (roomIn l m, t)
 unfolding countIn countBytes counted atMost
 count-back (Fixed n) m t b h = refl
 count-back (Bounded n) m t b h =
     rw (first-back 4 (toDigits 256 4 m) t (length-to 256 4 m), of-to 256 (lit< tt) 4 m (omega arith), le-ltb n m h)
 count-back Free m t b h =
-    rw (first-back 4 (toDigits 256 4 m) t (length-to 256 4 m), of-to 256 (lit< tt) 4 m (omega arith), le-ltb 4096 m h)
+    rw (first-back 4 (toDigits 256 4 m) t (length-to 256 4 m), of-to 256 (lit< tt) 4 m (omega arith), le-ltb mostElements m h)
 
 -- "a 4-byte unsigned count of elements, not bytes": two shorts are counted as 2
 counts-elements : take 4 (elementsBytes (columnOf Short Free Undeclared) (pos 7 ∷ pos 8 ∷ [])) ≡ 0 ∷ 0 ∷ 0 ∷ 2 ∷ []
@@ -348,7 +348,7 @@ count-is : (l : Len) (s : List ℕ) → AreBytes s → Holds (Counted l) (countI
 unfolding countIn
 count-is (Fixed n) s a = holds (refl, le-refl n, a)
 count-is (Bounded n) s a = holds-weaken (counted-is n s a) (λ p h. (refl, h .0, h .1))
-count-is Free s a = holds-weaken (counted-is 4096 s a) (λ p h. (refl, h .0, h .1))
+count-is Free s a = holds-weaken (counted-is mostElements s a) (λ p h. (refl, h .0, h .1))
 
 abbrev Numbers : Shape → ℕ → List ℕ → Type 0
 Numbers k n ns = All (IsNumber k) ns × (roomFits k n (length ns) ≡ true)
@@ -426,7 +426,7 @@ count-less : (k : Shape) (l : Len) (s : List ℕ) → 1 ≤ bound l → Holds (�
 unfolding countIn
 count-less k (Fixed n) s h = holds {a = (n, s)} (omega (arith, content-some k n h))
 count-less k (Bounded n) s h = holds-weaken (counted-less n s) (λ p g. omega arith)
-count-less k Free s h = holds-weaken (counted-less 4096 s) (λ p g. omega arith)
+count-less k Free s h = holds-weaken (counted-less mostElements s) (λ p g. omega arith)
 
 pub binary-less : (c : Column) (flagged : Bool) (s : List ℕ) → IsColumn c → Holds (λ (p : Cell × List ℕ). length (p .1) < length s) (readBinary2 c flagged s)
 unfolding readBinary2
@@ -474,7 +474,7 @@ count-fails : (l : Len) (s : List ℕ) → Fails (Numbered 8 13) (countIn l s)
 unfolding countIn
 count-fails (Fixed n) s = gives
 count-fails (Bounded n) s = counted-fails n s
-count-fails Free s = counted-fails 4096 s
+count-fails Free s = counted-fails mostElements s
 
 shows-fails : (c : Column) (flagged : Bool) (n : ℕ) (p : List ℕ) → Fails (Numbered 8 13) (shows c flagged n p)
 unfolding shows content

@@ -8,7 +8,7 @@ use lib.IntN.{negsuc, pos, ℤ}
 use lib.ListN.{drop, length, replicate, take}
 use Rattle.number.specs.Number.{ofDigits, ofPattern, pattern, toDigits}
 use Rattle.table.specs.Bytes.{byte}
-use Rattle.table.specs.Cell.{Cell, emptyIsNull, isChar, null, nullElement, roomIn, show, shown}
+use Rattle.table.specs.Cell.{Cell, emptyIsNull, isChar, mostElements, null, nullElement, roomIn, show, shown}
 use Rattle.table.specs.Result.{Result, _>>=_, bad, every, good}
 use Rattle.table.specs.Shape.{Bits, Shape, Text, Truths, Whole, last, shape}
 use Rattle.table.specs.declared.Column.{Column}
@@ -125,7 +125,7 @@ counted most s = firstBytes 4 s >>= λ p. atMost most (ofDigits 256 0 (p .0)) (p
 unfoldable pub countIn : Len → List ℕ → Result ℕ (ℕ × List ℕ)
 countIn (Fixed n) s = good (n, s)
 countIn (Bounded n) s = counted n s
-countIn Free s = counted 4096 s
+countIn Free s = counted mostElements s
 
 -- "A BINARY2 row begins with (columns+7)/8 bytes, rounded down, of flags: first column in the highest bit, .. spare bits 0": a bit for each
 -- column, and what follows

@@ -3,12 +3,13 @@
 use table::Kind;
 ghost use mathlib.Core.Path.{_≡_};
 ghost use Prim.Native.Nat.{_≤_};
+ghost use Rattle.table.specs.Cell.{mostElements};
 ghost use Rattle.table.specs.Shape.{shape};
 ghost use Rattle.binary.specs.Binary.{contentBytes};
 
 // The bytes of n elements. By the kinds themselves, with each width a numeral: it is asked several times a cell.
 pub fn content_bytes(kind: Kind, n: usize) -> usize
-    requires { ⌜ n ≤ 4096 ⌝ }
+    requires { ⌜ n ≤ mostElements ⌝ }
     ensures { λ r. ⌜ (r ≡ contentBytes (shape kind) n) × (r ≤ 32768) ⌝ }
 {
     match kind {

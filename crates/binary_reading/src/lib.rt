@@ -14,7 +14,7 @@ ghost use lib.ListN.{drop, length};
 ghost use lib.Seq.{sets};
 ghost use Rattle.number.specs.Contracts.{isSigned, size, widthOf};
 ghost use Rattle.number.specs.Number.{toDigits};
-ghost use Rattle.table.specs.Cell.{bound};
+ghost use Rattle.table.specs.Cell.{bound, mostElements};
 ghost use Rattle.table.specs.Contracts.{Reads};
 ghost use Rattle.table.specs.Result.{every};
 ghost use Rattle.table.specs.Shape.{Bits, Text, Truths, Whole, shape};
@@ -57,7 +57,7 @@ fn read_count(s: &[u8], at: usize, len: Len) -> Count
     match len {
         Len::Fixed(n) => Count::Elements(n, at),
         Len::Bounded(n) => count_up_to(s, at, n),
-        Len::Free => count_up_to(s, at, 4096),
+        Len::Free => count_up_to(s, at, table::MOST_ELEMENTS),
     }
 }
 
@@ -165,7 +165,7 @@ fn read_bits(part: &[u8], n: usize, scratch: &mut [i64]) -> Content
 
 // No elements are told here, once, and not by the loop of each kind.
 fn read_content(part: &[u8], n: usize, kind: Kind, scratch: &mut [i64]) -> Content
-    requires { ⌜ (length (now part) ≡ contentBytes (shape kind) n) × (n ≤ 4096) × (4096 ≤ length (now scratch)) ⌝ }
+    requires { ⌜ (length (now part) ≡ contentBytes (shape kind) n) × (n ≤ mostElements) × (mostElements ≤ length (now scratch)) ⌝ }
     ensures { λ r. ⌜ Fills (content (shape kind) n (now (part .entry))) n (now (scratch .entry)) (now (scratch .exit)) r ⌝ }
 {
     if n == 0 {
@@ -190,7 +190,7 @@ fn read_counted(
     flagged: bool,
     scratch: &mut [i64],
 ) -> Found
-    requires { ⌜ (at ≤ length (now s)) × (n ≤ 4096) × (4096 ≤ length (now scratch)) ⌝ }
+    requires { ⌜ (at ≤ length (now s)) × (n ≤ mostElements) × (mostElements ≤ length (now scratch)) ⌝ }
     ensures { λ r. ⌜ Reads (readCounted column flagged n (drop at (now (s .entry)))) (now (s .entry)) at (now (scratch .entry)) (now (scratch .exit)) r ⌝ }
 {
     let kind = column.kind;
@@ -222,7 +222,7 @@ pub fn read_binary2(
     flagged: bool,
     scratch: &mut [i64],
 ) -> Found
-    requires { ⌜ (at ≤ length (now s)) × (bound (column .len) ≤ 4096) × (4096 ≤ length (now scratch)) ⌝ }
+    requires { ⌜ (at ≤ length (now s)) × (bound (column .len) ≤ mostElements) × (mostElements ≤ length (now scratch)) ⌝ }
     ensures { λ r. ⌜ Reads (readBinary2 column flagged (drop at (now (s .entry)))) (now (s .entry)) at (now (scratch .entry)) (now (scratch .exit)) r ⌝ }
 {
     let len = column.len;
@@ -235,7 +235,7 @@ pub fn read_binary2(
 
 // "In TABLEDATA and BINARY an empty cell is null".
 pub fn read_binary(s: &[u8], at: usize, column: Column, scratch: &mut [i64]) -> Found
-    requires { ⌜ (at ≤ length (now s)) × (bound (column .len) ≤ 4096) × (4096 ≤ length (now scratch)) ⌝ }
+    requires { ⌜ (at ≤ length (now s)) × (bound (column .len) ≤ mostElements) × (mostElements ≤ length (now scratch)) ⌝ }
     ensures { λ r. ⌜ Reads (readBinary column (drop at (now (s .entry)))) (now (s .entry)) at (now (scratch .entry)) (now (scratch .exit)) r ⌝ }
 {
     let found = read_binary2(s, at, column, false, scratch);

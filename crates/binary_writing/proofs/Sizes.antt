@@ -6,7 +6,7 @@ use Rattle.binary.specs.Contracts.{filledBytes}
 use Rattle.binary_writing.specs.Contracts.{elementsSize, roomSize}
 use Rattle.number.proofs.Laws.{length-to}
 use Rattle.table.proofs.Laws.{cond-cases, last-le}
-use Rattle.table.specs.Cell.{Cell, Fits, bound, fits-shown, isChar, null, nullElement, nullOfKind, roomIn, shown}
+use Rattle.table.specs.Cell.{Cell, Fits, bound, fits-shown, isChar, mostElements, null, nullElement, nullOfKind, roomIn, shown}
 use Rattle.table.specs.Contracts.{formBytes, held}
 use Rattle.table.specs.Outcome.{at}
 use Rattle.table.specs.Result.{Result, bad, good}
@@ -120,19 +120,19 @@ count-most (Fixed n) m = zero-le
 count-most (Bounded n) m = le-of-eq (length-to 256 4 m)
 count-most Free m = le-of-eq (length-to 256 4 m)
 
-content-most : (k : Shape) (n : ℕ) → n ≤ 4096 → contentBytes k n ≤ 32768
+content-most : (k : Shape) (n : ℕ) → n ≤ mostElements → contentBytes k n ≤ 32768
 unfolding contentBytes bitBytes
 content-most Truths n h = omega arith
 content-most Bits n h = omega arith
 content-most (Whole g v) n h = le-trans (mul-le-mul h (last-le v)) (lit≤ tt)
 content-most Text n h = omega arith
 
-zeros-most : (c : Column) → bound (c .len) ≤ 4096 → length (zeros c) ≤ 40000
+zeros-most : (c : Column) → bound (c .len) ≤ mostElements → length (zeros c) ≤ 40000
 unfolding roomSize
 zeros-most c b =
     omega (arith, zeros-length c, count-most (c .len) 0, content-most (shape (c .kind)) (roomIn (c .len) 0) (le-trans (room-bound (c .len) 0 zero-le) b))
 
-elements-most : (c : Column) (es : List ℤ) → bound (c .len) ≤ 4096 → length es ≤ bound (c .len) → length (elementsBytes c es) ≤ 40000
+elements-most : (c : Column) (es : List ℤ) → bound (c .len) ≤ mostElements → length es ≤ bound (c .len) → length (elementsBytes c es) ≤ 40000
 unfolding elementsSize filledBytes
 elements-most c es b h =
     let k : Shape = shape (c .kind) in
@@ -141,12 +141,12 @@ elements-most c es b h =
     let most : cond (isChar k) n m ≤ bound (c .len) = cond-cases (λ (j : ℕ). j ≤ bound (c .len)) (isChar k) n m (λ _. room-bound (c .len) m h) (λ _. h) in
     omega (arith, elements-length c es h, count-most (c .len) m, content-most k (cond (isChar k) n m) (le-trans most b))
 
-pub binary2-size : (c : Column) (x : Cell) → bound (c .len) ≤ 4096 → Few c x → length (writeBinary2 c x) ≤ 40000
+pub binary2-size : (c : Column) (x : Cell) → bound (c .len) ≤ mostElements → Few c x → length (writeBinary2 c x) ≤ 40000
 unfolding writeBinary2
 binary2-size c null b f = zeros-most c b
 binary2-size c (shown es) b f = elements-most c es b f
 
-null-size : (c : Column) (o : Option ℤ) → nullElement c ≡ o → bound (c .len) ≤ 4096 → length (formBytes (nullForm c o)) ≤ 40000
+null-size : (c : Column) (o : Option ℤ) → nullElement c ≡ o → bound (c .len) ≤ mostElements → length (formBytes (nullForm c o)) ≤ 40000
 unfolding nullForm nullElement
 null-size c none q b =
     cond-cases (λ (r : Result ℕ (List ℕ)). length (formBytes r) ≤ 40000) (canBeEmpty (shape (c .kind)) (c .len)) (good (elementsBytes c [])) (bad 15)
@@ -154,7 +154,7 @@ null-size c none q b =
 null-size c (some z) q b =
     elements-most c (z ∷ []) b (scalar-room (shape (c .kind)) (c .len) (nullOfKind (shape (c .kind)) (c .null)) z q .1)
 
-pub binary-size : (c : Column) (x : Cell) → bound (c .len) ≤ 4096 → Few c x → length (formBytes (writeBinary c x)) ≤ 40000
+pub binary-size : (c : Column) (x : Cell) → bound (c .len) ≤ mostElements → Few c x → length (formBytes (writeBinary c x)) ≤ 40000
 unfolding writeBinary
 binary-size c null b f = null-size c (nullElement c) refl b
 binary-size c (shown []) b f = zero-le

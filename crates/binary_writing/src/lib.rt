@@ -14,7 +14,7 @@ ghost use Prim.Native.Nat.{_*_, _+_, _-_, _^_, _<_, _≤_};
 ghost use lib.ListN.{drop, length, replicate, take};
 ghost use Rattle.number.specs.Contracts.{size};
 ghost use Rattle.number.specs.Number.{ofDigits, pattern};
-ghost use Rattle.table.specs.Cell.{bound, nullElement, roomIn};
+ghost use Rattle.table.specs.Cell.{bound, mostElements, nullElement, roomIn};
 ghost use Rattle.table.specs.Contracts.{formBytes, held, sizeAs, sizeOf};
 ghost use Rattle.table.specs.Shape.{shape};
 ghost use Rattle.table.specs.Wrote.{Wrote};
@@ -26,7 +26,7 @@ ghost use Rattle.binary_writing.specs.Contracts.{elementsSize, roomSize}
 
 // "fixed char filled up with NUL; variable char with the shown length"
 fn elements_size(column: Column, count: usize) -> usize
-    requires { ⌜ (bound (column .len) ≤ 4096) × (count ≤ bound (column .len)) ⌝ }
+    requires { ⌜ (bound (column .len) ≤ mostElements) × (count ≤ bound (column .len)) ⌝ }
     ensures { λ r. ⌜ r ≡ elementsSize column count ⌝ }
 {
     let kind = column.kind;
@@ -46,7 +46,7 @@ fn elements_size(column: Column, count: usize) -> usize
 
 // The bytes of a cell with room for so many elements, as a null has them for none.
 fn room_size(column: Column, count: usize) -> usize
-    requires { ⌜ (bound (column .len) ≤ 4096) × (count ≤ bound (column .len)) ⌝ }
+    requires { ⌜ (bound (column .len) ≤ mostElements) × (count ≤ bound (column .len)) ⌝ }
     ensures { λ r. ⌜ r ≡ roomSize column count ⌝ }
 {
     let kind = column.kind;
@@ -59,7 +59,7 @@ fn room_size(column: Column, count: usize) -> usize
 }
 
 pub fn size_binary2(column: Column, null: bool, count: usize, scratch: &[i64]) -> usize
-    requires { ⌜ (bound (column .len) ≤ 4096) × (count ≤ bound (column .len)) × (count ≤ length (now scratch)) ⌝ }
+    requires { ⌜ (bound (column .len) ≤ mostElements) × (count ≤ bound (column .len)) × (count ≤ length (now scratch)) ⌝ }
     ensures { λ r. ⌜ r ≡ length (writeBinary2 column (held null count (now (scratch .entry)))) ⌝ }
 {
     if null {
@@ -81,7 +81,7 @@ fn can_be_empty(kind: Kind, len: Len) -> bool
 
 // "Null in BINARY: the declared null, `?` for a scalar boolean, count 0 for bounded and free, NULs for fixed char; else 15."
 fn null_size(column: Column) -> Size
-    requires { ⌜ bound (column .len) ≤ 4096 ⌝ }
+    requires { ⌜ bound (column .len) ≤ mostElements ⌝ }
     ensures { λ r. ⌜ sizeAs r ≡ sizeOf (nullForm column (nullElement column)) ⌝ }
 {
     let kind = column.kind;
@@ -100,7 +100,7 @@ fn null_size(column: Column) -> Size
 }
 
 pub fn size_binary(column: Column, null: bool, count: usize, scratch: &[i64]) -> Size
-    requires { ⌜ (bound (column .len) ≤ 4096) × (count ≤ bound (column .len)) × (count ≤ length (now scratch)) ⌝ }
+    requires { ⌜ (bound (column .len) ≤ mostElements) × (count ≤ bound (column .len)) × (count ≤ length (now scratch)) ⌝ }
     ensures { λ r. ⌜ sizeAs r ≡ sizeOf (writeBinary column (held null count (now (scratch .entry)))) ⌝ }
 {
     if null {
@@ -128,7 +128,7 @@ fn put_zeros(n: usize, out: &mut [u8], at: usize) -> usize
 }
 
 fn put_count(len: Len, count: usize, out: &mut [u8], at: usize) -> usize
-    requires { ⌜ (at + length (countBytes len count) ≤ length (now out)) × (count ≤ 4096) ⌝ }
+    requires { ⌜ (at + length (countBytes len count) ≤ length (now out)) × (count ≤ mostElements) ⌝ }
     ensures { λ r. ⌜ Wrote (now (out .entry)) at (countBytes len count) (now (out .exit)) r ⌝ }
 {
     match len {
@@ -252,7 +252,7 @@ fn room_in(len: Len, count: usize) -> usize
 }
 
 fn put_elements(column: Column, count: usize, scratch: &[i64], out: &mut [u8], at: usize) -> usize
-    requires { ⌜ (bound (column .len) ≤ 4096) × (count ≤ bound (column .len)) × (count ≤ length (now scratch)) ⌝ }
+    requires { ⌜ (bound (column .len) ≤ mostElements) × (count ≤ bound (column .len)) × (count ≤ length (now scratch)) ⌝ }
     requires { ⌜ at + length (elementsBytes column (take count (now scratch))) ≤ length (now out) ⌝ }
     ensures { λ r. ⌜ Wrote (now (out .entry)) at (elementsBytes column (take count (now (scratch .entry)))) (now (out .exit)) r ⌝ }
 {
@@ -265,7 +265,7 @@ fn put_elements(column: Column, count: usize, scratch: &[i64], out: &mut [u8], a
 
 // "Null in BINARY2: flag, zero bytes, count 0."
 fn put_null(column: Column, out: &mut [u8], at: usize) -> usize
-    requires { ⌜ (bound (column .len) ≤ 4096) × (at + length (zeros column) ≤ length (now out)) ⌝ }
+    requires { ⌜ (bound (column .len) ≤ mostElements) × (at + length (zeros column) ≤ length (now out)) ⌝ }
     ensures { λ r. ⌜ Wrote (now (out .entry)) at (zeros column) (now (out .exit)) r ⌝ }
 {
     let kind = column.kind;
@@ -283,7 +283,7 @@ pub fn write_binary2(
     out: &mut [u8],
     at: usize,
 ) -> usize
-    requires { ⌜ (bound (column .len) ≤ 4096) × (count ≤ bound (column .len)) × (count ≤ length (now scratch)) ⌝ }
+    requires { ⌜ (bound (column .len) ≤ mostElements) × (count ≤ bound (column .len)) × (count ≤ length (now scratch)) ⌝ }
     requires { ⌜ at + length (writeBinary2 column (held null count (now scratch))) ≤ length (now out) ⌝ }
     ensures { λ r. ⌜ Wrote (now (out .entry)) at (writeBinary2 column (held null count (now (scratch .entry)))) (now (out .exit)) r ⌝ }
 {
@@ -295,7 +295,7 @@ pub fn write_binary2(
 
 // A null that BINARY has a form for; nothing where it has none. A declared null is a scalar's: no count stands before it.
 fn put_binary_null(column: Column, out: &mut [u8], at: usize) -> usize
-    requires { ⌜ (bound (column .len) ≤ 4096) × (at + length (formBytes (nullForm column (nullElement column))) ≤ length (now out)) ⌝ }
+    requires { ⌜ (bound (column .len) ≤ mostElements) × (at + length (formBytes (nullForm column (nullElement column))) ≤ length (now out)) ⌝ }
     ensures { λ r. ⌜ Wrote (now (out .entry)) at (formBytes (nullForm column (nullElement column))) (now (out .exit)) r ⌝ }
 {
     let kind = column.kind;
@@ -324,7 +324,7 @@ pub fn write_binary(
     out: &mut [u8],
     at: usize,
 ) -> usize
-    requires { ⌜ (bound (column .len) ≤ 4096) × (count ≤ bound (column .len)) × (count ≤ length (now scratch)) ⌝ }
+    requires { ⌜ (bound (column .len) ≤ mostElements) × (count ≤ bound (column .len)) × (count ≤ length (now scratch)) ⌝ }
     requires { ⌜ at + length (formBytes (writeBinary column (held null count (now scratch)))) ≤ length (now out) ⌝ }
     ensures { λ r. ⌜ Wrote (now (out .entry)) at (formBytes (writeBinary column (held null count (now (scratch .entry))))) (now (out .exit)) r ⌝ }
 {

@@ -11,16 +11,16 @@ use lib.ListN.{drop, length, length-drop, length-set, set, take}
 use lib.Seq.{drop-length, take-length}
 use borrow.Author.Tests.{le-leb, lt-leb, ltb-false, ltb-true}
 use borrow.Rule.Slice.PartMut.{midOf, post-is, putMid, same-len-mid}
-use Rattle.convert.specs.Contracts.{HoldsAs, holdingOf}
+use Rattle.convert.specs.Contracts.{HoldsAs, holdingOf, scratchLength}
 use Rattle.row_writing.specs.Contracts.{heldCell}
 use Rattle.row_writing.specs.declared.Holding.{Holding}
-use Rattle.table.specs.Cell.{Cell}
+use Rattle.table.specs.Cell.{Cell, mostElements}
 
-holding-held : (held : ℕ) → held ≤ 8192 → holdingOf held ≡ Holding.Holds held
-holding-held held h = rw (le-leb held 8192 h)
+holding-held : (held : ℕ) → held ≤ scratchLength → holdingOf held ≡ Holding.Holds held
+holding-held held h = rw (le-leb held scratchLength h)
 
-holding-lost : (held : ℕ) → 8192 < held → holdingOf held ≡ Holding.Lost
-holding-lost held h = rw (lt-leb held 8192 h)
+holding-lost : (held : ℕ) → scratchLength < held → holdingOf held ≡ Holding.Lost
+holding-lost held h = rw (lt-leb held scratchLength h)
 
 -- ---- a cell that was read into the scratch behind a place, with its count put at that place
 
@@ -58,16 +58,16 @@ module _ (place : ℕ) (l m : List ℤ) (h : place < length l) (e : length m ≡
       ap₂ take n d ∙ take-length m
 
   -- the cell x stands behind the cells before it, where they are held
-  pub keep : (n : ℕ) (x : Cell) → z ∷ take n m ≡ heldCell x → n ≤ 4096 → (held after : ℕ) → (held < 4096 → place ≡ held)
-      → (held < 4096 → after ≡ held + 1 + n) → (4096 ≤ held → 8192 < after)
+  pub keep : (n : ℕ) (x : Cell) → z ∷ take n m ≡ heldCell x → n ≤ mostElements → (held after : ℕ) → (held < mostElements → place ≡ held)
+      → (held < mostElements → after ≡ held + 1 + n) → (mostElements ≤ held → scratchLength < after)
       → (cells : List ℤ) → HoldsAs l cells (holdingOf held) → HoldsAs back (cells ++ heldCell x) (holdingOf after)
-  keep n x e few held after p a b cells k = go (ltb held 4096) refl
+  keep n x e few held after p a b cells k = go (ltb held mostElements) refl
     where
-      go : (t : Bool) → ltb held 4096 ≡ t → HoldsAs back (cells ++ heldCell x) (holdingOf after)
+      go : (t : Bool) → ltb held mostElements ≡ t → HoldsAs back (cells ++ heldCell x) (holdingOf after)
       go true q =
-          let s : held < 4096 = ltb-true held 4096 q in
+          let s : held < mostElements = ltb-true held mostElements q in
           let before : take held l ≡ cells = subst (HoldsAs l cells) (holding-held held (omega arith)) k in
           subst (HoldsAs back (cells ++ heldCell x)) (sym (holding-held after (omega (arith, a s))))
           (ap₂ take (a s ∙ ap (λ (i : ℕ). i + 1 + n) (sym (p s))) back-is ∙ put-held place n l m z h ∙ ap₂ (λ (i : ℕ) (y : List ℤ). take i l ++ y) (p s) e
           ∙ ap (λ (c : List ℤ). c ++ heldCell x) before)
-      go false q = subst (HoldsAs back (cells ++ heldCell x)) (sym (holding-lost after (b (ltb-false held 4096 q)))) tt
+      go false q = subst (HoldsAs back (cells ++ heldCell x)) (sym (holding-lost after (b (ltb-false held mostElements q)))) tt

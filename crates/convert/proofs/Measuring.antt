@@ -20,7 +20,7 @@ use Rattle.row_reading.proofs.Parts.{RowRead, read-end}
 use Rattle.row_reading.specs.Contracts.{flagsIn}
 use Rattle.row_writing.proofs.HeldForm.{FewCells, held-form, held-row-more, held-within, heldRow}
 use Rattle.row_writing.proofs.RowForm.{join, nullBits, row-form, start-bytes}
-use Rattle.row_writing.specs.Contracts.{FewIn, HeldReady, HeldWithin, heldCell, heldNext, putForm, rowBytes, rowForm, startBytes}
+use Rattle.row_writing.specs.Contracts.{FewIn, HeldReady, HeldWithin, heldCell, heldNext, mostCellBytes, putForm, rowBytes, rowForm, startBytes}
 use Rattle.row_writing.specs.declared.Holding.{Holding}
 use Rattle.rows.specs.Stream.{writeCell, writeCells, writeEnd, writeRow}
 use Rattle.table.proofs.Laws.{bad-good}
@@ -103,7 +103,7 @@ grown-of to c i m x entry exit q b n size g e be few k = record {
 
 -- the columns before i are read, and their cells are acc
 pub record RowMeasured (to : Rows) (cols : List Column) (acc : List Cell) (scratch : List ℤ) (m : Measured) (i : ℕ) : Type 0 where
-  pub short : m .size ≤ 100000 * i
+  pub short : m .size ≤ mostCellBytes * i
   pub w : Result Refusal (List ℕ)
   pub writes : (xs : List Cell) → writeCells to cols (acc ++ xs) 0 ≡ join w (writeCells to (drop i cols) xs i)
   pub says : measuredAs m ≡ lengthOf w

@@ -10,10 +10,10 @@ use Rattle.convert.specs.declared.Measured.{Measured}
 use Rattle.convert.specs.declared.Turn.{Turn}
 use Rattle.binary.specs.Binary.{flagBit}
 use Rattle.number.specs.Number.{toDigits}
-use Rattle.row_writing.specs.Contracts.{FewIn, heldCell}
+use Rattle.row_writing.specs.Contracts.{FewIn, heldCell, mostCellBytes}
 use Rattle.row_writing.specs.declared.Holding.{Holding}
 use Rattle.rows.specs.Stream.{writeCell}
-use Rattle.table.specs.Cell.{Cell, isNull}
+use Rattle.table.specs.Cell.{Cell, isNull, mostElements}
 use Rattle.table.specs.Contracts.{sizeAs, sizeOf}
 use Rattle.table.specs.Outcome.{Refusal, at}
 use Rattle.table.specs.Result.{Result, _>>=_, bad, good, refusedAs}
@@ -36,9 +36,13 @@ addedTo a b = a >>= λ m. b >>= λ n. good (m + n)
 
 -- ---- the cells of a row, held in the scratch
 
+-- the numbers that the scratch has: cells are held while a cell of any size has room behind them
+abbrev pub scratchLength : ℕ
+scratchLength = 8192
+
 -- so much of the scratch holds them; more than it has says that they are not held
 abbrev pub holdingOf : ℕ → Holding
-holdingOf held = cond (leb held 8192) (Holding.Holds held) Holding.Lost
+holdingOf held = cond (leb held scratchLength) (Holding.Holds held) Holding.Lost
 
 -- what the scratch holds, where it holds anything
 abbrev pub HoldsAs : List ℤ → List ℤ → Holding → Type 0
@@ -51,15 +55,15 @@ HoldsAs l cells Holding.Lost = Unit {0}
 pub record GrownBy (i : ℕ) (isNull : Bool) (n : ℕ) (size : Size) (m q : Measured) : Type 0 where
   pub nulls : toDigits 2 (i + 1) (q .nulls) ≡ toDigits 2 i (m .nulls) ++ (flagBit isNull ∷ [])
   pub form : measuredAs q ≡ addedTo (measuredAs m) (refusedAs (at i) (sizeAs size))
-  pub short : q .size ≤ 100000 * (i + 1)
-  pub holds : m .held < 4096 → q .held ≡ m .held + 1 + n
-  pub lost : 4096 ≤ m .held → 8192 < q .held
+  pub short : q .size ≤ mostCellBytes * (i + 1)
+  pub holds : m .held < mostElements → q .held ≡ m .held + 1 + n
+  pub lost : mostElements ≤ m .held → scratchLength < q .held
 
 -- it is x
 pub record Grown (to : Rows) (c : Column) (i : ℕ) (m : Measured) (x : Cell) (entry exit : List ℤ) (q : Measured) : Type 0 where
   pub nulls : toDigits 2 (i + 1) (q .nulls) ≡ toDigits 2 i (m .nulls) ++ (flagBit (isNull x) ∷ [])
   pub form : measuredAs q ≡ addedTo (measuredAs m) (refusedAs (at i) (sizeOf (writeCell to c x)))
-  pub short : q .size ≤ 100000 * (i + 1)
+  pub short : q .size ≤ mostCellBytes * (i + 1)
   pub few : FewIn c x
   pub held : (cells : List ℤ) → HoldsAs entry cells (holdingOf (m .held)) → HoldsAs exit (cells ++ heldCell x) (holdingOf (q .held))
 

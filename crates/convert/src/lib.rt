@@ -21,14 +21,14 @@ use table::Size;
 ghost use mathlib.Core.Path.{_≡_};
 ghost use Prim.Native.Nat.{_*_, _+_, _<_, _^_, _≤_};
 ghost use lib.ListN.{drop, length};
-ghost use Rattle.table.specs.Cell.{bound};
+ghost use Rattle.table.specs.Cell.{bound, mostElements};
 ghost use Rattle.table.specs.Outcome.{answerOf, bufferOf};
 ghost use Rattle.table.specs.ColumnList.{listed};
-ghost use Rattle.row_writing.specs.Contracts.{SizeWithin};
+ghost use Rattle.row_writing.specs.Contracts.{SizeWithin, mostCellBytes};
 ghost use Rattle.rows.specs.Bounds.{Within};
 ghost use Rattle.rows.specs.Convert.{Converts};
 ghost use Rattle.rows.specs.Stream.{readCell, run};
-ghost use Rattle.convert.specs.Contracts.{GrownBy, MeasuredBy, holdingOf};
+ghost use Rattle.convert.specs.Contracts.{GrownBy, MeasuredBy, holdingOf, scratchLength};
 
 // A place in the input, where the next row begins.
 struct Cursor {
@@ -98,9 +98,7 @@ struct Stop {
     column: usize,
 }
 
-// How many elements a cell has at most, and what the scratch holds: cells while a cell of any size has room behind them.
-const MOST_ELEMENTS: usize = 4096;
-
+// What the scratch has: it holds cells while a cell of any size has room behind them.
 const SCRATCH: usize = 8192;
 
 // More than the scratch has says that the cells are not held.
@@ -116,17 +114,17 @@ const NONE: u64 = 0;
 
 // Where the next cell is held: behind those that are, while a cell of any size has room there.
 fn place_for(held: usize) -> usize
-    ensures { λ r. ⌜ (r < 4096) × (held < 4096 → r ≡ held) ⌝ }
+    ensures { λ r. ⌜ (r < mostElements) × (held < mostElements → r ≡ held) ⌝ }
 {
-    if held < MOST_ELEMENTS { held } else { 0 }
+    if held < table::MOST_ELEMENTS { held } else { 0 }
 }
 
 // How much is held with a cell of n elements more.
 fn held_with(held: usize, n: usize) -> usize
-    requires { ⌜ n ≤ 4096 ⌝ }
-    ensures { λ r. ⌜ (held < 4096 → r ≡ held + 1 + n) × (4096 ≤ held → 8192 < r) ⌝ }
+    requires { ⌜ n ≤ mostElements ⌝ }
+    ensures { λ r. ⌜ (held < mostElements → r ≡ held + 1 + n) × (mostElements ≤ held → scratchLength < r) ⌝ }
 {
-    if held < MOST_ELEMENTS {
+    if held < table::MOST_ELEMENTS {
         held + 1 + n
     } else {
         LOST
@@ -158,7 +156,7 @@ impl Measured {
 
     // One more cell: column i's, null or not, of n elements, which takes so much; the first refusal stays.
     fn after(self, i: usize, null: bool, n: usize, size: Size) -> Measured
-        requires { ⌜ (self .size ≤ 100000 * i) × (i < 64) × SizeWithin size × (n ≤ 4096) ⌝ }
+        requires { ⌜ (self .size ≤ mostCellBytes * i) × (i < 64) × SizeWithin size × (n ≤ mostElements) ⌝ }
         ensures { λ q. ⌜ GrownBy i null n size self q ⌝ }
     {
         let nulls = add_flag(self.nulls, i, null);
@@ -207,7 +205,7 @@ fn measure(
     s: &[u8],
     scratch: &mut [i64],
 ) -> Turn
-    requires { ⌜ (at ≤ length (now s)) × (i < 64) × (m .size ≤ 100000 * i) × (bound (column .len) ≤ 4096) × (8192 ≤ length (now scratch)) ⌝ }
+    requires { ⌜ (at ≤ length (now s)) × (i < 64) × (m .size ≤ mostCellBytes * i) × (bound (column .len) ≤ mostElements) × (scratchLength ≤ length (now scratch)) ⌝ }
     ensures { λ t. ⌜ MeasuredBy to column i (readCell from column flagged (drop at (now (s .entry)))) (now (s .entry)) at m (now (scratch .entry)) (now (scratch .exit)) t ⌝ }
     ensures { λ _. ⌜ length (now (scratch .exit)) ≡ length (now (scratch .entry)) ⌝ }
 {
@@ -240,7 +238,7 @@ fn convert_rows(
     out: &mut [u8],
     scratch: &mut [i64],
 ) -> Answer
-    requires { ⌜ Within (listed cols) × (8192 ≤ length (now scratch)) ⌝ }
+    requires { ⌜ Within (listed cols) × (scratchLength ≤ length (now scratch)) ⌝ }
     ensures { λ r. ⌜ r ≡ answerOf (run from to (listed cols) (length (now (out .entry))) (now (s .entry))) ⌝ }
     ensures { λ _. ⌜ now (out .exit) ≡ bufferOf (run from to (listed cols) (length (now (out .entry))) (now (s .entry))) (now (out .entry)) ⌝ }
 {

@@ -97,7 +97,7 @@ fn length_of(t: &[u8]) -> LengthRead
         n = n * 10 + (c - 48) as usize;
         i += 1;
     }
-    if n <= 4096 {
+    if n <= table::MOST_ELEMENTS {
         return LengthRead::Elements(n);
     }
     LengthRead::Broken

@@ -17,7 +17,7 @@ use Rattle.rows.proofs.Laws.{read-step}
 use Rattle.rows.specs.Stream.{Table, atEnd, flag, flagsLeft, isEmpty, isSet, read, readCell, readCells, readEnd, readRow, readStart}
 use Rattle.rows.specs.Sequence.{Sequence, finished, row, rowThen, sequence, sequenceF}
 use Rattle.table.proofs.Laws.{cond-cases, holds-bind, holds-cond, holds-eq}
-use Rattle.table.specs.Cell.{AreColumns, Cell, show}
+use Rattle.table.specs.Cell.{AreColumns, Cell, mostElements, show}
 use Rattle.table.specs.Outcome.{Refusal, at}
 use Rattle.table.specs.Result.{Holds, Result, _>>=_, bad, every, good, holds, refusedAs, refuses}
 use Rattle.table.specs.Shape.{Bits, Shape, Text, Truths, Whole, shape}
@@ -116,7 +116,7 @@ count-splits : (l : Len) (s : List ℕ) → Holds (Counts l s) (countIn l s)
 unfolding countIn countPart
 count-splits (Fixed n) s = holds (refl, λ t. refl)
 count-splits (Bounded n) s = counted-splits n s
-count-splits Free s = counted-splits 4096 s
+count-splits Free s = counted-splits mostElements s
 
 -- ---- from places that show something to what is read
 

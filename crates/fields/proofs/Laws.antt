@@ -16,7 +16,7 @@ use Rattle.number.specs.Number.{Fault, digit, numeral}
 use Rattle.table.proofs.Laws.{and-both, between-is, holds-any, holds-as, holds-bind, holds-cond, holds-weaken}
 use Rattle.table.specs.All.{All}
 use Rattle.table.specs.Bytes.{between, skipWhite, words}
-use Rattle.table.specs.Cell.{AreColumns, IsColumn, below, bound, columnOf, isElement, isScalar, nullElement, nullOfKind}
+use Rattle.table.specs.Cell.{AreColumns, IsColumn, below, bound, columnOf, isElement, isScalar, mostElements, nullElement, nullOfKind}
 use Rattle.table.specs.Outcome.{Refusal, at, mostDeclarations}
 use Rattle.table.specs.Result.{Holds, Result, holds, refuses}
 use Rattle.table.specs.Shape.{Bits, Shape, Text, Truths, Whole, Width, inRange, last, shape}
@@ -32,16 +32,16 @@ unfolding numeral
 numeral-ge v a [] = holds (le-refl a)
 numeral-ge v a (b ∷ s) = holds-bind (holds-any (v b)) (λ d _. holds-weaken (numeral-ge v (a * 10 + d) s) (λ n h. omega arith))
 
-length-is : (s : List ℕ) → Holds (λ (n : ℕ). (1 ≤ n) × (n ≤ 4096)) (lengthOf s)
+length-is : (s : List ℕ) → Holds (λ (n : ℕ). (1 ≤ n) × (n ≤ mostElements)) (lengthOf s)
 unfolding lengthOf
 length-is [] = refuses
 length-is (b ∷ s) =
     holds-cond (between 49 57 b && leb (length s) 3) (λ e.
     holds-bind (holds-as (λ f. 3) (numeral-ge digit (b - 48) s)) (λ n g.
-    holds-cond (leb n 4096) (λ l. holds (omega (arith, between-is 49 57 b (and-both _ _ e .0)), leb-true n 4096 l)) (λ _. refuses))) (λ _. refuses)
+    holds-cond (leb n mostElements) (λ l. holds (omega (arith, between-is 49 57 b (and-both _ _ e .0)), leb-true n mostElements l)) (λ _. refuses))) (λ _. refuses)
 
 abbrev Room : Len → Type 0
-Room l = (1 ≤ bound l) × (bound l ≤ 4096)
+Room l = (1 ≤ bound l) × (bound l ≤ mostElements)
 
 bounded-is : (t : List ℕ) → Holds Room (boundedLen t)
 unfolding boundedLen

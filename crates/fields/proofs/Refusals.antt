@@ -13,7 +13,7 @@ use Rattle.fields.specs.Fields.{readField, readValue, readValues, someNa
 use Rattle.number.specs.Number.{digit, numeral, readInteger}
 use Rattle.table.proofs.Laws.{Numbered, after-fails, cond-cases, fails-always, fails-as, fails-bind, fails-cond, fails-else, tag-fails}
 use Rattle.table.specs.Bytes.{after, between, byte, bytes, ends, same, skipWhite, words}
-use Rattle.table.specs.Cell.{columnOf, isScalar}
+use Rattle.table.specs.Cell.{columnOf, isScalar, mostElements}
 use Rattle.table.specs.Outcome.{Refusal, at, mostDeclarations}
 use Rattle.table.specs.Result.{Fails, Result, _>>=_, bad, fails, gives, good}
 use Rattle.table.specs.Shape.{Bits, Shape, Text, Truths, Whole, Width, last, shape}
@@ -103,7 +103,7 @@ unfolding lengthOf
 length-fails [] = fails three
 length-fails (b ∷ s) =
     fails-cond (between (byte "1") (byte "9") b && leb (length s) 3)
-    (fails-bind (fails-always (λ f. 3) (numeral digit 10 (b - 48) s) (λ f. three)) (λ n. fails-cond (leb n 4096) gives (fails three))) (fails three)
+    (fails-bind (fails-always (λ f. 3) (numeral digit 10 (b - 48) s) (λ f. three)) (λ n. fails-cond (leb n mostElements) gives (fails three))) (fails three)
 
 bounded-fails : (s : List ℕ) → Fails (Numbered 1 6) (boundedLen s)
 unfolding boundedLen

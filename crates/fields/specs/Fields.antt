@@ -7,7 +7,7 @@ use lib.Dec.{eqb, leb, ltb}
 use lib.ListN.{length}
 use Rattle.number.specs.Number.{digit, numeral, readInteger}
 use Rattle.table.specs.Bytes.{after, between, byte, bytes, ends, isWhite, same, skipWhite, tag, words}
-use Rattle.table.specs.Cell.{columnOf, isScalar}
+use Rattle.table.specs.Cell.{columnOf, isScalar, mostElements}
 use Rattle.table.specs.Outcome.{Refusal, at, mostDeclarations}
 use Rattle.table.specs.Result.{Result, _>>=_, bad, good, orElse, refusedAs}
 use Rattle.table.specs.Shape.{Bits, Shape, Text, Truths, Whole, Width, last, shape}
@@ -153,7 +153,7 @@ unfoldable pub lengthOf : List ℕ → Result ℕ ℕ
 lengthOf [] = bad 3
 lengthOf (b ∷ s) =
     cond (between (byte "1") (byte "9") b && leb (length s) 3)
-    (refusedAs (λ f. 3) (numeral digit 10 (b - 48) s) >>= λ n. cond (leb n 4096) (good n) (bad 3)) (bad 3)
+    (refusedAs (λ f. 3) (numeral digit 10 (b - 48) s) >>= λ n. cond (leb n mostElements) (good n) (bad 3)) (bad 3)
 
 -- what comes before a last `*`, where one is
 unfoldable pub beforeStar : List ℕ → Option (List ℕ)

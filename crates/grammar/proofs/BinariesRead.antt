@@ -26,7 +26,7 @@ use Rattle.number.proofs.Laws.{all-to, length-to, of-lt, of-to, to-of}
 use Rattle.number.specs.Number.{ofDigits, toDigits}
 use Rattle.table.proofs.Laws.{all-append, all-drop, all-take, and-both, cond-cases, holds-bind, holds-cond, holds-weaken}
 use Rattle.table.specs.All.{All, AreBytes}
-use Rattle.table.specs.Cell.{Cell, emptyIsNull, null, show, shown}
+use Rattle.table.specs.Cell.{Cell, emptyIsNull, mostElements, null, show, shown}
 use Rattle.table.specs.Outcome.{at}
 use Rattle.table.specs.Result.{Holds, Result, _>>=_, every, good, holds, refuses}
 use Rattle.table.specs.Shape.{Bits, Shape, Text, Truths, Whole, Width, last, shape}
@@ -271,7 +271,7 @@ counted-read : {l : Len} {b : List ℕ} {m : ℕ} → Counted l b m → (t : Lis
 unfolding countIn
 counted-read counted-fixed t = refl
 counted-read (counted-bounded {n = n} e h) t = count-read n e h t
-counted-read (counted-free e h) t = count-read 4096 e h t
+counted-read (counted-free e h) t = count-read mostElements e h t
 
 count-is : (most : ℕ) (s : List ℕ) → Holds (Front (λ (b : List ℕ) (m : ℕ). BigEndian 4 b m × (m ≤ most)) s) (counted most s)
 unfolding counted atMost
@@ -283,7 +283,7 @@ counted-is : (l : Len) (s : List ℕ) → Holds (Front (Counted l) s) (countIn l
 unfolding countIn
 counted-is (Fixed n) s = holds (record { taken = []; whole = refl; spelled = counted-fixed })
 counted-is (Bounded n) s = holds-weaken (count-is n s) (λ p h. record { taken = h .taken; whole = h .whole; spelled = counted-bounded (h .spelled .0) (h .spelled .1) })
-counted-is Free s = holds-weaken (count-is 4096 s) (λ p h. record { taken = h .taken; whole = h .whole; spelled = counted-free (h .spelled .0) (h .spelled .1) })
+counted-is Free s = holds-weaken (count-is mostElements s) (λ p h. record { taken = h .taken; whole = h .whole; spelled = counted-free (h .spelled .0) (h .spelled .1) })
 
 -- ---- cells
 

@@ -25,7 +25,7 @@ use Rattle.number.specs.Number.{digit, numeral}
 use Rattle.table.proofs.Laws.{and-both, between-is, between-yes, cond-cases, holds-as, holds-at, holds-bind, holds-cond, holds-weaken, no-white}
 use Rattle.table.specs.All.{All}
 use Rattle.table.specs.Bytes.{between, bytes, same, skipWhite}
-use Rattle.table.specs.Cell.{AreColumns, columnOf, isScalar}
+use Rattle.table.specs.Cell.{AreColumns, columnOf, isScalar, mostElements}
 use Rattle.table.specs.Outcome.{Refusal, at, mostDeclarations}
 use Rattle.table.specs.Result.{Holds, Result, good, holds, refuses}
 use Rattle.table.specs.Shape.{Bits, Shape, Text, Truths, Whole, Width, last, shape}
@@ -69,7 +69,7 @@ unfolding lengthOf
 size-read {n = n} (size-text {b = b} {s = s} m z l h) =
     let k : (48 ≤ b) × (b ≤ 57) = numeral-all (λ (b : ℕ). (48 ≤ b) × (b ≤ 57)) digit-between m .0 in
     let q : 49 ≤ b = one-up b (k .0) z in
-    rw (between-yes 49 57 b q (k .1), le-leb (length s) 3 (omega arith), first-digit b s n q (k .1) (numeral-read digit Digit 10 digit-read digit-is m), le-leb n 4096 (omega arith))
+    rw (between-yes 49 57 b q (k .1), le-leb (length s) 3 (omega arith), first-digit b s n q (k .1) (numeral-read digit Digit 10 digit-read digit-is m), le-leb n mostElements (omega arith))
   where
     one-up : (b : ℕ) → 48 ≤ b → (b ≡ 48 → ⊥) → 49 ≤ b
     one-up b h z = elim (decLe 49 b) [ yes k ↦ k | no k ↦ absurd (z (omega arith)) ]
@@ -85,7 +85,9 @@ size-is (b ∷ s) =
     let k = and-both (between 49 57 b) (leb (length s) 3) h in
     let i = between-is 49 57 b (k .0) in
     holds-bind (holds-as (λ f. 3) (numeral-from digit Digit 10 digit-read digit-is (b ∷ []) (b - 48) (one-digit (holds-at (digit-is b) (digit-at b i))) s)) (λ n m.
-    holds-cond (leb n 4096) (λ l. holds (size-text m (λ e. omega (arith, i .0, e)) (omega (arith, leb-true (length s) 3 (k .1))) (omega (arith, leb-true n 4096 l)))) (λ _. refuses))) (λ _. refuses)
+    holds-cond (leb n mostElements)
+    (λ l. holds (size-text m (λ e. omega (arith, i .0, e)) (omega (arith, leb-true (length s) 3 (k .1))) (omega (arith, leb-true n mostElements l)))) (λ _. refuses)))
+    (λ _. refuses)
   where
     digit-at : (b : ℕ) → (49 ≤ b) × (b ≤ 57) → digit b ≡ good (b - 48)
     digit-at b i = unfold digit in rw (between-yes 48 57 b (omega arith) (i .1))

@@ -26,7 +26,7 @@ use Rattle.number.specs.Number.{digit, hexadigit, numeral, sized}
 use Rattle.table.proofs.Laws.{and-both, between-is, between-yes, cond-cases, holds-as, holds-bind, holds-cond, holds-else, holds-weaken, nil-not-null, no-white, or-either}
 use Rattle.table.specs.All.{All}
 use Rattle.table.specs.Bytes.{after, between, bytes, ends, isWhite, same, skipWhite, tag, words}
-use Rattle.table.specs.Cell.{Cell, bound, emptyIsNull, isNullList, null, roomFits, roomIn, show, shown, standsForNull}
+use Rattle.table.specs.Cell.{Cell, bound, emptyIsNull, isNullList, mostElements, null, roomFits, roomIn, show, shown, standsForNull}
 use Rattle.table.specs.Outcome.{at}
 use Rattle.table.specs.Result.{Holds, Result, _>>=_, bad, good, holds, orElse, refuses}
 use Rattle.table.specs.Shape.{Bits, Shape, Text, Truths, Whole, last, shape}
@@ -310,7 +310,7 @@ unfolding roomFits
 many-read {k} (many-fixed {n = n}) = rw (room-self k n, le-leb n n (le-refl n))
 many-read (many-shorter {n = n} {m = m} e h) = rw (e, le-leb m n h)
 many-read {k} (many-bounded {n = n} {m = m} h) = rw (room-self k m, le-leb m n h)
-many-read {k} (many-free {m = m} h) = rw (room-self k m, le-leb m 4096 h)
+many-read {k} (many-free {m = m} h) = rw (room-self k m, le-leb m mostElements h)
 
 many-is : (k : Shape) (l : Len) (m : ℕ) → (roomFits k (roomIn l m) m && leb m (bound l)) ≡ true → Many k l m
 many-is k (Fixed n) m h = go k (and-both (roomFits k n m) (leb m n) h .0)
@@ -321,7 +321,7 @@ many-is k (Fixed n) m h = go k (and-both (roomFits k n m) (leb m n) h .0)
     go (Whole g v) h = unfold roomFits in rw (eqb-true m n h) many-fixed
     go Text h = unfold roomFits in many-shorter refl (leb-true m n h)
 many-is k (Bounded n) m h = many-bounded (leb-true m n (and-both (roomFits k m m) (leb m n) h .1))
-many-is k Free m h = many-free (leb-true m 4096 (and-both (roomFits k m m) (leb m 4096) h .1))
+many-is k Free m h = many-free (leb-true m mostElements (and-both (roomFits k m m) (leb m mostElements) h .1))
 
 -- ---- what a cell's characters show
 

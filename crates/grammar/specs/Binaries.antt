@@ -8,7 +8,7 @@ use lib.ListN.{length, replicate}
 use Rattle.grammar.specs.Shown.{Shows}
 use Rattle.grammar.specs.Words.{Itself, Numeral, Stands, TruthLetter}
 use Rattle.table.specs.All.{All}
-use Rattle.table.specs.Cell.{Cell, null, shown}
+use Rattle.table.specs.Cell.{Cell, mostElements, null, shown}
 use Rattle.table.specs.Shape.{Bits, Shape, Text, Truths, Whole, Width, last, shape}
 use Rattle.table.specs.declared.Column.{Column}
 use Rattle.table.specs.declared.Len.{Len}
@@ -98,7 +98,7 @@ pub data Counted : Len → List ℕ → ℕ → Type 0 where
   -- "Bounded and free columns begin with a 4-byte unsigned count of elements, not bytes."
   counted-bounded : {n m : ℕ} {b : List ℕ} → BigEndian 4 b m → m ≤ n → Counted (Bounded n) b m
   -- "free `*` (4,096)"
-  counted-free : {m : ℕ} {b : List ℕ} → BigEndian 4 b m → m ≤ 4096 → Counted Free b m
+  counted-free : {m : ℕ} {b : List ℕ} → BigEndian 4 b m → m ≤ mostElements → Counted Free b m
 
 -- a cell of BINARY2, under a null flag or not
 pub data Binary2Cell (c : Column) : Bool → List ℕ → Cell → Type 0 where

@@ -8,7 +8,7 @@ use lib.IntN.{ℤ}
 use lib.ListN.{length}
 use Rattle.grammar.specs.Words.{Digit, IntegerWord, Numeral, Tag, Trimmed, White}
 use Rattle.table.specs.Bytes.{byte, bytes, isWhite}
-use Rattle.table.specs.Cell.{columnOf, isScalar}
+use Rattle.table.specs.Cell.{columnOf, isScalar, mostElements}
 use Rattle.table.specs.Shape.{Bits, Shape, Text, Truths, Whole, Width, last, shape}
 use Rattle.table.specs.declared.Column.{Column}
 use Rattle.table.specs.declared.Kind.{Kind}
@@ -115,7 +115,7 @@ pub data Datatype : List ℕ → Kind → Type 0 where
 -- the n of a length
 pub data SizeText : List ℕ → ℕ → Type 0 where
   -- "`n` is one to four digits, the first not 0, at most 4096."
-  size-text : {b : ℕ} {s : List ℕ} {n : ℕ} → Numeral Digit 10 (b ∷ s) n → (b ≡ byte "0" → ⊥) → length (b ∷ s) ≤ 4 → n ≤ 4096 → SizeText (b ∷ s) n
+  size-text : {b : ℕ} {s : List ℕ} {n : ℕ} → Numeral Digit 10 (b ∷ s) n → (b ≡ byte "0" → ⊥) → length (b ∷ s) ≤ 4 → n ≤ mostElements → SizeText (b ∷ s) n
 
 -- "The length of a column is one of three shapes"
 pub data Arraysize : Option (List ℕ) → Len → Type 0 where

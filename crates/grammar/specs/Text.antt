@@ -9,7 +9,7 @@ use Rattle.grammar.specs.Shown.{Shows}
 use Rattle.grammar.specs.Words.{BitLetters, Digit, Hexadigit, IntegerWord, Numeral, Spaced, Tag, Trimmed, TruthWord, White}
 use Rattle.table.specs.All.{All}
 use Rattle.table.specs.Bytes.{byte, bytes}
-use Rattle.table.specs.Cell.{Cell, null}
+use Rattle.table.specs.Cell.{Cell, mostElements, null}
 use Rattle.table.specs.Shape.{Bits, Shape, Text, Truths, Whole, Width, last, shape}
 use Rattle.table.specs.declared.Column.{Column}
 use Rattle.table.specs.declared.Len.{Len}
@@ -70,7 +70,7 @@ pub data Many (k : Shape) : Len → ℕ → Type 0 where
   -- not "over the bound in another"
   many-bounded : {n m : ℕ} → m ≤ n → Many k (Bounded n) m
   -- "free `*` (4,096)"
-  many-free : {m : ℕ} → m ≤ 4096 → Many k Free m
+  many-free : {m : ℕ} → m ≤ mostElements → Many k Free m
 
 -- what a cell's characters show
 pub data TextShows (c : Column) : List ℕ → Cell → Type 0 where

@@ -20,7 +20,7 @@ use Rattle.rows.specs.Bounds.{Bounded, Within}
 use Rattle.rows.specs.Stream.{flag, flagsLeft, readCell, readCells, readRow}
 use Rattle.table.proofs.Laws.{all-drop, holds-at}
 use Rattle.table.specs.All.{All}
-use Rattle.table.specs.Cell.{Cell, bound, null, shown}
+use Rattle.table.specs.Cell.{Cell, bound, mostElements, null, shown}
 use Rattle.table.specs.Contracts.{FoundWithin, Reads, foundAs}
 use Rattle.table.specs.Outcome.{Refusal, at}
 use Rattle.table.specs.Result.{Result, _>>=_, bad, good, refusedAs}
@@ -31,7 +31,7 @@ use Rattle.table.specs.declared.Rows.{Rows}
 
 -- ---- the columns that are declared
 
-pub listed-bound : (cols : Columns) (i : ℕ) → Within (listed cols) → i < cols .count → bound (getD (cols .list) i noColumn .len) ≤ 4096
+pub listed-bound : (cols : Columns) (i : ℕ) → Within (listed cols) → i < cols .count → bound (getD (cols .list) i noColumn .len) ≤ mostElements
 listed-bound cols i a h =
     let d : All Bounded (drop i (listed cols)) = all-drop Bounded i (listed cols) (a .each) in
     subst (All Bounded) (listed-next cols i h) d .0 .1

@@ -17,7 +17,7 @@ use text::skip_white;
 ghost use mathlib.Core.Path.{_≡_};
 ghost use Prim.Native.Nat.{_<_, _≤_};
 ghost use lib.ListN.{drop, length};
-ghost use Rattle.table.specs.Cell.{bound};
+ghost use Rattle.table.specs.Cell.{bound, mostElements};
 ghost use Rattle.table.specs.Contracts.{Reads};
 ghost use Rattle.table.specs.Outcome.{answerOf};
 ghost use Rattle.table.specs.ColumnList.{listed};
@@ -124,7 +124,7 @@ pub fn read_cell(
     flagged: bool,
     scratch: &mut [i64],
 ) -> Found
-    requires { ⌜ (at ≤ length (now s)) × (bound (column .len) ≤ 4096) × (4096 ≤ length (now scratch)) ⌝ }
+    requires { ⌜ (at ≤ length (now s)) × (bound (column .len) ≤ mostElements) × (mostElements ≤ length (now scratch)) ⌝ }
     ensures { λ r. ⌜ Reads (readCell from column flagged (drop at (now (s .entry)))) (now (s .entry)) at (now (scratch .entry)) (now (scratch .exit)) r ⌝ }
 {
     match from {
@@ -144,7 +144,7 @@ fn pass_cell(
     flagged: bool,
     scratch: &mut [i64],
 ) -> Next
-    requires { ⌜ (at ≤ length (now s)) × (bound (column .len) ≤ 4096) × (4096 ≤ length (now scratch)) ⌝ }
+    requires { ⌜ (at ≤ length (now s)) × (bound (column .len) ≤ mostElements) × (mostElements ≤ length (now scratch)) ⌝ }
     ensures { λ r. ⌜ PassesCell (readCell from column flagged (drop at (now (s .entry)))) (now (s .entry)) at r ⌝ }
     ensures { λ _. ⌜ length (now (scratch .exit)) ≡ length (now (scratch .entry)) ⌝ }
 {
@@ -165,7 +165,7 @@ fn pass_cells(
     body: usize,
     scratch: &mut [i64],
 ) -> Passed
-    requires { ⌜ Within (listed cols) × (body ≤ length (now s)) × (4096 ≤ length (now scratch)) ⌝ }
+    requires { ⌜ Within (listed cols) × (body ≤ length (now s)) × (mostElements ≤ length (now scratch)) ⌝ }
     ensures { λ r. ⌜ PassesCells (cellsEnd from (listed cols) (flagsIn from (cols .count) flags) (drop body (now (s .entry)))) (now (s .entry)) body r ⌝ }
     ensures { λ _. ⌜ length (now (scratch .exit)) ≡ length (now (scratch .entry)) ⌝ }
 {
@@ -193,7 +193,7 @@ fn pass_cells(
 
 // The row at a place.
 pub fn pass_row(cols: Columns, from: Rows, s: &[u8], at: usize, scratch: &mut [i64]) -> Passed
-    requires { ⌜ Within (listed cols) × (at ≤ length (now s)) × (4096 ≤ length (now scratch)) ⌝ }
+    requires { ⌜ Within (listed cols) × (at ≤ length (now s)) × (mostElements ≤ length (now scratch)) ⌝ }
     ensures { λ r. ⌜ PassesRow (readRow from (listed cols) (drop at (now (s .entry)))) (now (s .entry)) at r ⌝ }
     ensures { λ _. ⌜ length (now (scratch .exit)) ≡ length (now (scratch .entry)) ⌝ }
 {
@@ -207,7 +207,7 @@ pub fn pass_row(cols: Columns, from: Rows, s: &[u8], at: usize, scratch: &mut [i
 
 // A whole stream: how many rows it has, or the refusal of the first that does not read.
 pub fn pass_rows(cols: Columns, from: Rows, s: &[u8], scratch: &mut [i64]) -> Answer
-    requires { ⌜ Within (listed cols) × (4096 ≤ length (now scratch)) ⌝ }
+    requires { ⌜ Within (listed cols) × (mostElements ≤ length (now scratch)) ⌝ }
     ensures { λ r. ⌜ r ≡ answerOf (passed 0 (read from (listed cols) (now (s .entry)))) ⌝ }
 {
     let mut at: usize = 0;

@@ -12,13 +12,13 @@ use Rattle.binary.specs.Binary.{bitBytes, writeBinary, writeBinary2}
 use Rattle.number.proofs.Laws.{length-to}
 use Rattle.number.proofs.Decimal.{shortest-most}
 use Rattle.number.specs.Number.{shortest, toDigits}
-use Rattle.row_writing.specs.Contracts.{SizeWithin, startBytes}
+use Rattle.row_writing.specs.Contracts.{SizeWithin, mostCellBytes, startBytes}
 use Rattle.rows.proofs.Laws.{write-cell-fails}
 use Rattle.rows.specs.Stream.{writeCell}
 use Rattle.table.proofs.Laws.{all-map, bad-good, cond-cases, fails-at, holds-bind, holds-cond, holds-weaken}
 use Rattle.table.specs.All.{All}
 use Rattle.table.specs.Bytes.{byte, bytes}
-use Rattle.table.specs.Cell.{Cell, bound, null, shown}
+use Rattle.table.specs.Cell.{Cell, bound, mostElements, null, shown}
 use Rattle.table.specs.Contracts.{formBytes, sizeAs, sizeOf}
 use Rattle.table.specs.Result.{Holds, Result, bad, good, holds, refuses}
 use Rattle.table.specs.Shape.{Bits, Shape, Text, Truths, Whole, shape}
@@ -67,7 +67,7 @@ tagged-length : (t : List ℕ) → length (tagged t) ≡ length t + 9
 unfolding tagged open-TD close-TD
 tagged-length t = ap (λ (n : ℕ). suc (suc (suc (suc n)))) (length-append t (bytes "</TD>")) ∙ omega arith
 
-write-text-small : (c : Column) (x : Cell) → bound (c .len) ≤ 4096 → Few c x → Holds (λ (b : List ℕ). length b ≤ 100000) (writeText c x)
+write-text-small : (c : Column) (x : Cell) → bound (c .len) ≤ mostElements → Few c x → Holds (λ (b : List ℕ). length b ≤ mostCellBytes) (writeText c x)
 unfolding writeText
 write-text-small c null b f = holds (lit≤ tt)
 write-text-small c (shown []) b f = refuses
@@ -76,11 +76,11 @@ write-text-small c (shown (e ∷ es)) b f =
 
 -- ---- of any kind
 
-form-small : (r : Result ℕ (List ℕ)) → length (formBytes r) ≤ 40000 → Holds (λ (b : List ℕ). length b ≤ 100000) r
+form-small : (r : Result ℕ (List ℕ)) → length (formBytes r) ≤ 40000 → Holds (λ (b : List ℕ). length b ≤ mostCellBytes) r
 form-small (good b) h = holds {a = b} (omega arith)
 form-small (bad n) h = refuses
 
-pub cell-small : (to : Rows) (c : Column) (x : Cell) → bound (c .len) ≤ 4096 → Few c x → Holds (λ (b : List ℕ). length b ≤ 100000) (writeCell to c x)
+pub cell-small : (to : Rows) (c : Column) (x : Cell) → bound (c .len) ≤ mostElements → Few c x → Holds (λ (b : List ℕ). length b ≤ mostCellBytes) (writeCell to c x)
 unfolding writeCell
 cell-small TableData c x b f = write-text-small c x b f
 cell-small Binary c x b f = form-small (writeBinary c x) (binary-size c x b f)
@@ -88,7 +88,7 @@ cell-small Binary2 c x b f = form-small (good (writeBinary2 c x)) (binary2-size 
 
 -- ---- a cell's size
 
-good-within : (n : ℕ) (x : Result ℕ (List ℕ)) → Holds (λ (b : List ℕ). length b ≤ 100000) x → good n ≡ sizeOf x → n ≤ 100000
+good-within : (n : ℕ) (x : Result ℕ (List ℕ)) → Holds (λ (b : List ℕ). length b ≤ mostCellBytes) x → good n ≡ sizeOf x → n ≤ mostCellBytes
 good-within n x (holds {a = b} h) e = let q : n ≡ length b = cc in omega arith
 good-within n x refuses e = absurd (bad-good (sym e))
 
@@ -96,11 +96,11 @@ sized-bad : (n : ℕ) (x : Result ℕ (List ℕ)) → bad n ≡ sizeOf x → x �
 sized-bad n (good b) e = absurd (bad-good e)
 sized-bad n (bad k) e = let q : n ≡ k = cc in rw q
 
-size-within : (to : Rows) (c : Column) (x : Cell) (r : Size) → Holds (λ (b : List ℕ). length b ≤ 100000) (writeCell to c x) → sizeAs r ≡ sizeOf (writeCell to c x) → SizeWithin r
+size-within : (to : Rows) (c : Column) (x : Cell) (r : Size) → Holds (λ (b : List ℕ). length b ≤ mostCellBytes) (writeCell to c x) → sizeAs r ≡ sizeOf (writeCell to c x) → SizeWithin r
 size-within to c x (Bytes n) h e = good-within n (writeCell to c x) h e
 size-within to c x (NoForm n) h e = omega (arith, fails-at (write-cell-fails to c x) (sized-bad n (writeCell to c x) e) .0)
 
-pub sized : (to : Rows) (c : Column) (x : Cell) (r : Size) → bound (c .len) ≤ 4096 → Few c x → sizeAs r ≡ sizeOf (writeCell to c x) → (sizeAs r ≡ sizeOf (writeCell to c x)) × SizeWithin r
+pub sized : (to : Rows) (c : Column) (x : Cell) (r : Size) → bound (c .len) ≤ mostElements → Few c x → sizeAs r ≡ sizeOf (writeCell to c x) → (sizeAs r ≡ sizeOf (writeCell to c x)) × SizeWithin r
 sized to c x r b f e = (e, size-within to c x r (cell-small to c x b f) e)
 
 -- ---- what begins a row that is written

@@ -32,9 +32,13 @@ startBytes TableData count nulls = open-TR ++ bytes ">"
 startBytes Binary count nulls = []
 startBytes Binary2 count nulls = pack (toDigits 2 count nulls)
 
--- no cell takes more than 100,000 bytes, and no refusal has the number 0
+-- no cell takes more bytes than these
+abbrev pub mostCellBytes : ℕ
+mostCellBytes = 100000
+
+-- so much and no more, and no refusal has the number 0
 abbrev pub SizeWithin : Size → Type 0
-SizeWithin (Bytes n) = n ≤ 100000
+SizeWithin (Bytes n) = n ≤ mostCellBytes
 SizeWithin (NoForm n) = 0 < n
 
 -- ---- the cells of a row, held in the scratch

@@ -20,7 +20,7 @@ ghost use mathlib.Core.Path.{_≡_};
 ghost use mathlib.Core.Bool.{false};
 ghost use Prim.Native.Nat.{ℕ, _+_, _<_, _≤_};
 ghost use lib.ListN.{drop, length};
-ghost use Rattle.table.specs.Cell.{bound};
+ghost use Rattle.table.specs.Cell.{bound, mostElements};
 ghost use Rattle.table.specs.Contracts.{held, sizeAs, sizeOf};
 ghost use Rattle.table.specs.Wrote.{Wrote};
 ghost use Rattle.table.specs.ColumnList.{listed};
@@ -49,7 +49,7 @@ struct Writing {
 // ---- what each kind of rows does
 
 pub fn size_cell(to: Rows, column: Column, null: bool, count: usize, scratch: &[i64]) -> Size
-    requires { ⌜ (bound (column .len) ≤ 4096) × (count ≤ bound (column .len)) × (count ≤ length (now scratch)) ⌝ }
+    requires { ⌜ (bound (column .len) ≤ mostElements) × (count ≤ bound (column .len)) × (count ≤ length (now scratch)) ⌝ }
     ensures { λ r. ⌜ (sizeAs r ≡ sizeOf (writeCell to column (held null count (now (scratch .entry))))) × SizeWithin r ⌝ }
 {
     match to {
@@ -69,7 +69,7 @@ fn write_cell(
     out: &mut [u8],
     at: usize,
 ) -> usize
-    requires { ⌜ (bound (column .len) ≤ 4096) × (count ≤ bound (column .len)) × (count ≤ length (now scratch)) ⌝ }
+    requires { ⌜ (bound (column .len) ≤ mostElements) × (count ≤ bound (column .len)) × (count ≤ length (now scratch)) ⌝ }
     requires { ⌜ at + length (cellBytes to column (held null count (now scratch))) ≤ length (now out) ⌝ }
     ensures { λ r. ⌜ Wrote (now (out .entry)) at (cellBytes to column (held null count (now (scratch .entry)))) (now (out .exit)) r ⌝ }
 {
@@ -146,7 +146,7 @@ fn rewrite(
     scratch: &mut [i64],
     out: &mut [u8],
 ) -> Writing
-    requires { ⌜ (w .at ≤ length (now s)) × (bound (column .len) ≤ 4096) × (4096 ≤ length (now scratch)) ⌝ }
+    requires { ⌜ (w .at ≤ length (now s)) × (bound (column .len) ≤ mostElements) × (mostElements ≤ length (now scratch)) ⌝ }
     requires { ⌜ w .to + length (cellForm to column (readCell from column flagged (drop (w .at) (now s)))) ≤ length (now out) ⌝ }
     ensures { λ r. ⌜ Rewritten (readCell from) to column flagged (now (s .entry)) w (now (out .entry)) (now (out .exit)) r ⌝ }
     ensures { λ _. ⌜ length (now (scratch .exit)) ≡ length (now (scratch .entry)) ⌝ }
@@ -180,7 +180,7 @@ fn write_row(
     at: usize,
     scratch: &mut [i64],
 ) -> usize
-    requires { ⌜ Within (listed cols) × (body ≤ length (now s)) × (4096 ≤ length (now scratch)) ⌝ }
+    requires { ⌜ Within (listed cols) × (body ≤ length (now s)) × (mostElements ≤ length (now scratch)) ⌝ }
     requires { ⌜ at + length (rowBytes to (cols .count) nulls (readForm from to cols flags (drop body (now s)))) ≤ length (now out) ⌝ }
     ensures { λ r. ⌜ Wrote (now (out .entry)) at (rowBytes to (cols .count) nulls (readForm from to cols flags (drop body (now (s .entry))))) (now (out .exit)) r ⌝ }
     ensures { λ _. ⌜ length (now (scratch .exit)) ≡ length (now (scratch .entry)) ⌝ }
@@ -218,7 +218,7 @@ fn held_at(scratch: &[i64], at: usize) -> Held
 
 // Writes a cell that the scratch holds.
 fn write_held_cell(w: Writing, to: Rows, column: Column, scratch: &[i64], out: &mut [u8]) -> Writing
-    requires { ⌜ (bound (column .len) ≤ 4096) × HeldAt column (drop (w .at) (now scratch)) ⌝ }
+    requires { ⌜ (bound (column .len) ≤ mostElements) × HeldAt column (drop (w .at) (now scratch)) ⌝ }
     requires { ⌜ w .to + length (cellForm to column (heldNext column false (drop (w .at) (now scratch)))) ≤ length (now out) ⌝ }
     ensures { λ r. ⌜ Rewritten heldNext to column false (now (scratch .entry)) w (now (out .entry)) (now (out .exit)) r ⌝ }
 {
@@ -281,7 +281,7 @@ pub fn put_row(
     at: usize,
     scratch: &mut [i64],
 ) -> usize
-    requires { ⌜ Within (listed cols) × (body ≤ length (now s)) × (4096 ≤ length (now scratch)) × HeldReady (listed cols) (now scratch) holding ⌝ }
+    requires { ⌜ Within (listed cols) × (body ≤ length (now s)) × (mostElements ≤ length (now scratch)) × HeldReady (listed cols) (now scratch) holding ⌝ }
     requires { ⌜ at + length (rowBytes to (cols .count) nulls (putForm from to cols flags (drop body (now s)) (now scratch) holding)) ≤ length (now out) ⌝ }
     ensures { λ e. ⌜ Wrote (now (out .entry)) at (rowBytes to (cols .count) nulls (putForm from to cols flags (drop body (now (s .entry))) (now (scratch .entry)) holding)) (now (out .exit)) e ⌝ }
     ensures { λ _. ⌜ length (now (scratch .exit)) ≡ length (now (scratch .entry)) ⌝ }

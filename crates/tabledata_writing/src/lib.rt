@@ -9,6 +9,7 @@ use tabledata::is_text;
 use text::put_bytes;
 ghost use Prim.Native.Nat.{_+_, _≤_};
 ghost use Rattle.number.specs.Number.{shortest};
+ghost use Rattle.table.specs.Cell.{mostElements};
 ghost use Rattle.table.specs.Contracts.{formBytes, held, sizeAs, sizeOf};
 ghost use Rattle.table.specs.Shape.{Bits, Text, shape};
 ghost use Rattle.table.specs.Wrote.{Wrote};
@@ -48,7 +49,7 @@ fn form_size(c: u32) -> usize
 }
 
 fn chars_size(count: usize, scratch: &[i64]) -> Size
-    requires { ⌜ (count ≤ length (now scratch)) × (count ≤ 4096) ⌝ }
+    requires { ⌜ (count ≤ length (now scratch)) × (count ≤ mostElements) ⌝ }
     ensures { λ r. ⌜ sizeAs r ≡ sizeWith 9 (forms (take count (now (scratch .entry)))) ⌝ }
 {
     let mut size = 9;
@@ -65,7 +66,7 @@ fn chars_size(count: usize, scratch: &[i64]) -> Size
 }
 
 fn integers_size(count: usize, scratch: &[i64]) -> usize
-    requires { ⌜ (count ≤ length (now scratch)) × (count ≤ 4096) ⌝ }
+    requires { ⌜ (count ≤ length (now scratch)) × (count ≤ mostElements) ⌝ }
     ensures { λ r. ⌜ r ≡ 8 + length (joined (λ z. 32 ∷ shortest z) (take count (now (scratch .entry)))) ⌝ }
 {
     let mut size = 8;
@@ -79,7 +80,7 @@ fn integers_size(count: usize, scratch: &[i64]) -> usize
 
 // What a cell takes when it is written: its length, or 14, 16.
 pub fn size_text(column: Column, null: bool, count: usize, scratch: &[i64]) -> Size
-    requires { ⌜ (count ≤ length (now scratch)) × (count ≤ 4096) ⌝ }
+    requires { ⌜ (count ≤ length (now scratch)) × (count ≤ mostElements) ⌝ }
     ensures { λ r. ⌜ sizeAs r ≡ sizeOf (writeText column (held null count (now (scratch .entry)))) ⌝ }
 {
     if null {

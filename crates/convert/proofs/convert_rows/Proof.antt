@@ -13,7 +13,7 @@ use denote.Ref.{now}
 use native.Mathlib.Omega.{arith}
 use Rattle.convert.proofs.Converting.{Finished, RowsInv, acceptance, read-refusal, room-refusal, row-done, rows-start, write-refusal}
 use Rattle.convert.proofs.Measuring.{RowMeasured, held-ready, measured-more, measured-start, row-cannot, row-length, row-wrote}
-use Rattle.convert.specs.Contracts.{MeasuredBy, holdingOf}
+use Rattle.convert.specs.Contracts.{MeasuredBy, holdingOf, scratchLength}
 use Rattle.table.proofs.ColumnList.{listed-length, listed-next}
 use Rattle.table.specs.ColumnList.{listed, noColumn}
 use Rattle.row_reading.proofs.Parts.{RowRead, begun-within, cells-closed, cells-open, cells-stopped, closed-within, listed-bound}
@@ -133,7 +133,7 @@ within b =
     (b .before .before .b2 .given .1)
 
 -- the scratch is as long as at entry
-scratch-long : (b : Begun) (n : ℕ) → n ≡ length (rows-of b .rows .scratch) → 8192 ≤ n
+scratch-long : (b : Begun) (n : ℕ) → n ≡ length (rows-of b .rows .scratch) → scratchLength ≤ n
 scratch-long b n e = omega (arith, e, rows-of b .rows .inv .2, begin (rows-of b) .pre .1)
 
 -- the column of the turn

@@ -18,7 +18,7 @@ use Rattle.row_reading.proofs.CellsFit.{bytes-of, found-few}
 use Rattle.row_writing.specs.Contracts.{heldCell}
 use Rattle.rows.specs.Stream.{writeCell}
 use Rattle.table.specs.All.{AreBytes}
-use Rattle.table.specs.Cell.{bound, isNull, null, shown}
+use Rattle.table.specs.Cell.{bound, isNull, mostElements, null, shown}
 use Rattle.table.specs.Contracts.{FoundWithin, foundAs, sizeAs, sizeOf}
 use native.Mathlib.Omega.{arith}
 use borrow.Author.Needs.{needs, sfits-of}
@@ -59,7 +59,7 @@ most c =
     found-few (a .args .from) (a .args .column) (a .args .flagged) s (a .args .at) _ _ _ bytes (within c .2)
     (c .before .before .before .before .read-cell .ensures .found ∙ ap (foundAs s _) (c .before .found3 .given .1))
 
-few : (c : Told) → count c ≤ 4096
+few : (c : Told) → count c ≤ mostElements
 few c = omega (arith, most c, begin c .pre .3)
 
 fits : (c : Told) → place c < length (old c)

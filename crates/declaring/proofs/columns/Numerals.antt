@@ -17,12 +17,13 @@ use Rattle.number.proofs.Laws.{digit-no, digit-yes}
 use Rattle.number.specs.Number.{Fault, Unwritten, digit, numeral}
 use Rattle.table.proofs.Laws.{between-is, between-yes}
 use Rattle.table.specs.Bytes.{between}
+use Rattle.table.specs.Cell.{mostElements}
 use Rattle.table.specs.Result.{Result, _>>=_, bad, good, refusedAs}
 use Rattle.table.specs.declared.Len.the-variants.{Bounded, Free}
 
 -- what a numeral gives as a length
 abbrev pub capped : Result Fault ℕ → Result ℕ ℕ
-capped r = refusedAs (λ f. 3) r >>= λ n. cond (leb n 4096) (good n) (bad 3)
+capped r = refusedAs (λ f. 3) r >>= λ n. cond (leb n mostElements) (good n) (bad 3)
 
 pub length-none : (t : List ℕ) → length t ≡ 0 → lengthOf t ≡ bad 3
 unfolding lengthOf
@@ -68,11 +69,11 @@ module _ (n : ℕ) (t : List ℕ) (i : ℕ) where
   unfolding numeral
   numeral-more h k l = rw (next1 t i h) (rw (digit-yes (getD t i 0) k l))
 
-pub capped-yes : (r : Result Fault ℕ) (n : ℕ) → r ≡ good n → n ≤ 4096 → capped r ≡ good n
-capped-yes r n e h = rw e (rw (le-leb n 4096 h))
+pub capped-yes : (r : Result Fault ℕ) (n : ℕ) → r ≡ good n → n ≤ mostElements → capped r ≡ good n
+capped-yes r n e h = rw e (rw (le-leb n mostElements h))
 
-pub capped-more : (r : Result Fault ℕ) (n : ℕ) → r ≡ good n → 4096 < n → capped r ≡ bad 3
-capped-more r n e h = rw e (rw (lt-leb n 4096 h))
+pub capped-more : (r : Result Fault ℕ) (n : ℕ) → r ≡ good n → mostElements < n → capped r ≡ bad 3
+capped-more r n e h = rw e (rw (lt-leb n mostElements h))
 
 pub capped-no : (r : Result Fault ℕ) (f : Fault) → r ≡ bad f → capped r ≡ bad 3
 capped-no r f e = rw e
