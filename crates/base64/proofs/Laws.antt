@@ -11,7 +11,8 @@ use mathlib.Core.Path.{_∙_, _≡_, ap, ap₂, refl, sym}
 use lib.Dec.{eqb, lit<, ltb}
 use lib.ListN.{drop, length}
 use borrow.Author.Tests.{eq-eqb, eqb-true, le-ltb, lt-ltb, ltb-true, not-true}
-use Rattle.base64.specs.Base64.{decode, decodeCall, decoding, dense, encode, encodeCall, encoding, fours, inRoom, isPad, lastFour, letter, oneByte, sextet, sizedInput, stepOutcome, threeBytes, twoBytes}
+use Rattle.base64.specs.Base64.{decode, decodeCall, decoding, dense, encode, encodeCall, encoding, fours, inRoom, isPad}
+use Rattle.base64.specs.Base64.{lastFour, letter, oneByte, sextet, sizedInput, stepOutcome, threeBytes, twoBytes}
 use Rattle.table.proofs.Laws.{NoWhite, bad-good, between-is, each-below, holds-at, holds-bind, holds-cond, holds-weaken}
 use Rattle.table.specs.All.{All, AreBytes}
 use Rattle.table.specs.Bytes.{between, isWhite}

@@ -11,11 +11,14 @@ use lib.IntN.{negsuc, pos, ℤ}
 use lib.ListN.{drop, length, length-append, length-drop, length-map, length-replicate, length-take, replicate, take, take-append-drop}
 use lib.Seq.{drop-at, take-at}
 use borrow.Author.Tests.{eq-eqb, eqb-false, eqb-true, le-leb, le-ltb, leb-true, lt-ltb, ltb-false, ltb-true, ne-eqb}
-use Rattle.binary.specs.Binary.{allZero, atMost, beforeNul, bitBytes, bitOf, bitsOf, bytesOf, canBeEmpty, content, contentBytes, countBytes, countIn, counted, element, elementsBytes, firstBytes, groups, nullForm, number, numbers, numbersIn, pack, packed, readBinary, readBinary2, shows, truth, truthByte, unpack, writeBinary, writeBinary2, zeros}
+use Rattle.binary.specs.Binary.{allZero, atMost, beforeNul, bitBytes, bitOf, bitsOf, bytesOf, canBeEmpty, content, contentBytes, countBytes}
+use Rattle.binary.specs.Binary.{countIn, counted, element, elementsBytes, firstBytes, groups, nullForm, number, numbers, numbersIn, pack, packed}
+use Rattle.binary.specs.Binary.{readBinary, readBinary2, shows, truth, truthByte, unpack, writeBinary, writeBinary2, zeros}
 use Rattle.binary.specs.Contracts.{filledBytes}
 use Rattle.number.proofs.Laws.{all-to, in-range, length-to, of-lt, of-pattern, of-to, pattern-lt, to-of}
 use Rattle.number.specs.Number.{ofDigits, pattern, toDigits}
-use Rattle.table.proofs.Laws.{Numbered, all-append, all-drop, all-replicate, all-take, cond-cases, fails-bind, fails-cond, fails-every, holds-any, holds-bind, holds-cond, holds-weaken, same-self, show-fits}
+use Rattle.table.proofs.Laws.{Numbered, all-append, all-drop, all-replicate, all-take, cond-cases, fails-bind, fails-cond}
+use Rattle.table.proofs.Laws.{fails-every, holds-any, holds-bind, holds-cond, holds-weaken, same-self, show-fits}
 use Rattle.table.specs.All.{All, AreBytes}
 use Rattle.table.specs.Bytes.{byte}
 use Rattle.table.specs.Cell.{Cell, Elements, Fits, IsColumn, below, bound, columnOf, emptyIsNull, fits-null, fits-shown, isChar, isElement, isNull, isNullList, isOne, null, nullElement, nullOfKind, roomFits, roomIn, show, shown}

@@ -5,12 +5,10 @@ use Rattle.binary.proofs.Laws.{length-groups, length-pack, scalar-room}
 use Rattle.binary.proofs.Loops.{no-byte}
 use Rattle.binary.specs.Binary.{bitBytes, bitOf, bytesOf, canBeEmpty, contentBytes, countBytes, elementsBytes, groups, nullForm, number, pack, packed, truthByte, writeBinary, writeBinary2, zeros}
 use Rattle.number.proofs.Laws.{length-to, low-pattern, of-append, pattern-lt, pow-pos}
-use Rattle.number.specs.Contracts.{size}
 use Rattle.number.specs.Number.{ofDigits, pattern, toDigits}
 use Rattle.table.proofs.Laws.{last-le}
 use Rattle.table.specs.Cell.{bound, nullElement, nullOfKind, roomIn, shown}
 use Rattle.table.specs.Contracts.{held}
-use Rattle.table.specs.Outcome.{at}
 use Rattle.table.specs.Result.{bad, good}
 use Rattle.table.specs.Shape.{Bits, Shape, Text, Truths, Whole, Width, last, shape}
 use Rattle.table.specs.Wrote.{Wrote}

@@ -1,15 +1,21 @@
 -- A name whose line opens every definition at once: what computes by `refl` says `unfolding everything`.
 use Prim.Native.Nat.{ℕ}
-use Rattle.base64.specs.Base64.{decode, decodeCall, decoding, dense, encode, encodeCall, encoding, fours, inRoom, isPad, lastFour, letter, oneByte, sextet, sizedInput, stepOutcome, threeBytes, twoBytes}
-use Rattle.binary.specs.Binary.{allZero, atMost, beforeNul, bitBytes, bitOf, bitsOf, bytesOf, canBeEmpty, content, contentBytes, countBytes, countIn, counted, element, elementsBytes, firstBytes, groups, nullForm, number, numbers, numbersIn, pack, packed, readBinary, readBinary2, readFlags, shows, truth, truthByte, unpack, writeBinary, writeBinary2, zeros}
+use Rattle.base64.specs.Base64.{decode, decodeCall, decoding, dense, encode, encodeCall, encoding, fours, inRoom, isPad}
+use Rattle.base64.specs.Base64.{lastFour, letter, oneByte, sextet, sizedInput, stepOutcome, threeBytes, twoBytes}
+use Rattle.binary.specs.Binary.{allZero, atMost, beforeNul, bitBytes, bitOf, bitsOf, bytesOf, canBeEmpty, content, contentBytes, countBytes, countIn}
+use Rattle.binary.specs.Binary.{counted, element, elementsBytes, firstBytes, groups, nullForm, number, numbers, numbersIn, pack, packed, readBinary}
+use Rattle.binary.specs.Binary.{readBinary2, readFlags, shows, truth, truthByte, unpack, writeBinary, writeBinary2, zeros}
 use Rattle.demands.specs.Cases.{allPass, cameOut, cases, passes, sameAnswer}
 use Rattle.demands.specs.Demands.{output}
 use Rattle.demands.specs.Places.{cellsShow, contentShows, marksOf, rowShows, showsAt, streamShows, throughNul}
 use Rattle.demands.specs.Tables.{count, inOrder, lines, rowAt, rowLength, rowLengths, sum, upTo}
-use Rattle.fields.specs.Fields.{atMostOne, attributeComes, attributes, attributesF, beforeStar, begins, boundedLen, declare, exactlyOne, fieldBody, fieldsF, fieldsThen, isNameByte, judge, kindOf, kinds, lenBefore, lenOf, lengthOf, nameComes, nullOf, nullValue, readAttribute, readField, readValue, readValues, someName, spanName, spanValue, valuesOf}
+use Rattle.fields.specs.Fields.{atMostOne, attributeComes, attributes, attributesF, beforeStar, begins, boundedLen, declare, exactlyOne, fieldBody}
+use Rattle.fields.specs.Fields.{fieldsF, fieldsThen, isNameByte, judge, kindOf, kinds, lenBefore, lenOf, lengthOf, nameComes, nullOf, nullValue}
+use Rattle.fields.specs.Fields.{readAttribute, readField, readValue, readValues, someName, spanName, spanValue, valuesOf}
 use Rattle.number.specs.Number.{decimal, digit, digits, hexadecimal, hexadigit, numeral, ofDigits, ofPattern, pattern, ranged, readInteger, shortest, sized, toDigits, withSign}
 use Rattle.rows.specs.Convert.{convert, converting, underColumns}
-use Rattle.rows.specs.Stream.{atEnd, fitted, flag, flagsLeft, isEmpty, isSet, read, readCell, readCells, readEnd, readRow, readStart, run, write, writeCell, writeCells, writeEnd, writeRow, writeStart, wroteThen}
+use Rattle.rows.specs.Stream.{atEnd, fitted, flag, flagsLeft, isEmpty, isSet, read, readCell, readCells, readEnd, readRow}
+use Rattle.rows.specs.Stream.{readStart, run, write, writeCell, writeCells, writeEnd, writeRow, writeStart, wroteThen}
 use Rattle.rows.specs.Sequence.{rowThen, sequence, sequenceF}
 use Rattle.fields.specs.Front.{front}
 use Rattle.table.specs.Bytes.{after, attach, between, ends, isWhite, notEmpty, pieces, same, skipWhite, tag, words}
@@ -17,8 +23,24 @@ use Rattle.table.specs.Cell.{below, emptyIsNull, isElement, isNull, isNullList,
 use Rattle.table.specs.Outcome.{answerOf, at, bufferOf, ending, mostDeclarations, mostInput, rowsDone, written}
 use Rattle.table.specs.Result.{every}
 use Rattle.table.specs.Shape.{half, inRange}
-use Rattle.tabledata.specs.TableData.{allText, bitLetter, bitText, bitWords, cellText, characters, close-TD, close-TR, consText, countFits, elementBytes, elementText, emitted, escaped, expanded, follow, formOf, forms, integerWord, isText, lower, named, names, numeric, open-TD, open-TR, readText, spaced, step, tagged, textCell, textElements, truthLetter, truthText, truthWord, writeText}
+use Rattle.tabledata.specs.TableData.{allText, bitLetter, bitText, bitWords, cellText, characters, close-TD, close-TR, consText, countFits, elementBytes, elementText}
+use Rattle.tabledata.specs.TableData.{emitted, escaped, expanded, follow, formOf, forms, integerWord, isText, lower, named, names, numeric, open-TD, open-TR}
+use Rattle.tabledata.specs.TableData.{readText, spaced, step, tagged, textCell, textElements, truthLetter, truthText, truthWord, writeText}
 
 unfoldable pub everything : ℕ
-unfolding between isWhite same skipWhite after ends tag attach pieces notEmpty words roomFits nullElement sameInteger isNullList show emptyIsNull isNull below isElement at written rowsDone answerOf bufferOf ending mostInput mostDeclarations every half inRange ofDigits toDigits ofPattern pattern digit hexadigit numeral sized withSign ranged decimal hexadecimal readInteger digits shortest sextet letter isPad dense oneByte twoBytes threeBytes lastFour fours decode encode inRoom sizedInput stepOutcome decoding encoding decodeCall encodeCall truth truthByte bitOf element number bitBytes bitsOf packed pack allZero unpack readFlags contentBytes numbers beforeNul numbersIn content firstBytes atMost counted countIn shows readBinary2 readBinary countBytes groups bytesOf elementsBytes zeros writeBinary2 canBeEmpty nullForm writeBinary open-TD close-TD open-TR close-TR names named numeric expanded emitted step consText follow characters cellText isText allText lower truthLetter truthWord bitLetter bitWords integerWord textElements countFits textCell readText escaped formOf forms truthText bitText spaced elementText tagged writeText isNameByte spanName someName spanValue readValue readAttribute nameComes attributeComes attributesF attributes valuesOf atMostOne exactlyOne readValues begins fieldBody readField kinds kindOf lengthOf beforeStar boundedLen lenBefore lenOf nullValue nullOf judge fieldsThen fieldsF declare front underColumns converting convert readCell flag flagsLeft readCells isSet readStart readEnd readRow isEmpty atEnd rowThen sequenceF sequence read writeCell writeCells writeStart writeEnd writeRow fitted wroteThen write run cases sameAnswer cameOut passes allPass output throughNul contentShows cellsShow rowShows streamShows marksOf showsAt count upTo rowAt lines inOrder rowLength rowLengths sum elementBytes
+unfolding
+    between isWhite same skipWhite after ends tag attach pieces notEmpty words roomFits nullElement sameInteger isNullList show emptyIsNull
+    isNull below isElement at written rowsDone answerOf bufferOf ending mostInput mostDeclarations every half inRange ofDigits toDigits
+    ofPattern pattern digit hexadigit numeral sized withSign ranged decimal hexadecimal readInteger digits shortest sextet letter isPad dense
+    oneByte twoBytes threeBytes lastFour fours decode encode inRoom sizedInput stepOutcome decoding encoding decodeCall encodeCall truth
+    truthByte bitOf element number bitBytes bitsOf packed pack allZero unpack readFlags contentBytes numbers beforeNul numbersIn content
+    firstBytes atMost counted countIn shows readBinary2 readBinary countBytes groups bytesOf elementsBytes zeros writeBinary2 canBeEmpty
+    nullForm writeBinary open-TD close-TD open-TR close-TR names named numeric expanded emitted step consText follow characters cellText isText
+    allText lower truthLetter truthWord bitLetter bitWords integerWord textElements countFits textCell readText escaped formOf forms truthText
+    bitText spaced elementText tagged writeText isNameByte spanName someName spanValue readValue readAttribute nameComes attributeComes
+    attributesF attributes valuesOf atMostOne exactlyOne readValues begins fieldBody readField kinds kindOf lengthOf beforeStar boundedLen
+    lenBefore lenOf nullValue nullOf judge fieldsThen fieldsF declare front underColumns converting convert readCell flag flagsLeft readCells
+    isSet readStart readEnd readRow isEmpty atEnd rowThen sequenceF sequence read writeCell writeCells writeStart writeEnd writeRow fitted
+    wroteThen write run cases sameAnswer cameOut passes allPass output throughNul contentShows cellsShow rowShows streamShows marksOf showsAt
+    count upTo rowAt lines inOrder rowLength rowLengths sum elementBytes
 everything = 0

@@ -7,7 +7,9 @@ use mathlib.Core.Option.{Option, none, some}
 use lib.Dec.{eqb, leb, lit≤, ltb}
 use lib.ListN.{length}
 use borrow.Author.Tests.{eqb-false}
-use Rattle.fields.specs.Fields.{Field, atMostOne, attributeComes, attributes, attributesF, beforeStar, begins, boundedLen, declare, exactlyOne, fieldBody, fieldsF, fieldsThen, judge, kindOf, kinds, lenBefore, lenOf, lengthOf, nullOf, nullValue, readAttribute, readField, readValue, readValues, someName, spanName, spanValue, valuesOf}
+use Rattle.fields.specs.Fields.{Field, atMostOne, attributeComes, attributes, attributesF, beforeStar, begins, boundedLen, declare, exactlyOne}
+use Rattle.fields.specs.Fields.{fieldBody, fieldsF, fieldsThen, judge, kindOf, kinds, lenBefore, lenOf, lengthOf, nullOf, nullValue, readAttribute}
+use Rattle.fields.specs.Fields.{readField, readValue, readValues, someName, spanName, spanValue, valuesOf}
 use Rattle.number.specs.Number.{digit, numeral, readInteger}
 use Rattle.table.proofs.Laws.{Numbered, after-fails, cond-cases, fails-always, fails-as, fails-bind, fails-cond, fails-else, tag-fails}
 use Rattle.table.specs.Bytes.{after, between, byte, bytes, ends, same, skipWhite, words}

@@ -12,9 +12,8 @@ use Rattle.table.specs.Result.{_>>=_, bad, good}
 use borrow.Author.Tests.{eq-eqb, le-ltb, lt-ltb, ne-eqb}
 use lib.Arith.{digits-div, digits-mod}
 use lib.Dec.{eqb, lit<}
-use lib.Ieee.{lt}
 use lib.ListN.{drop, getD, length, length-drop, replicate, set, take}
-use lib.Pow.{high, low, mod-mod-pow, pow-add, pow-mono}
+use lib.Pow.{mod-mod-pow, pow-add, pow-mono}
 use lib.Seq.{drop-at, drop-cons, drop-drop, length-take-le, sets, take-at}
 use mathlib.Core.Bool.{cond}
 use mathlib.Core.List.{List, [], _++_, _∷_}

@@ -11,7 +11,8 @@ use borrow.Author.Tests.{eq-eqb, eqb-true, le-leb, lt-leb, ne-eqb}
 use Rattle.base64.proofs.Laws.{Decodes, acceptance, decode-0, decode-17, decode-6, decode-7, decode-accepted, decode-call, exact, refusal}
 use Rattle.base64.specs.Base64.{decode, decodeCall, dense, fours, isPad, lastFour, oneByte, sextet, threeBytes, twoBytes}
 use Rattle.grammar.proofs.Fronts.{same-good}
-use Rattle.grammar.specs.Base64Text.{Base64Text, Fours, Letter, Sparse, base64-text, fours-end, fours-one, fours-then, fours-two, letter-capital, letter-figure, letter-plus, letter-slash, letter-small, sparse-end, sparse-then, sparse-white}
+use Rattle.grammar.specs.Base64Text.{Base64Text, Fours, Letter, Sparse, base64-text, fours-end, fours-one, fours-then, fours-two, letter-capital}
+use Rattle.grammar.specs.Base64Text.{letter-figure, letter-plus, letter-slash, letter-small, sparse-end, sparse-then, sparse-white}
 use Rattle.grammar.specs.Exact.{InBase64}
 use Rattle.table.proofs.Laws.{between-is, cond-cases, holds-at, holds-bind, holds-cond, holds-weaken}
 use Rattle.table.specs.Bytes.{between, isWhite}

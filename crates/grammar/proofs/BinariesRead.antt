@@ -16,7 +16,11 @@ use Rattle.binary.specs.Binary.{allZero, atMost, beforeNul, bitBytes, bitsOf, c
 use Rattle.grammar.proofs.Fronts.{Front}
 use Rattle.grammar.proofs.ShownRead.{shows-is, shows-read}
 use Rattle.grammar.proofs.WordsRead.{letters-false, letters-true, stands-is, stands-read, three-bytes}
-use Rattle.grammar.specs.Binaries.{BigEndian, Binary2Cell, BinaryCell, BitsIn, CharBytes, Content, Counted, IntegerBytes, Listed, Packed, Takes, TruthByte, big-endian, binary-empty, binary-null, binary-shown, bits-in, byte-letter, byte-nul, byte-question, byte-space, bytes-end, bytes-nul, bytes-then, cell-flagged, cell-unflagged, content-bits, content-chars, content-truths, content-whole, counted-bounded, counted-fixed, counted-free, integer-bytes, listed-end, listed-then, packed-end, packed-then, takes-bits, takes-chars, takes-truths, takes-whole}
+use Rattle.grammar.specs.Binaries.{BigEndian, Binary2Cell, BinaryCell, BitsIn, CharBytes, Content, Counted, IntegerBytes, Listed, Packed, Takes}
+use Rattle.grammar.specs.Binaries.{TruthByte, big-endian, binary-empty, binary-null, binary-shown, bits-in, byte-letter, byte-nul, byte-question}
+use Rattle.grammar.specs.Binaries.{byte-space, bytes-end, bytes-nul, bytes-then, cell-flagged, cell-unflagged, content-bits, content-chars, content-truths}
+use Rattle.grammar.specs.Binaries.{content-whole, counted-bounded, counted-fixed, counted-free, integer-bytes, listed-end, listed-then, packed-end}
+use Rattle.grammar.specs.Binaries.{packed-then, takes-bits, takes-chars, takes-truths, takes-whole}
 use Rattle.grammar.specs.Words.{Itself, Numeral, TruthLetter, itself, letter-0, letter-1, letter-F, letter-T, letter-f, letter-t, one-digit, one-more}
 use Rattle.number.proofs.Laws.{all-to, length-to, of-lt, of-to, to-of}
 use Rattle.number.specs.Number.{ofDigits, toDigits}

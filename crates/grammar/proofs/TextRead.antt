@@ -10,11 +10,16 @@ use lib.IntN.{ℤ}
 use lib.ListN.{length}
 use borrow.Author.Tests.{eqb-false, eqb-true, le-leb, leb-true, ne-eqb}
 use Rattle.binary.proofs.Laws.{room-self}
-use Rattle.grammar.proofs.Fronts.{after-is, digit-is, digit-read, ends-is, ends-word, hexadigit-is, hexadigit-read, numeral-all, numeral-some, sized-is, sized-read, skip-is, skip-stays, skip-white, tag-is, tag-read}
+use Rattle.grammar.proofs.Fronts.{after-is, digit-is, digit-read, ends-is, ends-word, hexadigit-is, hexadigit-read, numeral-all}
+use Rattle.grammar.proofs.Fronts.{numeral-some, sized-is, sized-read, skip-is, skip-stays, skip-white, tag-is, tag-read}
 use Rattle.grammar.proofs.ShownRead.{shows-is, shows-read}
-use Rattle.grammar.proofs.WordsRead.{OneWord, bit-letters-dark, bits-are, bits-read, integer-is, integer-read, integer-word, no-word, one-word, one-word-of, same-is, spaced-is, spaced-read, three-bytes, truth-is, truth-read, truth-word, two-words, words-blank, words-trimmed, words-white}
-use Rattle.grammar.specs.Text.{Character, Characters, IsText, Many, TextCell, TextElements, TextShows, cell-empty, cell-text, char-amp, char-apos, char-decimal, char-gt, char-hexadecimal, char-itself, char-lt, char-quot, chars-end, chars-then, many-bounded, many-fixed, many-free, many-shorter, shows-elements, shows-empty, text-bits, text-chars, text-line-feed, text-other, text-return, text-tab, text-truths, text-whole}
-use Rattle.grammar.specs.Words.{BitLetters, Digit, Hexadigit, IntegerWord, Numeral, Tag, Trimmed, TruthWord, White, a-tag, bits-0, bits-1, bits-end, figure, hex-capital, hex-figure, hex-small, trimmed, white-end, words-none}
+use Rattle.grammar.proofs.WordsRead.{OneWord, bit-letters-dark, bits-are, bits-read, integer-is, integer-read, integer-word, no-word, one-word, one-word-of, same-is}
+use Rattle.grammar.proofs.WordsRead.{spaced-is, spaced-read, three-bytes, truth-is, truth-read, truth-word, two-words, words-blank, words-trimmed, words-white}
+use Rattle.grammar.specs.Text.{Character, Characters, IsText, Many, TextCell, TextElements, TextShows, cell-empty, cell-text, char-amp, char-apos, char-decimal, char-gt}
+use Rattle.grammar.specs.Text.{char-hexadecimal, char-itself, char-lt, char-quot, chars-end, chars-then, many-bounded, many-fixed, many-free, many-shorter, shows-elements}
+use Rattle.grammar.specs.Text.{shows-empty, text-bits, text-chars, text-line-feed, text-other, text-return, text-tab, text-truths, text-whole}
+use Rattle.grammar.specs.Words.{BitLetters, Digit, Hexadigit, IntegerWord, Numeral, Tag, Trimmed, TruthWord, White, a-tag, bits-0}
+use Rattle.grammar.specs.Words.{bits-1, bits-end, figure, hex-capital, hex-figure, hex-small, trimmed, white-end, words-none}
 use Rattle.number.specs.Number.{digit, hexadigit, numeral, sized}
 use Rattle.table.proofs.Laws.{and-both, between-is, between-yes, cond-cases, holds-as, holds-bind, holds-cond, holds-else, holds-weaken, nil-not-null, no-white, or-either}
 use Rattle.table.specs.All.{All}
@@ -26,7 +31,8 @@ use Rattle.table.specs.Shape.{Bits, Shape, Text, Truths, Whole, last, shape}
 use Rattle.table.specs.declared.Column.{Column}
 use Rattle.table.specs.declared.Len.{Len}
 use Rattle.table.specs.declared.Len.the-variants.{Bounded, Fixed, Free}
-use Rattle.tabledata.specs.TableData.{Step, Where, allText, bitWords, cellText, characters, close-TD, consText, countFits, emit, emitted, expanded, follow, goes, integerWord, isText, named, names, numeric, open-TD, plain, readText, reference, step, tagBegins, textCell, textElements, truthWord}
+use Rattle.tabledata.specs.TableData.{Step, Where, allText, bitWords, cellText, characters, close-TD, consText, countFits, emit, emitted, expanded, follow, goes, integerWord}
+use Rattle.tabledata.specs.TableData.{isText, named, names, numeric, open-TD, plain, readText, reference, step, tagBegins, textCell, textElements, truthWord}
 
 -- ---- references
 

@@ -12,7 +12,11 @@ use lib.IntN.{negsuc, pos, ℤ}
 use lib.ListN.{length, length-append}
 use borrow.Author.Tests.{eq-eqb, eqb-false, eqb-true, le-leb, le-ltb, lt-leb, lt-ltb, ltb-false, ltb-true, ne-eqb}
 use Rattle.grammar.proofs.Fronts.{digit-is, digit-read, hexadigit-is, hexadigit-read, numeral-all, numeral-some, sized-is, sized-read}
-use Rattle.grammar.specs.Words.{AnyCapitals, AnyCase, BitLetters, Digit, Hexadigit, IntegerWord, Numeral, Spaced, Stands, TruthLetter, TruthWord, White, as-capital, as-small, bits-0, bits-1, bits-end, capitals-end, capitals-then, figure, hex-capital, hex-figure, hex-small, letter-0, letter-1, letter-F, letter-T, letter-f, letter-t, one-digit, one-more, stands-negative, stands-positive, stands-unsigned, truth-false, truth-letter, truth-true, truth-unknown, white-end, white-then, word-hexadecimal, word-minus, word-plain, word-plus, words-last, words-none, words-then}
+use Rattle.grammar.specs.Words.{AnyCapitals, AnyCase, BitLetters, Digit, Hexadigit, IntegerWord, Numeral, Spaced, Stands, TruthLetter, TruthWord}
+use Rattle.grammar.specs.Words.{White, as-capital, as-small, bits-0, bits-1, bits-end, capitals-end, capitals-then, figure, hex-capital, hex-figure}
+use Rattle.grammar.specs.Words.{hex-small, letter-0, letter-1, letter-F, letter-T, letter-f, letter-t, one-digit, one-more, stands-negative, stands-positive}
+use Rattle.grammar.specs.Words.{stands-unsigned, truth-false, truth-letter, truth-true, truth-unknown, white-end, white-then, word-hexadecimal}
+use Rattle.grammar.specs.Words.{word-minus, word-plain, word-plus, words-last, words-none, words-then}
 use Rattle.number.specs.Number.{decimal, digit, hexadecimal, hexadigit, ofPattern, ranged, readInteger, withSign}
 use Rattle.number.proofs.Laws.{pow-16}
 use Rattle.table.proofs.Words.{word-cut, words-one}

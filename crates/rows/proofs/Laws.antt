@@ -17,7 +17,8 @@ use Rattle.rows.proofs.Sequences.{AllRows, Stops, sequence-all, sequenc
 use Rattle.rows.specs.Bounds.{Bounded, Within}
 use Rattle.rows.specs.Sequence.{finished, row, rowThen, sequence, sequenceF}
 use Rattle.rows.specs.Stream.{atEnd, flag, flagsLeft, isEmpty, isSet, read, readCell, readCells, readEnd, readRow, readStart, writeCell, writeCells, writeEnd, writeRow, writeStart}
-use Rattle.table.proofs.Laws.{Numbered, all-weaken, bad-good, each-length, empty-fits, fails-as, fails-bind, fails-weaken, holds-any, holds-as, holds-at, holds-bind, holds-weaken, skip-le, tag-fails, tag-le}
+use Rattle.table.proofs.Laws.{Numbered, all-weaken, bad-good, each-length, empty-fits, fails-as, fails-bind, fails-weaken}
+use Rattle.table.proofs.Laws.{holds-any, holds-as, holds-at, holds-bind, holds-weaken, skip-le, tag-fails, tag-le}
 use Rattle.table.specs.All.{All, AreBytes}
 use Rattle.table.specs.Bytes.{after, ends, isWhite, skipWhite, tag}
 use Rattle.table.specs.Cell.{AreColumns, Cell, Each, Fits, IsColumn, below, columnOf, isElement, isNull, isScalar, nullElement, nullOfKind, show}

@@ -1,6 +1,6 @@
 -- Laws of TABLEDATA cells: a cell that is written is read back; a cell takes at least a byte; what is read fits its column and has a text;
 -- what is written is the form, where there is one.
-use Prim.Native.Nat.{_+_, _-_, _<_, _≤_, suc, zero, ℕ}
+use Prim.Native.Nat.{_-_, _<_, _≤_, suc, zero, ℕ}
 use native.Mathlib.Omega.{arith}
 use mathlib.Core.Bool.{Bool, _&&_, _||_, cond, false, false≢true, or-true, true}
 use mathlib.Core.List.{List, [], _++_, _∷_, append-assoc, map}
@@ -11,7 +11,9 @@ use lib.ListN.{length}
 use borrow.Author.Tests.{eqb-true, le-leb, le-ltb, leb-true, lt-ltb, ltb-true, ne-eqb}
 use Rattle.number.proofs.Laws.{IsDigit, digits-are, digits-some, integer-is, read-shortest}
 use Rattle.number.specs.Number.{digits, hexadigit, numeral, readInteger, shortest, sized}
-use Rattle.table.proofs.Laws.{IsWord, Numbered, after-fails, after-le, all-append, all-map, all-weaken, and-both, between-is, between-yes, cond-cases, every-back, fails-always, fails-bind, fails-cond, fails-else, fails-every, good-bind, holds-any, holds-as, holds-at, holds-bind, holds-cond, holds-else, holds-every, holds-weaken, last-le, nil-not-null, no-white, not-empty, or-either, pieces-space, pieces-word, skip-le, tag-fails, tag-le}
+use Rattle.table.proofs.Laws.{IsWord, Numbered, after-fails, after-le, all-append, all-map, all-weaken, and-both, between-is, between-yes, cond-cases, every-back, fails-always}
+use Rattle.table.proofs.Laws.{fails-bind, fails-cond, fails-else, fails-every, good-bind, holds-any, holds-as, holds-at, holds-bind, holds-cond, holds-else, holds-every}
+use Rattle.table.proofs.Laws.{holds-weaken, last-le, nil-not-null, no-white, not-empty, or-either, pieces-space, pieces-word, skip-le, tag-fails, tag-le}
 use Rattle.table.specs.All.{All}
 use Rattle.table.specs.Bytes.{after, between, byte, bytes, ends, isWhite, notEmpty, pieces, same, skipWhite, tag, words}
 use Rattle.table.specs.Cell.{Cell, Fits, below, bound, emptyIsNull, fits-null, fits-shown, isElement, isNullList, null, nullElement, roomFits, roomIn, show, shown}
@@ -19,7 +21,10 @@ use Rattle.table.specs.Contracts.{formBytes}
 use Rattle.table.specs.Result.{Fails, Holds, IsGood, Result, bad, every, fails, gives, good, holds, refuses}
 use Rattle.table.specs.Shape.{Bits, Shape, Text, Truths, Whole, Width, last, shape}
 use Rattle.table.specs.declared.Column.{Column}
-use Rattle.tabledata.specs.TableData.{Step, Where, allText, bitLetter, bitText, bitWords, broken, cellText, characters, close-TD, consText, countFits, elementBytes, elementText, emit, emitted, escaped, expanded, follow, formOf, forms, goes, integerWord, isText, joined, lower, named, names, numeric, open-TD, plain, readText, spaced, step, tagBegins, tagged, textBytes, textCell, textElements, truthLetter, truthText, truthWord, writeText}
+use Rattle.tabledata.specs.TableData.{Step, Where, allText, bitLetter, bitText, bitWords, broken, cellText, characters, close-TD, consText}
+use Rattle.tabledata.specs.TableData.{countFits, elementBytes, elementText, emit, emitted, escaped, expanded, follow, formOf, forms, goes, integerWord}
+use Rattle.tabledata.specs.TableData.{isText, joined, lower, named, names, numeric, open-TD, plain, readText, spaced, step, tagBegins, tagged}
+use Rattle.tabledata.specs.TableData.{textBytes, textCell, textElements, truthLetter, truthText, truthWord, writeText}
 
 -- ---- words
 

@@ -1,6 +1,6 @@
 -- A word met a character at a time: the state that the code keeps, what a character makes of it, and what it reads as.
 -- That a word fed to it reads as `readInteger` says is a law (proofs/WordLaws.antt, fed-reads); this is only how.
-use Prim.Native.Nat.{_%_, _*_, _+_, _-_, _^_, ℕ}
+use Prim.Native.Nat.{_%_, _*_, _+_, _^_, ℕ}
 use mathlib.Core.Bool.{Bool, cond, false, true}
 use mathlib.Core.List.{List, [], _∷_}
 use lib.Dec.{eqb, ltb}

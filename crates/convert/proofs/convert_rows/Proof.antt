@@ -16,7 +16,8 @@ use Rattle.convert.proofs.Measuring.{RowMeasured, held-ready, measured-
 use Rattle.convert.specs.Contracts.{MeasuredBy, holdingOf}
 use Rattle.table.proofs.ColumnList.{listed-length, listed-next}
 use Rattle.table.specs.ColumnList.{listed, noColumn}
-use Rattle.row_reading.proofs.Parts.{RowRead, begun-within, cells-closed, cells-open, cells-stopped, closed-within, listed-bound, read-end, read-more, read-start, read-stop, row-begun, row-onward, row-unbegun}
+use Rattle.row_reading.proofs.Parts.{RowRead, begun-within, cells-closed, cells-open, cells-stopped, closed-within, listed-bound}
+use Rattle.row_reading.proofs.Parts.{read-end, read-more, read-start, read-stop, row-begun, row-onward, row-unbegun}
 use Rattle.row_reading.specs.Contracts.{cellsEnd, flagsIn}
 use Rattle.row_writing.specs.Contracts.{HeldReady, putForm, rowBytes}
 use Rattle.row_writing.specs.declared.Holding.{Holding}

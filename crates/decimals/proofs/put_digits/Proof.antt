@@ -1,5 +1,5 @@
 -- `decimals::put_digits` meets its contract. The loop stores the last two digits first: what is still to store, with what is there, makes all.
-use Prim.Native.Nat.{_-_, _≤_, ℕ}
+use Prim.Native.Nat.{_≤_, ℕ}
 use native.Mathlib.Omega.{arith}
 use mathlib.Core.Path.{_∙_, _≡_, ap, sym}
 use lib.ListN.{length, length-set}

@@ -5,7 +5,8 @@ use mathlib.Core.List.{List, [], _∷_}
 use mathlib.Core.Option.{Option, none, some}
 use mathlib.Core.Path.{_∙_, _≡_, ap, refl, sym}
 use lib.ListN.{drop, length-drop}
-use Rattle.declaring.specs.Readers.{AttributesIs, BodyIs, EndsIs, FieldIs, MetIn, Tallied, ValueIn, asWritten, assembled, elementOf, endTag, fieldEnd, metOf, tallied, talliedIn, tallyOf, valuesBehind, valuesBody}
+use Rattle.declaring.specs.Readers.{AttributesIs, BodyIs, EndsIs, FieldIs, MetIn, Tallied, ValueIn, asWritten, assembled, elementOf}
+use Rattle.declaring.specs.Readers.{endTag, fieldEnd, metOf, tallied, talliedIn, tallyOf, valuesBehind, valuesBody}
 use Rattle.fields.specs.Fields.{Attribute, Field, atMostOne, attributes, begins, exactlyOne, fieldBody, readField, readValues, valuesOf}
 use Rattle.declaring.specs.declared.attributes.Attributes.the-variants as of-attributes
 use Rattle.declaring.specs.declared.elements.Body.{Body}

@@ -93,8 +93,22 @@ behind-requires-4 c κs = c .before .before .before .before .before .before .bef
 
 loop-less : tie.Need-loop-less Inv-loop μ-loop
 loop-less c =
-    less (length (now (c .before .before .before .before .before .before .before .before .before .before .before .before .before .before .before .before .before .before .before .before .before .before .before .before .args .s))) (c .before .before .before .before .before .before .before .before .before .before .before .before .before .before .before .before .before .before .before .before .loop .at) _ _ _ (c .before .before .before .before .before .before .before .before .before .before .before .before .before .before .before .before .before .before .before .loop-test .taken) (c .before .before .before .before .before .before .before .before .before .before .before .before .before .before .before .before .before .before .bar .ensures .0) (c .before .before .before .before .before .before .before .before .before .before .before .before .before .before .before .before .before .behind .ensures .further) (c .before .before .before .before .before .before .before .before .before .before .before .before .before .before .before .before .before .behind .ensures .onward)
-    (omega (arith, c .before .before .before .before .before .before .before .before .before .before .before .before .before .before .before .before .bar2 .ensures .0, c .before .before .before .before .before .before .before .before .before .before .before .before .before .before .before .behind2 .ensures .onward, c .before .before .before .before .before .before .before .before .before .before .before .before .before .before .bar3 .ensures .0, c .before .before .before .before .before .before .before .before .before .before .before .before .before .behind3 .ensures .onward, c .before .before .before .before .before .before .before .before .before .before .before .before .bar4 .ensures .0, c .behind4 .ensures .onward))
+    let fourth = c .before .before .before .before .before .before .before .before .before .before .before .before in
+    let third = fourth .before .before in
+    let second = third .before .before in
+    let first = second .before .before in
+    let turn = first .before in
+    less (length (now (turn .before .before .before .before .before .args .s))) (turn .before .loop .at) _ _ _ (turn .loop-test .taken) (first .bar .ensures .0)
+    (second .before .behind .ensures .further) (second .before .behind .ensures .onward)
+    (omega (
+      arith,
+      second .bar2 .ensures .0,
+      third .before .behind2 .ensures .onward,
+      third .bar3 .ensures .0,
+      fourth .before .behind3 .ensures .onward,
+      fourth .bar4 .ensures .0,
+      c .behind4 .ensures .onward,
+    ))
     (c .behind4 .ensures .inside)
 
 loop-again : tie.Need-loop-again Inv-loop μ-loop

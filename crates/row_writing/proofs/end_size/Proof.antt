@@ -1,5 +1,4 @@
 -- row_writing::end_size: how long what ends a row is, by the kind of rows.
-use Prim.Native.Nat.{_≤_}
 use lib.Dec.{lit≤}
 use mathlib.Core.Path.{refl}
 use Rattle.rows.specs.Stream.{writeEnd}

@@ -1,5 +1,4 @@
 -- row_writing::start_size: how long what begins a row is, by the kind of rows.
-use Prim.Native.Nat.{_≤_}
 use mathlib.Core.Path.{refl}
 use lib.Dec.{lit≤}
 use Rattle.row_writing.specs.Contracts.{startBytes}

@@ -1,5 +1,5 @@
 -- row_writing::write_held_cell: a cell that is held is written: by what stands at its place, each way is one law of HeldForm.
-use Prim.Native.Nat.{_+_, _-_, _<_, _≤_, ℕ}
+use Prim.Native.Nat.{_+_, _<_, _≤_, ℕ}
 use mathlib.Core.Bool.{false}
 use mathlib.Core.List.{List, _∷_}
 use mathlib.Core.Path.{_≡_, subst, sym}

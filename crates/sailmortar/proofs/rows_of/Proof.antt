@@ -1,21 +1,21 @@
 -- Each number in its arm, and any other is none of the three.
 use Rattle.sailmortar.specs.Face.{rowsOf}
 use Rattle.sailmortar.proofs.Numbers.{no-rows}
-use mathlib.Core.Path.{sym}
+use mathlib.Core.Path.{ap, sym}
 use Rattle.sailmortar.proofs.rows_of.Statement.{statement}
 use Rattle.sailmortar.proofs.rows_of.Tie as tie
 
 returns : tie.Need-returns
 unfolding rowsOf
-returns c = rw (c .match .keys1)
+returns c = sym (ap rowsOf (c .match .keys1))
 
 returns-2 : tie.Need-returns-2
 unfolding rowsOf
-returns-2 c = rw (c .match .keys2)
+returns-2 c = sym (ap rowsOf (c .match .keys2))
 
 returns-3 : tie.Need-returns-3
 unfolding rowsOf
-returns-3 c = rw (c .match .keys3)
+returns-3 c = sym (ap rowsOf (c .match .keys3))
 
 returns-4 : tie.Need-returns-4
 returns-4 c = sym (no-rows _ (c .match .rest .0 .0 .1) (c .match .rest .0 .1) (c .match .rest .1))
