@@ -10,7 +10,7 @@ use table::Kind;
 use table::Len;
 use table::is_char;
 ghost use Prim.Native.Nat.{_≤_};
-ghost use Rattle.table.specs.Cell.{bound, roomFits};
+ghost use Rattle.table.specs.Cell.{bound, mostElements, roomFits};
 ghost use Rattle.table.specs.Contracts.{Reads};
 ghost use Rattle.table.specs.Shape.{shape};
 ghost use Rattle.tabledata.specs.TableData.{readText};
@@ -42,13 +42,13 @@ fn count_fits(kind: Kind, len: Len, count: usize) -> bool
             }
         }
         Len::Bounded(n) => count <= n,
-        Len::Free => count <= 4096,
+        Len::Free => count <= table::MOST_ELEMENTS,
     }
 }
 
 // What elements show in a column.
 fn cell_shows(column: Column, count: usize, next: usize, scratch: &[i64]) -> Found
-    requires { ⌜ (bound (column .len) ≤ 4096) × (4096 ≤ length (now scratch)) ⌝ }
+    requires { ⌜ (bound (column .len) ≤ mostElements) × (mostElements ≤ length (now scratch)) ⌝ }
     ensures { λ r. ⌜ CellShows column count next (now (scratch .entry)) r ⌝ }
 {
     if count == 0 {
@@ -67,7 +67,7 @@ fn cell_shows(column: Column, count: usize, next: usize, scratch: &[i64]) -> Fou
 
 // A cell at a place: "a text cell 10, 11, 12".
 pub fn read_text(s: &[u8], at: usize, column: Column, scratch: &mut [i64]) -> Found
-    requires { ⌜ (at ≤ length (now s)) × (bound (column .len) ≤ 4096) × (4096 ≤ length (now scratch)) ⌝ }
+    requires { ⌜ (at ≤ length (now s)) × (bound (column .len) ≤ mostElements) × (mostElements ≤ length (now scratch)) ⌝ }
     ensures { λ r. ⌜ Reads (readText column (drop at (now (s .entry)))) (now (s .entry)) at (now (scratch .entry)) (now (scratch .exit)) r ⌝ }
 {
     match open_cell(s, at) {
