@@ -254,27 +254,15 @@ fn with_memory(scratch: &Scratch, limit: usize, line: &str) -> Said {
     Said::of(scratch.shell(&format!("ulimit -v {limit}; {line}")))
 }
 
-#[test]
-fn out_of_memory_is_said_and_leaves_nothing() {
-    let scratch = Scratch::new("memory");
+/// Each line with less memory than its input takes, with about as much, and with enough.
+fn out_of_memory(test: &str, lines: &[&str]) {
+    let scratch = Scratch::new(test);
     let size = 64 << 20;
     File::create(scratch.path("long")).and_then(|file| file.set_len(size)).expect("a long file");
     scratch.put("byte", b"<FIELD datatype='unsignedByte' arraysize='4096'/>");
     let letters = b"AAAA".repeat(size as usize / 4);
     scratch.put("letters", &letters);
-    let runs = [
-        "\"$PROGRAM\" convert --fields byte --from binary --to binary2 long -o out",
-        "cat long | \"$PROGRAM\" convert --fields byte --from binary --to binary2 -o out",
-        "\"$PROGRAM\" convert --fields byte --from binary --to binary2 --base64-out long -o out",
-        "\"$PROGRAM\" convert --fields byte --from binary --to binary2 --base64-in letters -o out",
-        "cat letters | \"$PROGRAM\" convert --fields byte --from binary --to binary2 --base64-in -o out",
-        "\"$PROGRAM\" base64 encode long -o out",
-        "cat long | \"$PROGRAM\" base64 encode -o out",
-        "\"$PROGRAM\" base64 decode letters -o out",
-        "cat letters | \"$PROGRAM\" base64 decode -o out",
-        "\"$PROGRAM\" check --fields byte --from binary long > /dev/null",
-    ];
-    for line in runs {
+    for line in lines {
         scratch.put("out", b"yesterday");
         let refused = [20_000, 30_000, 60_000].map(|limit| with_memory(&scratch, limit, line));
         assert_eq!(refused, [(); 3].map(|()| Said::trouble("out of memory")), "{line}");
@@ -287,6 +275,35 @@ fn out_of_memory_is_said_and_leaves_nothing() {
         }
         assert_eq!(with_memory(&scratch, 400_000, line).status, 0, "{line}");
     }
+}
+
+// Two tests, for two threads: this is the longest thing here.
+#[test]
+fn out_of_memory_is_said_and_leaves_nothing() {
+    out_of_memory(
+        "memory",
+        &[
+            "\"$PROGRAM\" convert --fields byte --from binary --to binary2 long -o out",
+            "cat long | \"$PROGRAM\" convert --fields byte --from binary --to binary2 -o out",
+            "\"$PROGRAM\" convert --fields byte --from binary --to binary2 --base64-out long -o out",
+            "\"$PROGRAM\" check --fields byte --from binary long > /dev/null",
+        ],
+    );
+}
+
+#[test]
+fn out_of_memory_for_base64_is_said_and_leaves_nothing() {
+    out_of_memory(
+        "memory_base64",
+        &[
+            "\"$PROGRAM\" convert --fields byte --from binary --to binary2 --base64-in letters -o out",
+            "cat letters | \"$PROGRAM\" convert --fields byte --from binary --to binary2 --base64-in -o out",
+            "\"$PROGRAM\" base64 encode long -o out",
+            "cat long | \"$PROGRAM\" base64 encode -o out",
+            "\"$PROGRAM\" base64 decode letters -o out",
+            "cat letters | \"$PROGRAM\" base64 decode -o out",
+        ],
+    );
 }
 
 #[test]

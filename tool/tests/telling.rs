@@ -282,13 +282,17 @@ except OSError:
 #[test]
 fn a_dumb_terminal_gets_no_escapes() {
     let scratch = Scratch::new("dumb");
-    for (term, drawn) in [(Some("xterm"), true), (Some("dumb"), false), (Some(""), false), (None, false)] {
+    // All at once, since each waits for seconds.
+    let runs = [(Some("xterm"), true), (Some("dumb"), false), (Some(""), false), (None, false)].map(|(term, drawn)| {
         let mut python = Command::new("python3");
         python.args(["-c", SLOWLY, PROGRAM, "base64", "encode"]).current_dir(&scratch.0).env_remove("TERM");
         if let Some(term) = term {
             python.env("TERM", term);
         }
-        let said = python.output().expect("python3 runs").stdout;
+        (term, drawn, python.stdin(Stdio::null()).stdout(Stdio::piped()).spawn().expect("python3 runs"))
+    });
+    for (term, drawn, run) in runs {
+        let said = run.wait_with_output().expect("python3 ends").stdout;
         assert_eq!(said.contains(&0x1b), drawn, "{term:?}: {}", said.escape_ascii());
     }
 }
