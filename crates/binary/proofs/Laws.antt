@@ -13,7 +13,7 @@ use lib.Seq.{drop-at, take-at}
 use borrow.Author.Tests.{eq-eqb, eqb-false, eqb-true, le-leb, le-ltb, leb-true, lt-ltb, ltb-false, ltb-true, ne-eqb}
 use Rattle.binary.specs.Binary.{allZero, atMost, beforeNul, bitBytes, bitOf, bitsOf, bytesOf, canBeEmpty, content, contentBytes, countBytes, countIn, counted}
 use Rattle.binary.specs.Binary.{element, elementsBytes, firstBytes, groups, nullForm, number, numbers, numbersIn, pack, packed, readBinary, readBinary2, shows, truth}
-use Rattle.binary.specs.Binary.{truthByte, unpack, writeBinary, writeBinary2, zeros}
+use Rattle.binary.specs.Binary.{unpack, writeBinary, writeBinary2, zeros}
 use Rattle.binary.specs.Contracts.{filledBytes}
 use Rattle.number.proofs.Laws.{all-to, in-range, length-to, of-lt, of-pattern, of-to, pattern-lt, to-of}
 use Rattle.number.specs.Number.{ofDigits, pattern, toDigits}
@@ -22,7 +22,7 @@ use Rattle.table.proofs.Laws.{holds-cond, holds-weaken, null-stands, show-fits}
 use Rattle.table.specs.All.{All, AreBytes}
 use Rattle.table.specs.Bytes.{byte}
 use Rattle.table.specs.Cell.{Cell, Elements, Fits, IsColumn, below, bound, columnOf, emptyIsNull, fits-null, fits-shown, isChar, isElement, isNull, isNullList, isOne, mostElements}
-use Rattle.table.specs.Cell.{null, nullElement, nullOfKind, roomFits, roomIn, show, shown}
+use Rattle.table.specs.Cell.{null, nullElement, nullOfKind, roomFits, roomIn, show, shown, truthByte}
 use Rattle.table.specs.Outcome.{at}
 use Rattle.table.specs.Result.{Fails, Holds, every, fails, gives, good, holds, refuses}
 use Rattle.table.specs.Shape.{Bits, Shape, Text, Truths, Whole, last, shape}

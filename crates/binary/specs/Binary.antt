@@ -8,7 +8,7 @@ use lib.IntN.{negsuc, pos, ℤ}
 use lib.ListN.{drop, length, replicate, take}
 use Rattle.number.specs.Number.{ofDigits, ofPattern, pattern, toDigits}
 use Rattle.table.specs.Bytes.{byte}
-use Rattle.table.specs.Cell.{Cell, emptyIsNull, isChar, mostElements, null, nullElement, roomIn, show, shown}
+use Rattle.table.specs.Cell.{Cell, emptyIsNull, isChar, mostElements, null, nullElement, roomIn, show, shown, truthByte}
 use Rattle.table.specs.Result.{Result, _>>=_, bad, every, good}
 use Rattle.table.specs.Shape.{Bits, Shape, Text, Truths, Whole, last, shape}
 use Rattle.table.specs.declared.Column.{Column}
@@ -23,13 +23,6 @@ truth b =
     cond (eqb b (byte "T") || eqb b (byte "t") || eqb b (byte "1")) (good (pos 1))
     (cond (eqb b (byte "F") || eqb b (byte "f") || eqb b (byte "0")) (good (pos 0))
     (cond (eqb b 0x00 || eqb b 0x20 || eqb b 0x3F) (good (pos 2)) (bad 11)))
-
--- "Written: booleans `T`, `F`, `?`"
-unfoldable pub truthByte : ℤ → ℕ
-truthByte (pos zero) = byte "F"
-truthByte (pos (suc zero)) = byte "T"
-truthByte (pos (suc (suc n))) = byte "?"
-truthByte (negsuc n) = byte "?"
 
 -- a bit is 1 where its element is
 unfoldable pub bitOf : ℤ → ℕ

@@ -3,11 +3,11 @@ use Prim.Native.Nat.{_%_, _*_, _+_, _-_, _/_, _<_, _^_, _≤_, suc, zero, ℕ}
 use Rattle.binary.proofs.Digits.{drop-map, sets-then, take-map}
 use Rattle.binary.proofs.Laws.{length-groups, length-pack, scalar-room}
 use Rattle.binary.proofs.Loops.{no-byte}
-use Rattle.binary.specs.Binary.{bitBytes, bitOf, bytesOf, canBeEmpty, contentBytes, countBytes, elementsBytes, groups, nullForm, number, pack, packed, truthByte, writeBinary, writeBinary2, zeros}
+use Rattle.binary.specs.Binary.{bitBytes, bitOf, bytesOf, canBeEmpty, contentBytes, countBytes, elementsBytes, groups, nullForm, number, pack, packed, writeBinary, writeBinary2, zeros}
 use Rattle.number.proofs.Laws.{length-to, low-pattern, of-append, pattern-lt, pow-pos}
 use Rattle.number.specs.Number.{ofDigits, pattern, toDigits}
 use Rattle.table.proofs.Laws.{last-le}
-use Rattle.table.specs.Cell.{bound, isOne, nullElement, nullOfKind, roomIn, shown}
+use Rattle.table.specs.Cell.{bound, isOne, nullElement, nullOfKind, roomIn, shown, truthByte}
 use Rattle.table.specs.Contracts.{formBytes, held}
 use Rattle.table.specs.Result.{bad, good}
 use Rattle.table.specs.Shape.{Bits, Shape, Text, Truths, Whole, Width, last, shape}
@@ -183,13 +183,6 @@ bit-zero (pos zero) h = refl
 bit-zero (pos (suc zero)) h = absurd (h refl)
 bit-zero (pos (suc (suc n))) h = refl
 bit-zero (negsuc n) h = refl
-
-pub truth-unknown : (z : ℤ) → (z ≡ pos 0 → ⊥) → (z ≡ pos 1 → ⊥) → 63 ≡ truthByte z
-unfolding truthByte
-truth-unknown (pos zero) h k = absurd (h refl)
-truth-unknown (pos (suc zero)) h k = absurd (k refl)
-truth-unknown (pos (suc (suc n))) h k = refl
-truth-unknown (negsuc n) h k = refl
 
 pub count-bounded : (l : Len) (n m : ℕ) → l ≡ Bounded n → length (countBytes l m) ≡ 4
 unfolding countBytes

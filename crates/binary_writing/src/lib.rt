@@ -14,11 +14,11 @@ ghost use Prim.Native.Nat.{_*_, _+_, _-_, _^_, _<_, _≤_};
 ghost use lib.ListN.{drop, length, replicate, take};
 ghost use Rattle.number.specs.Contracts.{size};
 ghost use Rattle.number.specs.Number.{ofDigits, pattern};
-ghost use Rattle.table.specs.Cell.{bound, mostElements, nullElement, roomIn};
+ghost use Rattle.table.specs.Cell.{bound, mostElements, nullElement, roomIn, truthByte};
 ghost use Rattle.table.specs.Contracts.{formBytes, held, sizeAs, sizeOf};
 ghost use Rattle.table.specs.Shape.{shape};
 ghost use Rattle.table.specs.Wrote.{Wrote};
-ghost use Rattle.binary.specs.Binary.{bitBytes, bitOf, bytesOf, canBeEmpty, countBytes, elementsBytes, groups, nullForm, number, pack, truthByte, writeBinary, writeBinary2, zeros};
+ghost use Rattle.binary.specs.Binary.{bitBytes, bitOf, bytesOf, canBeEmpty, countBytes, elementsBytes, groups, nullForm, number, pack, writeBinary, writeBinary2, zeros};
 ghost use Rattle.binary.specs.Contracts.{filledBytes};
 ghost use Rattle.binary_writing.specs.Contracts.{elementsSize, roomSize};
 
@@ -138,26 +138,13 @@ fn put_count(len: Len, count: usize, out: &mut [u8], at: usize) -> usize
     }
 }
 
-// "Written: booleans `T`, `F`, `?`".
-fn truth_byte(z: i64) -> u8
-    ensures { λ r. ⌜ r ≡ truthByte z ⌝ }
-{
-    if z == 0 {
-        return b'F';
-    }
-    if z == 1 {
-        return b'T';
-    }
-    b'?'
-}
-
 fn put_truths(count: usize, scratch: &[i64], out: &mut [u8], at: usize) -> usize
     requires { ⌜ (at + count ≤ length (now out)) × (count ≤ length (now scratch)) ⌝ }
     ensures { λ r. ⌜ Wrote (now (out .entry)) at (map truthByte (take count (now (scratch .entry)))) (now (out .exit)) r ⌝ }
 {
     let mut k: usize = 0;
     while k < count {
-        let b = truth_byte(scratch[k]);
+        let b = table::truth_byte(scratch[k]);
         out[at + k] = b;
         k += 1;
     }

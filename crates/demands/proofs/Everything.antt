@@ -4,7 +4,7 @@ use Rattle.base64.specs.Base64.{decode, decodeCall, decoding, dense, encode, en
 use Rattle.base64.specs.Base64.{stepOutcome, threeBytes, twoBytes}
 use Rattle.binary.specs.Binary.{allZero, atMost, beforeNul, bitBytes, bitOf, bitsOf, bytesOf, canBeEmpty, content, contentBytes, countBytes, countIn, counted, element}
 use Rattle.binary.specs.Binary.{elementsBytes, firstBytes, groups, nullForm, number, numbers, numbersIn, pack, packed, readBinary, readBinary2, readFlags, shows, truth}
-use Rattle.binary.specs.Binary.{truthByte, unpack, writeBinary, writeBinary2, zeros}
+use Rattle.binary.specs.Binary.{unpack, writeBinary, writeBinary2, zeros}
 use Rattle.demands.specs.Cases.{allPass, cameOut, cases, passes, sameAnswer}
 use Rattle.demands.specs.Demands.{output}
 use Rattle.demands.specs.Places.{cellsShow, contentShows, marksOf, rowShows, showsAt, streamShows, throughNul}
@@ -19,7 +19,7 @@ use Rattle.rows.specs.Stream.{writeCells, writeEnd, writeRow, writeStart, wrote
 use Rattle.rows.specs.Sequence.{rowThen, sequence, sequenceF}
 use Rattle.fields.specs.Front.{front}
 use Rattle.table.specs.Bytes.{after, attach, between, ends, isWhite, notEmpty, pieces, same, skipWhite, tag, words}
-use Rattle.table.specs.Cell.{below, emptyIsNull, isElement, isNull, isNullList, nullElement, roomFits, sameInteger, show, standsForNull}
+use Rattle.table.specs.Cell.{below, emptyIsNull, isElement, isNull, isNullList, nullElement, roomFits, sameInteger, show, standsForNull, truthByte}
 use Rattle.table.specs.Outcome.{answerOf, at, bufferOf, ending, mostDeclarations, mostInput, rowsDone, written}
 use Rattle.table.specs.Result.{every}
 use Rattle.table.specs.Shape.{half, inRange}

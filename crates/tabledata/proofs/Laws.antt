@@ -17,7 +17,7 @@ use Rattle.table.proofs.Laws.{holds-else, holds-every, holds-weaken, last-le, n
 use Rattle.table.proofs.Laws.{tag-fails, tag-le}
 use Rattle.table.specs.All.{All}
 use Rattle.table.specs.Bytes.{after, between, byte, bytes, ends, isWhite, notEmpty, pieces, same, skipWhite, tag, words}
-use Rattle.table.specs.Cell.{Cell, Fits, below, bound, emptyIsNull, fits-null, fits-shown, isElement, isNullList, null, roomFits, roomIn, show, shown, standsForNull}
+use Rattle.table.specs.Cell.{Cell, Fits, below, bound, emptyIsNull, fits-null, fits-shown, isElement, isNullList, null, roomFits, roomIn, show, shown, standsForNull, truthByte}
 use Rattle.table.specs.Contracts.{formBytes}
 use Rattle.table.specs.Result.{Fails, Holds, IsGood, Result, bad, every, fails, gives, good, holds, refuses}
 use Rattle.table.specs.Shape.{Bits, Shape, Text, Truths, Whole, Width, last, shape}
@@ -93,7 +93,7 @@ letter-word : (b : ℕ) → 33 ≤ b → b ≤ 127 → (b ≡ 60 → ⊥) → (b
 letter-word b h k x y = ((lit≤ tt, (no-white b h, tt)), (plain-of b (omega arith) k x y, tt))
 
 truth-word : (z : ℤ) → PlainWord (truthText z)
-unfolding truthText
+unfolding truthText truthByte
 truth-word (pos zero) = letter-word 70 (lit≤ tt) (lit≤ tt) (λ e. omega arith) (λ e. omega arith)
 truth-word (pos (suc zero)) = letter-word 84 (lit≤ tt) (lit≤ tt) (λ e. omega arith) (λ e. omega arith)
 truth-word (pos (suc (suc n))) = letter-word 63 (lit≤ tt) (lit≤ tt) (λ e. omega arith) (λ e. omega arith)
@@ -120,7 +120,7 @@ says : (k : Shape) (es : List ℤ) (t : List ℕ) → All Plain t → textElemen
 says k es t a e = record { raw = t; read = λ rest. plain-read t rest a; text = all-text t a; elements = e }
 
 truth-read : (e : ℤ) → isElement Truths e ≡ true → truthWord (truthText e) ≡ good e
-unfolding truthWord truthLetter truthText isElement below
+unfolding truthWord truthLetter truthText truthByte isElement below
 truth-read (pos zero) h = refl
 truth-read (pos (suc zero)) h = refl
 truth-read (pos (suc (suc zero))) h = refl

@@ -7,7 +7,7 @@ use lib.IntN.{negsuc, pos, ℤ}
 use lib.ListN.{length}
 use Rattle.number.specs.Number.{Fault, digit, hexadigit, readInteger, shortest, sized}
 use Rattle.table.specs.Bytes.{after, between, byte, bytes, ends, same, skipWhite, tag, words}
-use Rattle.table.specs.Cell.{Cell, bound, emptyIsNull, null, roomFits, roomIn, show, shown}
+use Rattle.table.specs.Cell.{Cell, bound, emptyIsNull, null, roomFits, roomIn, show, shown, truthByte}
 use Rattle.table.specs.Contracts.{formBytes}
 use Rattle.table.specs.Result.{Result, _>>=_, bad, every, good, orElse, refusedAs}
 use Rattle.table.specs.Shape.{Bits, Shape, Text, Truths, Whole, last, shape}
@@ -179,10 +179,7 @@ forms (e ∷ es) = formOf e >>= λ b. forms es >>= λ r. good (b ++ r)
 
 -- "Booleans are `T`, `F`, `?`"
 unfoldable pub truthText : ℤ → List ℕ
-truthText (pos zero) = bytes "F"
-truthText (pos (suc zero)) = bytes "T"
-truthText (pos (suc (suc n))) = bytes "?"
-truthText (negsuc n) = bytes "?"
+truthText z = truthByte z ∷ []
 
 unfoldable pub bitText : ℤ → ℕ
 bitText (pos zero) = byte "0"

@@ -16,7 +16,7 @@ use Rattle.number.specs.Number.{shortest}
 use Rattle.table.proofs.Laws.{bad-good}
 use Rattle.table.proofs.Places.{done, element-at}
 use Rattle.table.specs.Bytes.{between, bytes}
-use Rattle.table.specs.Cell.{Cell, null, shown}
+use Rattle.table.specs.Cell.{Cell, null, shown, truthByte}
 use Rattle.table.specs.Contracts.{formBytes, sizeOf}
 use Rattle.table.specs.Result.{Result, _>>=_, bad, good}
 use Rattle.table.specs.Shape.{Bits, Shape, Text, Truths, Whole, Width, shape}
@@ -155,10 +155,7 @@ size-words g es h = ap good (omega (arith, spaced-length g es h))
 
 pub truth-long : (z : ℤ) → length (truthText z) ≡ 1
 unfolding truthText
-truth-long (pos zero) = refl
-truth-long (pos (suc zero)) = refl
-truth-long (pos (suc (suc n))) = refl
-truth-long (negsuc n) = refl
+truth-long z = refl
 
 pub truths-long : (es : List ℤ) → length (joined (λ z. 32 ∷ truthText z) es) ≡ 2 * length es
 unfolding joined
@@ -185,12 +182,9 @@ bit-other (pos (suc zero)) n = absurd (n refl)
 bit-other (pos (suc (suc k))) n = refl
 bit-other (negsuc k) n = refl
 
-pub truth-other : (z : ℤ) → (z ≡ pos 0 → ⊥) → (z ≡ pos 1 → ⊥) → truthText z ≡ 63 ∷ []
+pub truth-text : (z : ℤ) (b : ℕ) → b ≡ truthByte z → truthText z ≡ b ∷ []
 unfolding truthText
-truth-other (pos zero) x y = absurd (x refl)
-truth-other (pos (suc zero)) x y = absurd (y refl)
-truth-other (pos (suc (suc k))) x y = refl
-truth-other (negsuc k) x y = refl
+truth-text z b e = rw e
 
 -- a code beyond 127 has no form, whichever it is
 pub form-none : (c : ℕ) → isText c ≡ false → formOf (pos c) ≡ bad 16

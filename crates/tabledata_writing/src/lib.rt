@@ -17,7 +17,7 @@ ghost use Rattle.tabledata.specs.TableData.{bitText, elementBytes, formOf, form
 ghost use Rattle.tabledata_writing.specs.Contracts.{formSize, sizeWith};
 ghost use lib.IntN.{pos};
 ghost use lib.ListN.{drop, length, take};
-ghost use mathlib.Core.List.{[], _∷_, map};
+ghost use mathlib.Core.List.{_∷_, map};
 ghost use mathlib.Core.Path.{_≡_};
 
 // ---- a cell is measured
@@ -166,18 +166,6 @@ fn put_bits(count: usize, scratch: &[i64], out: &mut [u8], at: usize) -> usize
     at + k
 }
 
-fn truth_byte(z: i64) -> u8
-    ensures { λ r. ⌜ truthText z ≡ r ∷ [] ⌝ }
-{
-    if z == 0 {
-        return 70;
-    }
-    if z == 1 {
-        return 84;
-    }
-    63
-}
-
 // Each element but the first, behind a space.
 fn more_truths(count: usize, scratch: &[i64], out: &mut [u8], at: usize) -> usize
     requires { ⌜ (count ≤ length (now scratch)) × (at + length (joined (λ z. 32 ∷ truthText z) (drop 1 (take count (now scratch)))) ≤ length (now out)) ⌝ }
@@ -187,7 +175,7 @@ fn more_truths(count: usize, scratch: &[i64], out: &mut [u8], at: usize) -> usiz
     let mut k = 1;
     while k < count {
         out[i] = 32;
-        out[i + 1] = truth_byte(scratch[k]);
+        out[i + 1] = table::truth_byte(scratch[k]);
         i += 2;
         k += 1;
     }
@@ -201,7 +189,7 @@ fn put_truths(count: usize, scratch: &[i64], out: &mut [u8], at: usize) -> usize
     if count == 0 {
         return at;
     }
-    out[at] = truth_byte(scratch[0]);
+    out[at] = table::truth_byte(scratch[0]);
     more_truths(count, scratch, out, at + 1)
 }
 

@@ -1,7 +1,7 @@
 -- `binary_writing::put_truths` meets its contract. The loop's invariant: the bytes of the elements from k on, put there, make the whole.
 use Prim.Native.Nat.{_+_, _-_, _≤_, ℕ}
 use Rattle.binary_writing.proofs.Writing.{truth-next}
-use Rattle.binary.specs.Binary.{truthByte}
+use Rattle.table.specs.Cell.{truthByte}
 use Rattle.table.specs.Outcome.{at}
 use borrow.Author.Needs.{needs, sfits-of}
 use denote.Ref.{now}

@@ -10,7 +10,7 @@ use denote.Ref.{now}
 use mir.Facts.{toZ-ofZ}
 use mir.Syntax.{w64}
 use Rattle.table.proofs.Wrote.{Left, left-all, left-none, left-room, left-step}
-use Rattle.tabledata_writing.proofs.Writing.{taken-end, taken-more, truth-long, wrote-two}
+use Rattle.tabledata_writing.proofs.Writing.{taken-end, taken-more, truth-long, truth-text, wrote-two}
 use Rattle.tabledata.specs.TableData.{joined, truthText}
 use Rattle.tabledata_writing.proofs.more_truths.Statement.{statement}
 use Rattle.tabledata_writing.proofs.more_truths.Tie as tie
@@ -53,7 +53,7 @@ loop-again : tie.Need-loop-again Inv-loop μ-loop
 loop-again c =
     let a = c .before .before .before .before .before .args in let l = c .before .before .before .loop in
     let rest = joined (λ z. 32 ∷ truthText z) (drop (l .k + 1) (take (a .count) (now (a .scratch)))) in
-    let word = sym (ap truthText (toZ-ofZ {w = w64} (sfits-of (c .before .truth-byte-arg .given)))) ∙ c .truth-byte .ensures in
+    let word = sym (ap truthText (toZ-ofZ {w = w64} (sfits-of (c .before .truth-byte-arg .given)))) ∙ truth-text _ _ (c .truth-byte .ensures) in
     left-step (l .inv) (more (c .before .before) ∙ ap (λ (b : List ℕ). 32 ∷ (b ++ rest)) word) (wrote-two (l .out) (l .i) 32 (c .truth-byte .result))
 
 same-length : tie.Need-same-length Inv-loop μ-loop

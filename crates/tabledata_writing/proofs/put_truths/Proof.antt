@@ -9,7 +9,7 @@ use denote.Ref.{now}
 use mir.Facts.{toZ-ofZ}
 use mir.Syntax.{w64}
 use Rattle.table.proofs.Wrote.{wrote-as, wrote-long, wrote-none, wrote-one, wrote-then}
-use Rattle.tabledata_writing.proofs.Writing.{spaced-none, spaced-taken}
+use Rattle.tabledata_writing.proofs.Writing.{spaced-none, spaced-taken, truth-text}
 use Rattle.tabledata.specs.TableData.{joined, spaced, truthText}
 use Rattle.tabledata_writing.proofs.put_truths.Statement.{statement}
 use Rattle.tabledata_writing.proofs.put_truths.Tie as tie
@@ -24,7 +24,7 @@ whole : (c : tie.After-truth-byte) → let a = c .before .before .before .before
     spaced (map truthText (take (a .count) (now (a .scratch)))) ≡ (c .truth-byte .result ∷ []) ++ joined (λ z. 32 ∷ truthText z) (drop 1 (take (a .count) (now (a .scratch))))
 whole c =
     let at-if = c .before .before in let s = at-if .before .before in let a = s .args in
-    let word = sym (ap truthText (toZ-ofZ {w = w64} (sfits-of (c .before .truth-byte-arg .given)))) ∙ c .truth-byte .ensures in
+    let word = sym (ap truthText (toZ-ofZ {w = w64} (sfits-of (c .before .truth-byte-arg .given)))) ∙ truth-text _ _ (c .truth-byte .ensures) in
     spaced-taken truthText (now (a .scratch)) (a .count) (s .pre .0) (at-if .if1 .left)
     ∙ ap (λ (b : List ℕ). b ++ joined (λ z. 32 ∷ truthText z) (drop 1 (take (a .count) (now (a .scratch))))) word
 
