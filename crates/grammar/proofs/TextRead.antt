@@ -16,12 +16,12 @@ use Rattle.grammar.proofs.ShownRead.{shows-is, shows-read}
 use Rattle.grammar.proofs.WordsRead.{OneWord, bit-letters-dark, bits-are, bits-read, integer-is, integer-read, integer-word, no-word, one-word, one-word-of}
 use Rattle.grammar.proofs.WordsRead.{same-is, spaced-is, spaced-read, three-bytes, truth-is, truth-read, truth-word, two-words, words-blank, words-trimmed}
 use Rattle.grammar.proofs.WordsRead.{words-white}
-use Rattle.grammar.specs.Text.{Character, Characters, IsText, Many, TextCell, TextElements, TextShows, cell-empty, cell-text, char-amp, char-apos, char-decimal}
+use Rattle.grammar.specs.Text.{Character, Characters, IsText, Many, Marked, TextCell, TextElements, TextShows, char-amp, char-apos, char-decimal}
 use Rattle.grammar.specs.Text.{char-gt, char-hexadecimal, char-itself, char-lt, char-quot, chars-end, chars-then, many-bounded, many-fixed, many-free}
 use Rattle.grammar.specs.Text.{many-shorter, shows-elements, shows-empty, text-bits, text-chars, text-line-feed, text-other, text-return, text-tab, text-truths}
-use Rattle.grammar.specs.Text.{text-whole}
+use Rattle.grammar.specs.Text.{marked-empty, marked-text, text-cell, text-whole}
 use Rattle.grammar.specs.Words.{BitLetters, Digit, Hexadigit, IntegerWord, Numeral, Tag, Trimmed, TruthWord, White, a-tag, bits-0, bits-1, bits-end, figure}
-use Rattle.grammar.specs.Words.{hex-capital, hex-figure, hex-small, trimmed, white-end, words-none}
+use Rattle.grammar.specs.Words.{hex-capital, hex-figure, hex-small, trimmed, white-end}
 use Rattle.number.specs.Number.{digit, hexadigit, numeral, sized}
 use Rattle.table.proofs.Laws.{and-both, between-is, between-yes, cond-cases, holds-as, holds-bind, holds-cond, holds-else, holds-weaken, nil-not-null, no-white, or-either}
 use Rattle.table.specs.All.{All}
@@ -184,11 +184,6 @@ characters-is (reference name) (b ∷ s) = reference-is name b s (λ v. characte
 
 -- ---- a cell's text
 
--- a TD element and its characters
-data CellText : List ℕ → List ℕ → Type 0 where
-  text-empty : {t : List ℕ} → Tag (bytes "<TD") (bytes "/>") t → CellText t []
-  text-full : {a b z cs : List ℕ} → Tag (bytes "<TD") (bytes ">") a → Characters b cs → Tag (bytes "</TD") (bytes ">") z → CellText (a ++ (b ++ z)) cs
-
 -- white space before
 pub record Indented {A : Type 0} (P : List ℕ → A → Type 0) (s : List ℕ) (p : A × List ℕ) : Type 0 where
   pub white : List ℕ
@@ -208,16 +203,16 @@ opens : {w : List ℕ} → White w → (t : List ℕ) → cellText (w ++ (bytes 
 unfolding cellText open-TD after
 opens w t = rw (skip-white w (bytes "<TD" ++ t), skip-stays 60 (84 ∷ 68 ∷ t) (no-white 60 (lit≤ tt)))
 
-cell-text-read : {w t cs : List ℕ} → White w → CellText t cs → (rest : List ℕ) → cellText (w ++ (t ++ rest)) ≡ good (cs, rest)
-cell-text-read {w} h (text-empty (a-tag {w = u} k)) rest =
+cell-text-read : {w t cs : List ℕ} → White w → Marked t cs → (rest : List ℕ) → cellText (w ++ (t ++ rest)) ≡ good (cs, rest)
+cell-text-read {w} h (marked-empty (a-tag {w = u} k)) rest =
     opens h ((u ++ bytes "/>") ++ rest) ∙ rw (append-assoc u (bytes "/>") rest, ends-word 10 47 (62 ∷ []) rest (no-white 47 (lit≤ tt)) k)
-cell-text-read {w} h (text-full {b = b} {z = z} (a-tag {w = u} k) r c) rest =
+cell-text-read {w} h (marked-text {b = b} {z = z} (a-tag {w = u} k) r c) rest =
     opens h _
     ∙ ap inside (append-assoc (u ++ bytes ">") (b ++ z) rest ∙ append-assoc u (bytes ">") ((b ++ z) ++ rest) ∙ ap (λ (x : List ℕ). u ++ (62 ∷ x)) (append-assoc b z rest))
     ∙ rw (ends-other 10 47 62 (62 ∷ []) (b ++ (z ++ rest)) (no-white 62 (lit≤ tt)) refl k, ends-word 10 62 [] (b ++ (z ++ rest)) (no-white 62 (lit≤ tt)) k)
     (characters-read r c rest)
 
-cell-text-is : (s : List ℕ) → Holds (Indented CellText s) (cellText s)
+cell-text-is : (s : List ℕ) → Holds (Indented Marked s) (cellText s)
 unfolding cellText open-TD
 cell-text-is s =
     holds-bind (after-is 10 (bytes "<TD") (skipWhite s)) (λ t e.
@@ -227,7 +222,7 @@ cell-text-is s =
       is-white = skip-is s .spelled;
       taken = bytes "<TD" ++ (r .spelled .0 ++ bytes "/>");
       whole = skip-is s .whole ∙ ap (λ (x : List ℕ). skip-is s .taken ++ x) (e ∙ ap (λ (x : List ℕ). bytes "<TD" ++ x) (r .whole ∙ ap (λ (x : List ℕ). x ++ rest) (r .spelled .2)));
-      spelled = text-empty (a-tag (r .spelled .1));
+      spelled = marked-empty (a-tag (r .spelled .1));
     })))
     (holds-bind (ends-is 10 (bytes ">") t) (λ u r. holds-weaken (characters-is plain u) (λ p h. record {
       white = skip-is s .taken;
@@ -236,7 +231,7 @@ cell-text-is s =
       whole = skip-is s .whole ∙ ap (λ (x : List ℕ). skip-is s .taken ++ x) (e ∙ ap (λ (x : List ℕ). bytes "<TD" ++ x)
           (r .whole ∙ ap (λ (x : List ℕ). x ++ u) (r .spelled .2) ∙ ap (λ (x : List ℕ). (r .spelled .0 ++ bytes ">") ++ x) (h .whole ∙ sym (append-assoc (h .body) (h .close) (p .1)))
           ∙ sym (append-assoc (r .spelled .0 ++ bytes ">") (h .body ++ h .close) (p .1))));
-      spelled = text-full (a-tag (r .spelled .1)) (h .spelled) (h .closed);
+      spelled = marked-text (a-tag (r .spelled .1)) (h .spelled) (h .closed);
     }))))
 
 -- ---- characters that may stand in a cell
@@ -354,26 +349,18 @@ text-shows-is c cs =
     go (e ∷ es) h m = rw (something-left c e es)
         (shows-elements h (or-either (eqb (suc (length es)) 0) _ m (λ z. absurd (omega (arith, eqb-true (suc (length es)) 0 z))) (λ z. many-is _ _ _ z)) (shows-is c (e ∷ es)))
 
-nil-elements : (k : Shape) → TextElements k [] []
-nil-elements Truths = text-truths (words-none white-end)
-nil-elements Bits = text-bits (trimmed white-end bits-end white-end)
-nil-elements (Whole g v) = text-whole (words-none white-end)
-nil-elements Text = text-chars
-
-nil-cell : (c : Column) → textCell c [] ≡ good null
-nil-cell c = text-shows-read tt (shows-empty (nil-elements (shape (c .kind))))
-
 -- ---- a cell
 
 pub cell-read : {c : Column} {w t : List ℕ} {x : Cell} → White w → TextCell c t x → (rest : List ℕ) → readText c (w ++ (t ++ rest)) ≡ good (x, rest)
 unfolding readText
-cell-read {c} w (cell-empty h) rest = rw (cell-text-read w (text-empty h) rest, nil-cell c)
-cell-read {c} w (cell-text h r a x z) rest = rw (cell-text-read w (text-full h r z) rest, text-shows-read a x)
+cell-read {c} w (text-cell m a x) rest = rw (cell-text-read w m rest, text-shows-read a x)
 
 pub cell-is : (c : Column) (s : List ℕ) → Holds (Indented (TextCell c) s) (readText c s)
 unfolding readText
-cell-is c s = holds-bind (cell-text-is s) (λ p r. go (p .0) (p .1) (r .white) (r .is-white) (r .taken) (r .whole) (r .spelled))
-  where
-    go : (cs rest w : List ℕ) → White w → (t : List ℕ) → s ≡ w ++ (t ++ rest) → CellText t cs → Holds (Indented (TextCell c) s) (textCell c cs >>= λ x. good (x, rest))
-    go cs rest w h t e (text-empty k) = rw (nil-cell c) (holds (record { white = w; is-white = h; taken = t; whole = e; spelled = cell-empty k }))
-    go cs rest w h t e (text-full k r z) = holds-bind (text-shows-is c cs) (λ x a. holds (record { white = w; is-white = h; taken = t; whole = e; spelled = cell-text k r (a .0) (a .1) z }))
+cell-is c s = holds-bind (cell-text-is s) (λ p r. holds-bind (text-shows-is c (p .0)) (λ x a. holds (record {
+  white = r .white;
+  is-white = r .is-white;
+  taken = r .taken;
+  whole = r .whole;
+  spelled = text-cell (r .spelled) (a .0) (a .1);
+})))

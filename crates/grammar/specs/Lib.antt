@@ -4,5 +4,7 @@ pub mod Text
 pub mod Binaries
 pub mod Declarations
 pub mod Base64Text
+pub mod CellRefusals
+pub mod DeclarationRefusals
 pub mod Valid
 pub mod Exact

@@ -82,14 +82,18 @@ pub data TextShows (c : Column) : List ℕ → Cell → Type 0 where
 
 -- ---- cells, rows, tables
 
--- a TD element
+-- a TD element and the characters between its tags
+pub data Marked : List ℕ → List ℕ → Type 0 where
+  -- "`<TD/>` is empty."
+  marked-empty : {t : List ℕ} → Tag (bytes "<TD") (bytes "/>") t → Marked t []
+  -- "In a cell `<` may only begin `</TD`"
+  marked-text : {a b z cs : List ℕ} → Tag (bytes "<TD") (bytes ">") a → Characters b cs → Tag (bytes "</TD") (bytes ">") z → Marked (a ++ (b ++ z)) cs
+
+-- a TD element and what it shows; 000, 5.1: "If the TD element is empty (`<TD/>` or `<TD></TD>`) the cell is considered to contain no data, i.e.
+-- to be null."
 pub data TextCell (c : Column) : List ℕ → Cell → Type 0 where
-  -- "`<TD/>` is empty."; 000, 5.1: "If the TD element is empty (`<TD/>` or `<TD></TD>`) the cell is considered to contain no data, i.e. to be
-  -- null."
-  cell-empty : {t : List ℕ} → Tag (bytes "<TD") (bytes "/>") t → TextCell c t null
-  -- "In a cell `<` may only begin `</TD`" "After expansion each character must be 9, 10, 13 or 32 to 127"
-  cell-text : {a b z cs : List ℕ} {x : Cell} → Tag (bytes "<TD") (bytes ">") a → Characters b cs → All IsText cs → TextShows c cs x
-      → Tag (bytes "</TD") (bytes ">") z → TextCell c (a ++ (b ++ z)) x
+  -- "After expansion each character must be 9, 10, 13 or 32 to 127"
+  text-cell : {t cs : List ℕ} {x : Cell} → Marked t cs → All IsText cs → TextShows c cs x → TextCell c t x
 
 -- 000, 5.1: "The number of TD elements in each TR element must be equal to the number of FIELD elements declaring the table."
 pub data TextCells : List Column → List ℕ → List Cell → Type 0 where
