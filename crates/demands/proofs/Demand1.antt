@@ -2,15 +2,15 @@
 use Prim.Native.Nat.{_≤_, zero-le, ℕ}
 use native.Mathlib.Nat.{zero-add}
 use native.Mathlib.Omega.{arith}
-use mathlib.Core.Bool.{cond}
+use mathlib.Core.Bool.{Bool, cond, false, true}
 use mathlib.Core.List.{List, [], _++_}
-use mathlib.Core.Path.{_∙_, _≡_, refl}
+use mathlib.Core.Path.{_∙_, _≡_, ap, refl, subst⁻¹, sym}
 use lib.Dec.{ltb}
 use lib.ListN.{drop, length}
 use lib.Seq.{take-at}
-use Rattle.demands.proofs.Writing.{Done, EndsAt, done-of, writes}
-use Rattle.demands.specs.Demands.{Accepted, Demand1, Ended, RowsStand, output}
-use Rattle.demands.specs.Tables.{Ends, count, lines, upTo}
+use Rattle.demands.proofs.Writing.{Done, EndsAt, Stopped, done-of, no-form, not-read, too-long, writes}
+use Rattle.demands.specs.Demands.{Demand1, Ended, NoRows, RowsStand, Sized, Why, all-rows, in-reading, in-writing, no-space, output}
+use Rattle.demands.specs.Tables.{lines}
 use Rattle.fields.proofs.Front.{front-fails}
 use Rattle.fields.proofs.Refusals.{AtPlace}
 use Rattle.fields.specs.Fields.{declare}
@@ -18,7 +18,6 @@ use Rattle.fields.specs.Front.{front}
 use Rattle.rows.proofs.Laws.{read-stops}
 use Rattle.rows.specs.Convert.{convert, converting, underColumns}
 use Rattle.rows.specs.Stream.{Table, read, run}
-use Rattle.table.proofs.Laws.{cond-cases}
 use Rattle.table.specs.Outcome.{Outcome, Refusal, accepted, answerOf, at, bufferOf, ending, mostInput, mostNumber, refused, rowsDone, written}
 use Rattle.table.specs.Result.{Fails, Result, _>>=_, bad, fails, good}
 use Rattle.table.specs.declared.Column.{Column}
@@ -47,26 +46,27 @@ buffer-of o out = refl
 
 -- ---- rows that stand, for an outcome
 
-all-of : (cs : List Column) (t : Table) (done : ℕ) (o : Outcome) (out : List ℕ) → EndsAt cs t done o → rowsDone o ≡ done → Accepted (ending o out)
-    → Ends t × (ending o out .answer .rows ≡ count t) × (ending o out .answer .row ≡ 0) × (ending o out .answer .column ≡ 0)
-unfolding ending answerOf rowsDone
-all-of cs t done (accepted r w) out e q a = (e .0, q ∙ e .1, refl, refl)
-all-of cs t done (refused x r w) out e q a = absurd (omega (arith, e .0 .0, a))
+why-of : (to : Rows) (cs : List Column) (room : ℕ) (t : Table) (done : ℕ) (o : Outcome) (out : List ℕ) → EndsAt to cs room t done o → rowsDone o ≡ done
+    → Why to cs room t done (length (written o)) (ending o out .answer .number) (ending o out .answer .row) (ending o out .answer .column)
+unfolding ending answerOf rowsDone written
+why-of to cs room t done (accepted r w) out e q = all-rows (e .0) (e .1)
+why-of to cs room t done (refused x r w) out e q =
+    subst⁻¹ (λ (row : ℕ). Why to cs room t done (length w) (x .number) row (x .column)) q (stopped-why x (e .1))
+  where
+    stopped-why : (e : Refusal) → Stopped to cs room t done (length w) e → Why to cs room t done (length w) (e .number) done (e .column)
+    stopped-why e (not-read h) = in-reading h
+    stopped-why e (no-form h k) = in-writing h k
+    stopped-why e (too-long h k l) = unfold at in no-space h k l
 
-row-of : (o : Outcome) (out : List ℕ) → ¬ Accepted (ending o out) → ending o out .answer .row ≡ ending o out .answer .rows
+column-of : (to : Rows) (cs : List Column) (room : ℕ) (t : Table) (done : ℕ) (o : Outcome) (out : List ℕ) → EndsAt to cs room t done o → ending o out .answer .column ≤ length cs
 unfolding ending answerOf
-row-of (accepted r w) out n = absurd (n refl)
-row-of (refused e r w) out n = refl
+column-of to cs room t done (accepted r w) out e = zero-le
+column-of to cs room t done (refused x r w) out e = e .0 .1
 
-column-of : (cs : List Column) (t : Table) (done : ℕ) (o : Outcome) (out : List ℕ) → EndsAt cs t done o → ending o out .answer .column ≤ length cs
+number-of : (to : Rows) (cs : List Column) (room : ℕ) (t : Table) (done : ℕ) (o : Outcome) (out : List ℕ) → EndsAt to cs room t done o → ending o out .answer .number ≤ mostNumber
 unfolding ending answerOf
-column-of cs t done (accepted r w) out e = zero-le
-column-of cs t done (refused x r w) out e = e .1
-
-number-of : (cs : List Column) (t : Table) (done : ℕ) (o : Outcome) (out : List ℕ) → EndsAt cs t done o → ending o out .answer .number ≤ mostNumber
-unfolding ending answerOf
-number-of cs t done (accepted r w) out e = zero-le
-number-of cs t done (refused x r w) out e = e .0 .1
+number-of to cs room t done (accepted r w) out e = zero-le
+number-of to cs room t done (refused x r w) out e = e .0 .0 .1
 
 pub run-done : (from to : Rows) (cs : List Column) (room : ℕ) (input : List ℕ) → Done to cs room 0 [] (read from cs input) (run from to cs room input)
 unfolding run
@@ -76,45 +76,40 @@ done-stands : (from to : Rows) (cs : List Column) (input out : List ℕ) (o : Ou
     → RowsStand cs from to input out (ending o out)
 unfolding lines output
 done-stands from to cs input out o d =
-    let rows : ending o out .answer .rows ≡ d .done = rows-of o out ∙ d .rows ∙ zero-add (d .done) in
+    let done : rowsDone o ≡ d .done = d .rows ∙ zero-add (d .done) in
+    let rows : ending o out .answer .rows ≡ d .done = rows-of o out ∙ done in
     record {
       rows-read = rw rows (d .read);
       lines-whole = rw (rows, output-of o out, d .output) (d .whole);
+      bytes-are = bytes-of o out ∙ ap length (sym (output-of o out));
       within-room = rw (bytes-of o out) (d .fits zero-le);
       untouched = rw (output-of o out, bytes-of o out) (buffer-of o out);
-      all-rows = all-of cs (read from cs input) (d .done) o out (d .ended) (d .rows ∙ zero-add (d .done));
-      refused-row = row-of o out;
-      column-within = column-of cs (read from cs input) (d .done) o out (d .ended);
+      why = rw (rows, bytes-of o out) (why-of to cs (length out) (read from cs input) (d .done) o out (d .ended) done);
+      column-within = column-of to cs (length out) (read from cs input) (d .done) o out (d .ended);
     }
 
--- an input over its size: no row is done
-too-long : (from to : Rows) (cs : List Column) (input out : List ℕ) → RowsStand cs from to input out (ending (refused (at 0 6) 0 []) out)
-unfolding ending answerOf bufferOf written output upTo lines at
-too-long from to cs input out =
-    record {
-      rows-read = zero-le;
-      lines-whole = refl;
-      within-room = zero-le;
-      untouched = refl;
-      all-rows = λ a. absurd (omega (arith, a));
-      refused-row = λ _. refl;
-      column-within = zero-le;
-    }
+-- refused before any row
+at-once : (e : Refusal) (out : List ℕ) → NoRows e out (ending (refused e 0 []) out)
+at-once e out = record { refused-at-once = unfold ending answerOf in refl; untouched = unfold ending bufferOf written in refl }
+
+sized-at : (oversized : Bool) (cs : List Column) (from to : Rows) (input out : List ℕ)
+    → Sized oversized cs from to input out (ending (underColumns (cond oversized (bad (at 0 6)) (good cs)) (λ cs. run from to cs (length out) input)) out)
+unfolding underColumns
+sized-at true cs from to input out = at-once (at 0 6) out
+sized-at false cs from to input out = done-stands from to cs input out (run from to cs (length out) input) (run-done from to cs (length out) input)
 
 ended-at : (r : Result Refusal (List Column)) (from to : Rows) (input out : List ℕ)
     → Ended r from to input out (ending (underColumns (r >>= λ cs. cond (ltb mostInput (length input)) (bad (at 0 6)) (good cs)) (λ cs. run from to cs (length out) input)) out)
 unfolding underColumns
-ended-at (good cs) from to input out =
-    cond-cases (λ (r : Result Refusal (List Column)). RowsStand cs from to input out (ending (underColumns r (λ cs. run from to cs (length out) input)) out))
-    (ltb mostInput (length input)) (bad (at 0 6)) (good cs)
-    (λ _. too-long from to cs input out) (λ _. done-stands from to cs input out (run from to cs (length out) input) (run-done from to cs (length out) input))
-ended-at (bad e) from to input out = record { refused-declarations = unfold ending answerOf in refl; untouched = unfold ending bufferOf written in refl }
+ended-at (good cs) from to input out = sized-at (ltb mostInput (length input)) cs from to input out
+ended-at (bad e) from to input out = at-once e out
 
 numbered-at : (r : Result Refusal (List Column)) (from to : Rows) (input out : List ℕ) → Fails AtPlace r
     → ending (underColumns r (λ cs. run from to cs (length out) input)) out .answer .number ≤ mostNumber
 unfolding underColumns
 numbered-at (good cs) from to input out f =
-    let d = run-done from to cs (length out) input in number-of cs (read from cs input) (d .done) (run from to cs (length out) input) out (d .ended)
+    let d = run-done from to cs (length out) input in
+    number-of to cs (length out) (read from cs input) (d .done) (run from to cs (length out) input) out (d .ended)
 numbered-at (bad e) from to input out (fails h) = unfold ending answerOf in omega (arith, h .0 .1)
 
 pub demand1 : Demand1 convert

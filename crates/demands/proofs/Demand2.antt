@@ -1,27 +1,29 @@
 -- Demand 2 of the converter. What is written reads back since each line does (Writing); acceptance is validity since the outcome is
 -- accepted just where the table ends, every row has a line and the lines have room.
-use Prim.Native.Nat.{_≤_, ℕ}
+use Prim.Native.Nat.{_≤_, suc, zero, ℕ}
 use native.Mathlib.Nat.{zero-add}
 use native.Mathlib.Omega.{arith}
 use mathlib.Core.Bool.{Bool, false, true}
 use mathlib.Core.List.{List, []}
+use mathlib.Core.Option.{Option·none-ne-some, some}
 use mathlib.Core.Path.{_∙_, _≡_, ap, refl, subst, sym}
 use lib.Dec.{ltb}
 use lib.ListN.{length, length-take}
-use borrow.Author.Tests.{ltb-false, ltb-true}
+use borrow.Author.Tests.{le-ltb, ltb-false, ltb-true}
 use Rattle.demands.proofs.Demand1.{demand1}
 use Rattle.demands.proofs.Writing.{accepts, lines-good, lines-read, up-to-all}
-use Rattle.demands.specs.Demands.{Accepted, Demand2, Ended, RowsStand, ThereAndBack, Valid, output}
-use Rattle.demands.specs.Tables.{Ends, count, lines, upTo}
+use Rattle.demands.specs.Demands.{Accepted, Demand2, Ended, RowsStand, Sized, ThereAndBack, Valid, Why, all-rows, in-reading, in-writing, no-space, output}
+use Rattle.demands.specs.Tables.{Ends, count, lines, stopAt, upTo}
 use Rattle.fields.proofs.Laws.{declare-is}
 use Rattle.fields.proofs.Refusals.{AtPlace}
 use Rattle.fields.proofs.Front.{front-fails, front-oversized, front-undeclared}
 use Rattle.fields.specs.Fields.{declare}
 use Rattle.fields.specs.Front.{front}
 use Rattle.rows.proofs.Calls.{converts}
-use Rattle.rows.proofs.Sequences.{AllRows, rows-weaken}
-use Rattle.rows.proofs.Laws.{FitsAll, read-fits, text-rows}
+use Rattle.rows.proofs.Sequences.{AllRows, Stops, rows-weaken}
+use Rattle.rows.proofs.Laws.{FitsAll, Placed, read-fits, read-stops, text-rows, write-row-fails}
 use Rattle.rows.specs.Convert.{convert, converting, underColumns}
+use Rattle.rows.specs.Sequence.{finished, row, stopped}
 use Rattle.rows.specs.Stream.{Table, read, run, writeCell}
 use Rattle.table.proofs.Laws.{each-weaken, fails-at, holds-at, the}
 use Rattle.table.specs.All.{AreBytes}
@@ -38,18 +40,52 @@ use Rattle.tabledata.proofs.Laws.{TextFits}
 pub declared-columns : (decls : List ℕ) (cs : List Column) → declare decls ≡ good cs → AreColumns cs
 declared-columns decls cs q = holds-at (declare-is decls) q
 
-pub stands : (decls : List ℕ) (from to : Rows) (input out : List ℕ) (cs : List Column) → declare decls ≡ good cs
-    → RowsStand cs from to input out (convert decls from to input out)
-stands decls from to input out cs q =
+ended-by : (decls : List ℕ) (from to : Rows) (input out : List ℕ) (cs : List Column) → declare decls ≡ good cs
+    → Sized (ltb mostInput (length input)) cs from to input out (convert decls from to input out)
+ended-by decls from to input out cs q =
     subst (λ (r : Result Refusal (List Column)). Ended r from to input out (convert decls from to input out)) q (demand1 .ended decls from to input out)
+
+pub stands : (decls : List ℕ) (from to : Rows) (input out : List ℕ) (cs : List Column) → declare decls ≡ good cs → length input ≤ mostInput
+    → RowsStand cs from to input out (convert decls from to input out)
+stands decls from to input out cs q h =
+    subst (λ (b : Bool). Sized b cs from to input out (convert decls from to input out)) (le-ltb mostInput (length input) h) (ended-by decls from to input out cs q)
+
+-- the output is the lines of the rows done, whether the input has its size or not
+pub lines-written : (decls : List ℕ) (from to : Rows) (input out : List ℕ) (cs : List Column) → declare decls ≡ good cs
+    → lines to cs (upTo (convert decls from to input out .answer .rows) (read from cs input)) ≡ good (output (convert decls from to input out))
+lines-written decls from to input out cs q = go (ltb mostInput (length input)) (convert decls from to input out) (ended-by decls from to input out cs q)
+  where
+    go : (b : Bool) (c : Call) → Sized b cs from to input out c → lines to cs (upTo (c .answer .rows) (read from cs input)) ≡ good (output c)
+    go false c s = s .lines-whole
+    go true c s = unfold lines upTo output in rw (s .refused-at-once)
+
+-- ---- what was accepted
+
+stop-has : (P : Refusal → Type 0) (t : Table) (j : ℕ) (e : Refusal) → Stops P t → stopAt j t ≡ some e → P e
+unfolding stopAt
+stop-has P finished j e h q = absurd (Option·none-ne-some e q)
+stop-has P (stopped x) zero e h q = let k : x ≡ e = cc in rw (← k) h
+stop-has P (stopped x) (suc j) e h q = absurd (Option·none-ne-some e q)
+stop-has P (row xs t) zero e h q = absurd (Option·none-ne-some e q)
+stop-has P (row xs t) (suc j) e h q = stop-has P t j e h q
+
+-- a call that is accepted has done all the rows: no refusal has the number 0
+all-done : (to : Rows) (cs : List Column) (room : ℕ) (t : Table) (rows size n r k : ℕ) → Stops (Placed 8 13 (length cs)) t → Why to cs room t rows size n r k
+    → n ≡ 0 → Ends t × (rows ≡ count t)
+all-done to cs room t rows size n r k s (all-rows e q) z = (e, q)
+all-done to cs room t rows size n r k s (in-reading {e = e} q) z =
+    let p : Placed 8 13 (length cs) e = stop-has (Placed 8 13 (length cs)) t rows e s q in absurd (omega (arith, p .0 .0, z))
+all-done to cs room t rows size n r k s (in-writing {e = e} {xs = xs} q w) z =
+    let p : Placed 14 16 (length cs) e = fails-at (write-row-fails to cs xs) w in absurd (omega (arith, p .0 .0, z))
+all-done to cs room t rows size n r k s (no-space q w h) z = absurd (omega (arith, z))
 
 -- ---- acceptance is validity
 
 valid-of : (decls : List ℕ) (from to : Rows) (input out : List ℕ) (cs : List Column) → declare decls ≡ good cs → length input ≤ mostInput
     → Accepted (convert decls from to input out) → Valid decls from to input (length out)
 valid-of decls from to input out cs q h a =
-    let s : RowsStand cs from to input out (convert decls from to input out) = stands decls from to input out cs q in
-    let e = s .all-rows a in
+    let s : RowsStand cs from to input out (convert decls from to input out) = stands decls from to input out cs q h in
+    let e = all-done to cs (length out) (read from cs input) _ _ _ _ _ (read-stops from cs input) (s .why) a in
     record {
       columns = cs;
       declared = q;
@@ -79,6 +115,13 @@ accepted-valid decls from to input out a = go (declare decls) refl
     go (bad e) q = absurd (not-past decls from to input out e (front-undeclared decls (length input) e q) a)
     go (good cs) q = sized cs q (ltb mostInput (length input)) refl
 
+-- under its declarations
+pub accepted-ends : (decls : List ℕ) (from to : Rows) (input out : List ℕ) (cs : List Column) → declare decls ≡ good cs → Accepted (convert decls from to input out)
+    → Ends (read from cs input) × (convert decls from to input out .answer .rows ≡ count (read from cs input))
+accepted-ends decls from to input out cs q a =
+    let v : Valid decls from to input (length out) = accepted-valid decls from to input out a in
+    all-done to cs (length out) (read from cs input) _ _ _ _ _ (read-stops from cs input) (stands decls from to input out cs q (v .sized) .why) a
+
 pub runs : (from to : Rows) (cs : List Column) (s body : List ℕ) (t : Table) → read from cs s ≡ t → Ends t → lines to cs t ≡ good body
     → (room : ℕ) → length body ≤ room → run from to cs room s ≡ accepted (count t) body
 unfolding run
@@ -97,7 +140,7 @@ means-of : (decls : List ℕ) (from to : Rows) (input out : List ℕ) (cs : List
     → read to cs (output (convert decls from to input out)) ≡ upTo (convert decls from to input out .answer .rows) (read from cs input)
 means-of decls from to input out cs q a =
     lines-read to cs (declared-columns decls cs q) (convert decls from to input out .answer .rows) (read from cs input) (read-fits from cs input a)
-    (output (convert decls from to input out)) (stands decls from to input out cs q .lines-whole)
+    (output (convert decls from to input out)) (lines-written decls from to input out cs q)
 
 -- ---- TABLEDATA to BINARY2 and back
 
@@ -134,6 +177,6 @@ demand2 =
     record {
       exactly = λ decls from to input out. (accepted-valid decls from to input out, valid-accepted decls from to input out);
       means = means-of;
-      does-all = λ decls from to input out cs q a. stands decls from to input out cs q .all-rows a .1;
+      does-all = λ decls from to input out cs q a. accepted-ends decls from to input out cs q a .1;
       there-and-back = there-and-back-of;
     }

@@ -1,73 +1,90 @@
 -- Demand 3 of the converter. What a row gets is what the target has for its cells, `writeRow`, and that sees nothing else: so two rows that
 -- show the same get the same. Bytes that show nothing: Unseen.
-use Prim.Native.Nat.{_+_, _<_, suc, zero, ℕ}
-use native.Mathlib.Nat.{add-zero, zero-add}
+use Prim.Native.Nat.{_+_, _<_, _≤_, suc, zero, ℕ}
+use native.Mathlib.Nat.{add-suc, add-zero, zero-add}
 use native.Mathlib.Omega.{arith}
 use mathlib.Core.Bool.{Bool, cond, false, true}
 use mathlib.Core.List.{List, [], _++_, append-assoc, append-nil}
 use mathlib.Core.Option.{Option·none-ne-some, some}
 use mathlib.Core.Path.{_∙_, _≡_, ap, refl, subst, sym}
 use lib.Dec.{ltb}
-use lib.ListN.{getD, length}
-use Rattle.demands.proofs.Demand1.{output-of, run-done}
+use lib.ListN.{getD, length, length-append}
+use borrow.Author.Tests.{le-ltb}
+use Rattle.demands.proofs.Demand1.{output-of}
 use Rattle.rows.proofs.Calls.{converts}
 use Rattle.demands.proofs.Demand2.{declared-columns}
 use Rattle.demands.proofs.Unseen.{unseen}
-use Rattle.demands.proofs.Writing.{Done, EndsAt, Writes, all-written, done-of, lines-read, next-row, no-room, unread, unwritten, writes}
+use Rattle.demands.proofs.Writing.{Writes, all-written, goes-on, lines-read, next-row, no-room, unread, unwritten, writes}
 use Rattle.demands.specs.Demands.{Comes, Demand3, RefusedAt, SameFate, Stands, Stream, both-refused, both-written, called}
 use Rattle.demands.specs.Places.{showsAt}
 use Rattle.demands.specs.Tables.{lines, rowAt, upTo}
 use Rattle.fields.specs.Fields.{declare}
 use Rattle.fields.specs.Front.{front}
-use Rattle.rows.proofs.Sequences.{AllRows, Stops}
-use Rattle.rows.proofs.Laws.{FitsAll, Placed, newline, newline-read, read-fits, read-nothing, read-row, read-stops, row-back}
+use Rattle.rows.proofs.Sequences.{AllRows}
+use Rattle.rows.proofs.Laws.{FitsAll, Placed, newline, newline-read, read-fits, read-nothing, read-row, row-back, write-row-fails}
 use Rattle.rows.specs.Convert.{convert, converting, underColumns}
-use Rattle.rows.specs.Stream.{Table, read, run, writeRow}
+use Rattle.rows.specs.Stream.{Table, fitted, read, run, write, writeRow, wroteThen}
 use Rattle.rows.specs.Sequence.{finished, row, stopped}
-use Rattle.table.proofs.Laws.{holds-at}
+use Rattle.table.proofs.Laws.{bind-good, fails-at, holds-at}
 use Rattle.table.specs.Cell.{AreColumns, Cell}
 use Rattle.table.specs.Outcome.{Call, Outcome, Refusal, answerOf, at, ending, mostInput, refused, written}
-use Rattle.table.specs.Result.{Result, bad, good}
+use Rattle.table.specs.Result.{Result, _>>=_, bad, good}
 use Rattle.table.specs.declared.Column.{Column}
 use Rattle.table.specs.declared.Rows.{Rows}
 use Rattle.table.specs.declared.Rows.the-variants.{Binary2}
 
--- ---- what row j of a table gets
+-- ---- what row j of a table gets, where the rows before it have lines and there is room for them and for its own
 
--- its bytes, behind those of the rows before it; its own refusal; no room; or an earlier row was refused
-pub data Gets (to : Rows) (cs : List Column) (xs : List Cell) (r : ℕ) (out : List ℕ) (t : Table) (j : ℕ) : Outcome → Type 0 where
-  its-bytes : {o : Outcome} (before b behind : List ℕ) → writeRow to cs xs ≡ good b → lines to cs (upTo j t) ≡ good before
-      → written o ≡ out ++ (before ++ (b ++ behind)) → Gets to cs xs r out t j o
-  its-refusal : {e : Refusal} {r′ : ℕ} {w : List ℕ} → writeRow to cs xs ≡ bad e → r′ ≡ r + j → Gets to cs xs r out t j (refused e r′ w)
-  no-space : {r′ : ℕ} {w : List ℕ} → r′ ≡ r + j → Gets to cs xs r out t j (refused (at 0 17) r′ w)
-  earlier : {e : Refusal} {r′ : ℕ} {w : List ℕ} → r′ < r + j → Gets to cs xs r out t j (refused e r′ w)
+abbrev Gets : List ℕ → Result Refusal (List ℕ) → ℕ → Outcome → Type 0
+Gets before (good b) r o = (behind : List ℕ) × (written o ≡ before ++ (b ++ behind))
+Gets before (bad e) r o = o ≡ refused e r before
 
-is-row : (to : Rows) (cs : List Column) (ys xs : List Cell) → some ys ≡ some xs → writeRow to cs xs ≡ writeRow to cs ys
-is-row to cs ys xs q = let e : ys ≡ xs = cc in rw e
+abbrev Roomy : ℕ → List ℕ → Result Refusal (List ℕ) → Type 0
+Roomy room before (good b) = length (before ++ b) ≤ room
+Roomy room before (bad e) = Unit {0}
 
--- a row further on
-shift : (to : Rows) (cs : List Column) (xs ys : List Cell) (r : ℕ) (out b : List ℕ) (t : Table) (j : ℕ) (o : Outcome) → writeRow to cs ys ≡ good b
-    → Gets to cs xs (r + 1) (out ++ b) t j o → Gets to cs xs r out (row ys t) (suc j) o
-unfolding lines upTo
-shift to cs xs ys r out b t j o q (its-bytes before c behind w l e) =
-    its-bytes (b ++ before) c behind w (rw (q, l)) (e ∙ append-assoc out b (before ++ (c ++ behind)) ∙ ap (λ (z : List ℕ). out ++ z) (sym (append-assoc b before (c ++ behind))))
-shift to cs xs ys r out b t j o q (its-refusal {r′ = r′} w e) = its-refusal {r′ = r′} w (omega arith)
-shift to cs xs ys r out b t j o q (no-space {r′ = r′} e) = no-space {r′ = r′} (omega arith)
-shift to cs xs ys r out b t j o q (earlier {r′ = r′} h) = earlier {r′ = r′} (omega arith)
+more-written : (to : Rows) (cs : List Column) (room r : ℕ) (out : List ℕ) (t : Table) → (behind : List ℕ) × (written (write to cs room r out t) ≡ out ++ behind)
+more-written to cs room r out t = go (writes to cs room r out t)
+  where
+    go : {r : ℕ} {out : List ℕ} {t : Table} {o : Outcome} → Writes to cs room r out t o → (behind : List ℕ) × (written o ≡ out ++ behind)
+    go {out = out} all-written = unfold written in ([], sym (append-nil out))
+    go {out = out} unread = unfold written in ([], sym (append-nil out))
+    go {out = out} (unwritten q) = unfold written in ([], sym (append-nil out))
+    go {out = out} (no-room q h) = unfold written in ([], sym (append-nil out))
+    go {out = out} (next-row {b = b} q h w) = let m = go w in (b ++ m .0, m .1 ∙ append-assoc out b (m .0))
 
-pub gets : (to : Rows) (cs : List Column) (room : ℕ) {r : ℕ} {out : List ℕ} {t : Table} {o : Outcome} → Writes to cs room r out t o
-    → Stops (Placed 8 13 (length cs)) t → (j : ℕ) (xs : List Cell) → rowAt j t ≡ some xs → Gets to cs xs r out t j o
+here : (to : Rows) (cs : List Column) (room r : ℕ) (out : List ℕ) (xs : List Cell) (t : Table) (w : Result Refusal (List ℕ)) → writeRow to cs xs ≡ w → Roomy room out w
+    → Gets out w r (write to cs room r out (row xs t))
+unfolding write fitted wroteThen
+here to cs room r out xs t (bad e) q h = rw q
+here to cs room r out xs t (good b) q h =
+    let m = more-written to cs room (r + 1) (out ++ b) t in
+    rw (q, le-ltb room (length (out ++ b)) h) (m .0, m .1 ∙ append-assoc out b (m .0))
+
+gets : (to : Rows) (cs : List Column) (room : ℕ) (t : Table) (r : ℕ) (out before : List ℕ) (j : ℕ) (xs : List Cell) → rowAt j t ≡ some xs
+    → lines to cs (upTo j t) ≡ good before → length (out ++ before) ≤ room → Roomy room (out ++ before) (writeRow to cs xs)
+    → Gets (out ++ before) (writeRow to cs xs) (r + j) (write to cs room r out t)
 unfolding rowAt upTo lines
-gets to cs room all-written s j xs q = absurd (Option·none-ne-some xs q)
-gets to cs room unread s j xs q = absurd (Option·none-ne-some xs q)
-gets to cs room {r} (unwritten {xs = ys} e) s zero xs q = its-refusal (is-row to cs ys xs q ∙ e) (sym (add-zero r))
-gets to cs room {r} (unwritten e) s (suc j) xs q = earlier {r′ = r} (omega arith)
-gets to cs room {r} (no-room {xs = ys} e h) s zero xs q = no-space (sym (add-zero r))
-gets to cs room {r} (no-room e h) s (suc j) xs q = earlier {r′ = r} (omega arith)
-gets to cs room {r} {out} {t} {o} (next-row {b = b} {xs = ys} {t = u} e h w) s zero xs q =
-    let d : Done to cs room (r + 1) (out ++ b) u o = done-of to cs room w s in
-    its-bytes [] b (d .body) (is-row to cs ys xs q ∙ e) refl (d .output ∙ append-assoc out b (d .body))
-gets to cs room {r} {out} {t} {o} (next-row {b = b} {xs = ys} {t = u} e h w) s (suc j) xs q = shift to cs xs ys r out b u j o e (gets to cs room w s j xs q)
+gets to cs room finished r out before j xs q l f h = absurd (Option·none-ne-some xs q)
+gets to cs room (stopped e) r out before j xs q l f h = absurd (Option·none-ne-some xs q)
+gets to cs room (row ys t) r out before zero xs q l f h =
+    let e : ys ≡ xs = cc in
+    let n : [] ≡ before = cc l in
+    let o : out ++ before ≡ out = ap (λ (b : List ℕ). out ++ b) (sym n) ∙ append-nil out in
+    let k : Gets out (writeRow to cs xs) r (write to cs room r out (row xs t))
+    = here to cs room r out xs t (writeRow to cs xs) refl (subst (λ (b : List ℕ). Roomy room b (writeRow to cs xs)) o h) in
+    rw (o, e, add-zero r) k
+gets to cs room (row ys t) r out before (suc j) xs q l f h =
+    let w : (b : List ℕ) × (writeRow to cs ys ≡ good b) × ((lines to cs (upTo j t) >>= λ r. good (b ++ r)) ≡ good before) = bind-good (writeRow to cs ys) _ before l in
+    let m : (b : List ℕ) × (lines to cs (upTo j t) ≡ good b) × (good (w .0 ++ b) ≡ good before) = bind-good (lines to cs (upTo j t)) _ before (w .2) in
+    let e : w .0 ++ m .0 ≡ before = cc (m .2) in
+    let o : out ++ before ≡ (out ++ w .0) ++ m .0 = ap (λ (b : List ℕ). out ++ b) (sym e) ∙ sym (append-assoc out (w .0) (m .0)) in
+    let g : length ((out ++ w .0) ++ m .0) ≤ room = rw (← o) f in
+    let k : Gets ((out ++ w .0) ++ m .0) (writeRow to cs xs) (r + 1 + j) (write to cs room (r + 1) (out ++ w .0) t)
+    = gets to cs room t (r + 1) (out ++ w .0) (m .0) j xs q (m .1) g (subst (λ (b : List ℕ). Roomy room b (writeRow to cs xs)) o h) in
+    let n : write to cs room r out (row ys t) ≡ write to cs room (r + 1) (out ++ w .0) t
+    = goes-on to cs room r out (w .0) ys t (w .1) (omega (arith, g, length-append (out ++ w .0) (m .0))) in
+    rw (o, n, add-suc r j) (subst (λ (i : ℕ). Gets ((out ++ w .0) ++ m .0) (writeRow to cs xs) i (write to cs room (r + 1) (out ++ w .0) t)) (omega arith) k)
 
 -- ---- a row of a call
 
@@ -86,45 +103,52 @@ row-alone to cs xs b i f q =
     ∙ ap (row xs) (newline-read to cs i [] ∙ read-nothing to cs)
 
 -- what a stream's row gets of a target that has w for its cells
-abbrev Fate : Rows → List Column → List Cell → Stream → Result Refusal (List ℕ) → Call → Type 0
-Fate to cs xs s (good b) c = Stands to cs xs s b c
-Fate to cs xs s (bad e) c = RefusedAt s (e .number) (e .column) c
+abbrev Fate : Rows → List Column → List Cell → Stream → List ℕ → Result Refusal (List ℕ) → Call → Type 0
+Fate to cs xs s before (good b) c = Stands to cs xs s before b c
+Fate to cs xs s before (bad e) c = RefusedAt s before (e .number) (e .column) c
 
-module _ (to : Rows) (cs : List Column) (xs : List Cell) (s : Stream) (i : AreColumns cs) where
+module _ (to : Rows) (cs : List Column) (xs : List Cell) (s : Stream) (i : AreColumns cs) (k : Comes to cs xs s) where
   abbrev table : Table
   table = read (s .from) cs (s .input)
 
-  fate-of : (done : ℕ) (o : Outcome) (w : Result Refusal (List ℕ)) → writeRow to cs xs ≡ w → Gets to cs xs 0 [] table (s .row) o → EndsAt cs table done o
-      → Comes cs xs s (ending o (s .out)) → Fate to cs xs s w (ending o (s .out))
-  fate-of done o w p (its-bytes before b behind q l e) z k =
+  fate-of : (o : Outcome) (w : Result Refusal (List ℕ)) → writeRow to cs xs ≡ w → Gets (k .before) w (s .row) o → Fate to cs xs s (k .before) w (ending o (s .out))
+  fate-of o (good b) q g =
       let f : AllRows (FitsAll cs) table = read-fits (s .from) cs (s .input) (k .bytes) in
-      subst (λ (v : Result Refusal (List ℕ)). Fate to cs xs s v (ending o (s .out))) (sym q ∙ p)
-      (record {
-        before = before;
-        behind = behind;
-        there = output-of o (s .out) ∙ e;
-        earlier = lines-read to cs i (s .row) table f before l;
+      record {
+        behind = g .0;
+        there = output-of o (s .out) ∙ g .1;
+        earlier = lines-read to cs i (s .row) table f (k .before) (k .not-earlier);
         itself = row-alone to cs xs b i (row-fits cs (s .row) table xs f (k .shows)) q;
-      })
-  fate-of done o w p (its-refusal {e = e} q r) z k =
-      subst (λ (v : Result Refusal (List ℕ)). Fate to cs xs s v (ending o (s .out))) (sym q ∙ p)
-      (unfold ending answerOf in record { numbered = refl; some-number = omega (arith, z .0 .0); at-row = r ∙ zero-add (s .row); at-column = refl })
-  fate-of done o w p (no-space r) z k = absurd (unfold ending answerOf at in omega (arith, k .room-enough refl, r))
-  fate-of done o w p (earlier {e = e} h) z k = absurd (unfold ending answerOf in omega (arith, h, k .not-earlier (λ n. omega (arith, z .0 .0, n))))
+      }
+  fate-of o (bad e) q g =
+      let p : Placed 14 16 (length cs) e = fails-at (write-row-fails to cs xs) q in
+      record {
+        numbered = unfold ending answerOf in rw g;
+        some-number = omega (arith, p .0 .0);
+        at-row = unfold ending answerOf in rw g;
+        at-column = unfold ending answerOf in rw g;
+        there = output-of o (s .out) ∙ (unfold written in rw g);
+      }
 
-pub fate : (decls : List ℕ) (to : Rows) (cs : List Column) (xs : List Cell) (s : Stream) → declare decls ≡ good cs → Comes cs xs s (called convert decls to s)
-    → Fate to cs xs s (writeRow to cs xs) (called convert decls to s)
+  roomy : (w : Result Refusal (List ℕ)) → writeRow to cs xs ≡ w → Roomy (length (s .out)) (k .before) w
+  roomy (good b) q = k .room-enough b q
+  roomy (bad e) q = tt
+
+pub fate : (decls : List ℕ) (to : Rows) (cs : List Column) (xs : List Cell) (s : Stream) → declare decls ≡ good cs → (k : Comes to cs xs s)
+    → Fate to cs xs s (k .before) (writeRow to cs xs) (called convert decls to s)
 fate decls to cs xs s q k =
     let e : called convert decls to s ≡ ending (run (s .from) to cs (length (s .out)) (s .input)) (s .out) = converts decls (s .from) to (s .input) (s .out) cs q (k .sized) in
-    let d : Done to cs (length (s .out)) 0 [] (read (s .from) cs (s .input)) (run (s .from) to cs (length (s .out)) (s .input)) = run-done (s .from) to cs (length (s .out)) (s .input) in
-    let g : Gets to cs xs 0 [] (read (s .from) cs (s .input)) (s .row) (run (s .from) to cs (length (s .out)) (s .input))
-    = unfold run in gets to cs (length (s .out)) (writes to cs (length (s .out)) 0 [] (read (s .from) cs (s .input))) (read-stops (s .from) cs (s .input)) (s .row) xs (k .shows) in
-    subst (Fate to cs xs s (writeRow to cs xs)) (sym e)
-    (fate-of to cs xs s (declared-columns decls cs q) (d .done) (run (s .from) to cs (length (s .out)) (s .input)) (writeRow to cs xs) refl g (d .ended) (subst (Comes cs xs s) e k))
+    let g : Gets (k .before) (writeRow to cs xs) (s .row) (run (s .from) to cs (length (s .out)) (s .input))
+    = unfold run in subst (λ (j : ℕ). Gets (k .before) (writeRow to cs xs) j (write to cs (length (s .out)) 0 [] (read (s .from) cs (s .input)))) (zero-add (s .row))
+      (gets to cs (length (s .out)) (read (s .from) cs (s .input)) 0 [] (k .before) (s .row) xs (k .shows) (k .not-earlier) (k .room-before)
+        (roomy to cs xs s (declared-columns decls cs q) k (writeRow to cs xs) refl)) in
+    subst (Fate to cs xs s (k .before) (writeRow to cs xs)) (sym e)
+    (fate-of to cs xs s (declared-columns decls cs q) k (run (s .from) to cs (length (s .out)) (s .input)) (writeRow to cs xs) refl g)
 
-same-fate : (to : Rows) (cs : List Column) (xs : List Cell) (s t : Stream) (c d : Call) (w : Result Refusal (List ℕ)) → Fate to cs xs s w c → Fate to cs xs t w d → SameFate to cs xs s t c d
-same-fate to cs xs s t c d (good b) f g = both-written b f g
-same-fate to cs xs s t c d (bad e) f g = both-refused (e .number) (e .column) f g
+same-fate : (to : Rows) (cs : List Column) (xs : List Cell) (s t : Stream) (p r : List ℕ) (c d : Call) (w : Result Refusal (List ℕ)) → writeRow to cs xs ≡ w
+    → Fate to cs xs s p w c → Fate to cs xs t r w d → SameFate to cs xs s t p r c d
+same-fate to cs xs s t p r c d (good b) q f g = both-written q f g
+same-fate to cs xs s t p r c d (bad e) q f g = both-refused q f g
 
 -- ---- bytes that show nothing
 
@@ -146,6 +170,7 @@ pub demand3 : Demand3 convert
 demand3 =
     record {
       same-rows = λ decls to cs xs s t q k l.
-          same-fate to cs xs s t (called convert decls to s) (called convert decls to t) (writeRow to cs xs) (fate decls to cs xs s q k) (fate decls to cs xs t q l);
+          same-fate to cs xs s t (k .before) (l .before) (called convert decls to s) (called convert decls to t) (writeRow to cs xs) refl
+          (fate decls to cs xs s q k) (fate decls to cs xs t q l);
       unseen-bytes = unseen-of;
     }

@@ -6,7 +6,7 @@ use mathlib.Core.Bool.{Bool, cond, false, false≢true, true}
 use mathlib.Core.List.{List, [], _∷_}
 use mathlib.Core.Path.{_≡_, refl, sym}
 use lib.ListN.{length}
-use Rattle.demands.proofs.Demand2.{declared-columns, stands}
+use Rattle.demands.proofs.Demand2.{accepted-ends, declared-columns}
 use Rattle.demands.specs.Demands.{Accepted}
 use Rattle.demands.specs.Tables.{Ends, inOrder, rowLength, rowLengths, sum}
 use Rattle.fields.specs.Fields.{declare}
@@ -79,7 +79,7 @@ lengths-of : (from : Rows) → ((s : List ℕ) → atEnd from s ≡ true → len
     → Accepted (convert decls from to input out) → sum (rowLengths from cs input) ≡ length input
 unfolding rowLengths sequence
 lengths-of from bare decls to input out cs q a =
-    lengths-sum from cs (declared-columns decls cs q) bare (suc (length input)) input (unfold read in stands decls from to input out cs q .all-rows a .0)
+    lengths-sum from cs (declared-columns decls cs q) bare (suc (length input)) input (unfold read in accepted-ends decls from to input out cs q a .0)
 
 pub binary-row-lengths : (decls : List ℕ) (to : Rows) (input out : List ℕ) (cs : List Column) → declare decls ≡ good cs
     → Accepted (convert decls Binary to input out) → sum (rowLengths Binary cs input) ≡ length input

@@ -5,6 +5,7 @@ pub mod Writing
 pub mod Lengths
 pub mod Unseen
 pub mod Demand1
+pub mod OnlyOne
 pub mod Demand2
 pub mod Demand3
 pub mod Wrong

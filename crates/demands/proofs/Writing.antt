@@ -3,11 +3,12 @@ use Prim.Native.Nat.{_+_, _<_, _≤_, suc, zero, zero-le, ℕ}
 use native.Mathlib.Nat.{add-zero}
 use native.Mathlib.Omega.{arith}
 use mathlib.Core.List.{List, [], _++_, _∷_, append-assoc, append-nil}
+use mathlib.Core.Option.{some}
 use mathlib.Core.Path.{_∙_, _≡_, ap, ap₂, refl, sym}
 use lib.Dec.{lit≤, ltb}
 use lib.ListN.{length, length-append}
 use borrow.Author.Tests.{le-ltb, ltb-false, ltb-true}
-use Rattle.demands.specs.Tables.{Ends, count, lines, upTo}
+use Rattle.demands.specs.Tables.{Ends, count, lines, rowAt, stopAt, upTo}
 use Rattle.rows.proofs.Sequences.{AllRows, Stops}
 use Rattle.rows.proofs.Laws.{FitsAll, Placed, newline, newline-read, read-nothing, read-row, row-back, write-row-fails}
 use Rattle.rows.specs.Stream.{Table, fitted, read, write, writeCell, writeCells, writeRow, wroteThen}
@@ -42,12 +43,24 @@ writes to cs room r out (row xs t) = go (writeRow to cs xs) refl (λ b. writes t
         (ltb room (length (out ++ b))) (bad (at 0 17)) (good (out ++ b))
         (λ h. no-room q (ltb-true room (length (out ++ b)) h)) (λ h. next-row q (ltb-false room (length (out ++ b)) h) (ih b))
 
+-- a row that has a form, for which there is room
+pub goes-on : (to : Rows) (cs : List Column) (room r : ℕ) (out b : List ℕ) (xs : List Cell) (t : Table) → writeRow to cs xs ≡ good b → length (out ++ b) ≤ room
+    → write to cs room r out (row xs t) ≡ write to cs room (r + 1) (out ++ b) t
+unfolding write fitted wroteThen
+goes-on to cs room r out b xs t q h = rw (q, le-ltb room (length (out ++ b)) h)
+
 -- ---- what stands once it is written
 
+-- why it is refused behind so many rows, with so many bytes written
+pub data Stopped (to : Rows) (cs : List Column) (room : ℕ) (t : Table) (done size : ℕ) : Refusal → Type 0 where
+  not-read : {e : Refusal} → stopAt done t ≡ some e → Stopped to cs room t done size e
+  no-form : {e : Refusal} {xs : List Cell} → rowAt done t ≡ some xs → writeRow to cs xs ≡ bad e → Stopped to cs room t done size e
+  too-long : {xs : List Cell} {b : List ℕ} → rowAt done t ≡ some xs → writeRow to cs xs ≡ good b → room < size + length b → Stopped to cs room t done size (at 0 17)
+
 -- how it ends: at the table's end, or with a refusal of reading or of writing
-abbrev pub EndsAt : List Column → Table → ℕ → Outcome → Type 0
-EndsAt cs t done (accepted r out) = Ends t × (done ≡ count t)
-EndsAt cs t done (refused e r out) = Placed 8 mostNumber (length cs) e
+abbrev pub EndsAt : Rows → List Column → ℕ → Table → ℕ → Outcome → Type 0
+EndsAt to cs room t done (accepted r out) = Ends t × (done ≡ count t)
+EndsAt to cs room t done (refused e r out) = Placed 8 mostNumber (length cs) e × Stopped to cs room t done (length out) e
 
 pub record Done (to : Rows) (cs : List Column) (room r : ℕ) (out : List ℕ) (t : Table) (o : Outcome) : Type 0 where
   pub done : ℕ
@@ -57,28 +70,36 @@ pub record Done (to : Rows) (cs : List Column) (room r : ℕ) (out : List ℕ) (
   pub read : done ≤ count t
   pub whole : lines to cs (upTo done t) ≡ good body
   pub fits : length out ≤ room → length (written o) ≤ room
-  pub ended : EndsAt cs t done o
+  pub ended : EndsAt to cs room t done o
 
-none-done : (to : Rows) (cs : List Column) (room r : ℕ) (out : List ℕ) (t : Table) (o : Outcome) → rowsDone o ≡ r → written o ≡ out → EndsAt cs t 0 o → Done to cs room r out t o
+none-done : (to : Rows) (cs : List Column) (room r : ℕ) (out : List ℕ) (t : Table) (o : Outcome) → rowsDone o ≡ r → written o ≡ out → EndsAt to cs room t 0 o → Done to cs room r out t o
 unfolding upTo lines
 none-done to cs room r out t o p q e =
     record { done = 0; body = []; rows = p ∙ sym (add-zero r); output = q ∙ sym (append-nil out); read = zero-le; whole = refl; fits = λ h. rw q h; ended = e }
 
-one-more : (cs : List Column) (xs : List Cell) (t : Table) (done : ℕ) (o : Outcome) → EndsAt cs t done o → EndsAt cs (row xs t) (suc done) o
+later : (to : Rows) (cs : List Column) (room : ℕ) (xs : List Cell) (t : Table) (done size : ℕ) (e : Refusal) → Stopped to cs room t done size e
+    → Stopped to cs room (row xs t) (suc done) size e
+unfolding stopAt rowAt
+later to cs room xs t done size e (not-read q) = not-read q
+later to cs room xs t done size e (no-form q w) = no-form q w
+later to cs room xs t done size e (too-long q w h) = too-long q w h
+
+one-more : (to : Rows) (cs : List Column) (room : ℕ) (xs : List Cell) (t : Table) (done : ℕ) (o : Outcome) → EndsAt to cs room t done o → EndsAt to cs room (row xs t) (suc done) o
 unfolding count
-one-more cs xs t done (accepted r out) h = (h .0, ap suc (h .1))
-one-more cs xs t done (refused e r out) h = h
+one-more to cs room xs t done (accepted r out) h = (h .0, ap suc (h .1))
+one-more to cs room xs t done (refused e r out) h = (h .0, later to cs room xs t done (length out) e (h .1))
 
 -- the room is never passed, whatever was written before
 pub done-of : (to : Rows) (cs : List Column) (room : ℕ) {r : ℕ} {out : List ℕ} {t : Table} {o : Outcome} → Writes to cs room r out t o
     → Stops (Placed 8 13 (length cs)) t → Done to cs room r out t o
-unfolding rowsDone written count upTo lines at
+unfolding rowsDone written count upTo lines at stopAt rowAt
 done-of to cs room {r} {out} {t} {o} all-written s = none-done to cs room r out t o refl refl (tt, refl)
-done-of to cs room {r} {out} {t} {o} unread s = none-done to cs room r out t o refl refl ((s .0 .0, omega (arith, s .0 .1)), s .1)
+done-of to cs room {r} {out} {t} {o} unread s = none-done to cs room r out t o refl refl (((s .0 .0, omega (arith, s .0 .1)), s .1), not-read refl)
 done-of to cs room {r} {out} {t} {o} (unwritten {xs = xs} q) s =
     let w : Placed 14 16 (length cs) _ = fails-at (write-row-fails to cs xs) q in
-    none-done to cs room r out t o refl refl ((omega (arith, w .0 .0), omega (arith, w .0 .1)), w .1)
-done-of to cs room {r} {out} {t} {o} (no-room q h) s = none-done to cs room r out t o refl refl ((lit≤ tt, lit≤ tt), zero-le)
+    none-done to cs room r out t o refl refl (((omega (arith, w .0 .0), omega (arith, w .0 .1)), w .1), no-form refl q)
+done-of to cs room {r} {out} {t} {o} (no-room {b = b} q h) s =
+    none-done to cs room r out t o refl refl (((lit≤ tt, lit≤ tt), zero-le), too-long refl q (omega (arith, h, length-append out b)))
 done-of to cs room {r} {out} {t} {o} (next-row {b = b} {xs = xs} {t = u} q h w) s =
     let d : Done to cs room (r + 1) (out ++ b) u o = done-of to cs room w s in
     record {
@@ -89,7 +110,7 @@ done-of to cs room {r} {out} {t} {o} (next-row {b = b} {xs = xs} {t = u} q h w) 
       read = omega (arith, d .read);
       whole = rw (q, d .whole);
       fits = λ _. d .fits h;
-      ended = one-more cs xs u (d .done) o (d .ended);
+      ended = one-more to cs room xs u (d .done) o (d .ended);
     }
 
 -- ---- with room enough, what has a form in the target is accepted

@@ -37,6 +37,14 @@ rowAt j (stopped e) = none
 rowAt zero (row xs t) = some xs
 rowAt (suc j) (row xs t) = rowAt j t
 
+-- the refusal in reading that stands where row j should stand
+unfoldable pub stopAt : ℕ → Table → Option Refusal
+stopAt j finished = none
+stopAt zero (stopped e) = some e
+stopAt (suc j) (stopped e) = none
+stopAt zero (row xs t) = none
+stopAt (suc j) (row xs t) = stopAt j t
+
 -- a table of one row
 abbrev pub only : List Cell → Table
 only xs = row xs finished

@@ -7,7 +7,7 @@ use mathlib.Core.Logic.{_↔_}
 use mathlib.Core.Path.{_∙_, _≡_, ap, ap₂, refl, subst, subst⁻¹, sym}
 use lib.ListN.{drop, length}
 use lib.Seq.{take-at}
-use Rattle.demands.proofs.Demand2.{declared-columns, demand2, stands}
+use Rattle.demands.proofs.Demand2.{declared-columns, demand2, lines-written}
 use Rattle.demands.proofs.Writing.{lines-good, up-to-all}
 use Rattle.demands.specs.Demands.{Accepted, Converter, Demand2, ThereAndBack, Valid, output}
 use Rattle.demands.specs.Tables.{Ends, count, lines, upTo}
@@ -195,7 +195,7 @@ output-bytes : (decls : List ℕ) (from : Rows) {to : Rows} → IsBinary to → 
 output-bytes decls from {to} b input out cs q a =
     let done = convert decls from to input out .answer .rows in
     holds-at (lines-bytes b cs (declared-columns decls cs q) (upTo done (read from cs input)) (up-to-fits cs done (read from cs input) (read-fits from cs input a)))
-    (stands decls from to input out cs q .lines-whole)
+    (lines-written decls from to input out cs q)
 
 -- what is read back as these rows spells them
 back-spells : (decls : List ℕ) (from to : Rows) (input out : List ℕ) (cs : List Column) → declare decls ≡ good cs → AreBytes input → (rows : List (List Cell))
