@@ -140,8 +140,8 @@ fate decls to cs xs s q k =
     let e : called convert decls to s ≡ ending (run (s .from) to cs (length (s .out)) (s .input)) (s .out) = converts decls (s .from) to (s .input) (s .out) cs q (k .sized) in
     let g : Gets (k .before) (writeRow to cs xs) (s .row) (run (s .from) to cs (length (s .out)) (s .input))
     = unfold run in subst (λ (j : ℕ). Gets (k .before) (writeRow to cs xs) j (write to cs (length (s .out)) 0 [] (read (s .from) cs (s .input)))) (zero-add (s .row))
-      (gets to cs (length (s .out)) (read (s .from) cs (s .input)) 0 [] (k .before) (s .row) xs (k .shows) (k .not-earlier) (k .room-before)
-        (roomy to cs xs s (declared-columns decls cs q) k (writeRow to cs xs) refl)) in
+    (gets to cs (length (s .out)) (read (s .from) cs (s .input)) 0 [] (k .before) (s .row) xs (k .shows) (k .not-earlier) (k .room-before)
+    (roomy to cs xs s (declared-columns decls cs q) k (writeRow to cs xs) refl)) in
     subst (Fate to cs xs s (k .before) (writeRow to cs xs)) (sym e)
     (fate-of to cs xs s (declared-columns decls cs q) k (run (s .from) to cs (length (s .out)) (s .input)) (writeRow to cs xs) refl g)
 

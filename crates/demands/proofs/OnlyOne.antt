@@ -82,7 +82,7 @@ module _ (to : Rows) (cs : List Column) (room : ℕ) where
       let n : out ++ body ≡ (out ++ w .0) ++ m .0 = ap (λ (b : List ℕ). out ++ b) (sym q) ∙ sym (append-assoc out (w .0) (m .0)) in
       let g : length ((out ++ w .0) ++ m .0) ≤ room = rw (← n) f in
       goes-on to cs room r out (w .0) xs t (w .1) (omega (arith, g, length-append (out ++ w .0) (m .0)))
-      ∙ one-outcome t done (r + 1) (out ++ w .0) (m .0) o (omega (arith, h)) (m .1) g 
+      ∙ one-outcome t done (r + 1) (out ++ w .0) (m .0) o (omega (arith, h)) (m .1) g
       (subst (λ (b : List ℕ). Ending to cs room t done (length b) (r + 1 + done) b o) n (tail xs t done (length (out ++ body)) (r + suc done) (out ++ body) (r + 1 + done) o (omega arith) e))
 
 -- ---- of a call
@@ -112,7 +112,7 @@ one-call from to cs input out c s =
     let k : Told to cs (length out) t (output c) (c .answer) = told to cs (length out) t (output c) _ _ _ _ _ (sym (s .bytes-are)) (s .why) in
     let e : write to cs (length out) 0 [] t ≡ k .outcome
     = one-outcome to cs (length out) t (c .answer .rows) 0 [] (output c) (k .outcome) (s .rows-read) (s .lines-whole) (rw (← s .bytes-are) (s .within-room))
-      (subst⁻¹ (λ (r : ℕ). Ending to cs (length out) t (c .answer .rows) (length (output c)) r (output c) (k .outcome)) (zero-add (c .answer .rows)) (k .ends)) in
+    (subst⁻¹ (λ (r : ℕ). Ending to cs (length out) t (c .answer .rows) (length (output c)) r (output c) (k .outcome)) (zero-add (c .answer .rows)) (k .ends)) in
     let b : c .buffer ≡ written (k .outcome) ++ drop (length (written (k .outcome))) out
     = s .untouched ∙ ap (λ (n : ℕ). output c ++ drop n out) (s .bytes-are) ∙ ap (λ (w : List ℕ). w ++ drop (length w) out) (sym (k .writes)) in
     rw e (ap₂ (λ (a : Answer) (w : List ℕ). record { answer = a; buffer = w }) (sym (k .answers)) b)

@@ -1,25 +1,34 @@
 -- Demand 2 "shuts out the converter that refuses everything (valid input is accepted), the one with a constant text, the one that writes
 -- nothing yet answers 0, the one that converts row 0 and repeats or blanks the rest, and the one with an invented row count": no converter
--- that meets demand 2 is one of these. Each is caught by the sample night, whose two rows differ, or by the empty input.
-use Prim.Native.Nat.{suc, zero, ℕ}
+-- that meets demand 2 is one of these. Each is caught by the sample night, whose two rows differ, or by the empty input. Demand 1 leaves one
+-- converter, ours (`only-one`), so whoever answers otherwise meets it no more: the liar below, who throws good rows away, is caught by a night that
+-- was cut in its third row, and so is one that names another number.
+use Prim.Native.Nat.{_≤_, suc, zero, ℕ}
 use native.Mathlib.Omega.{arith}
-use mathlib.Core.List.{List, [], _∷_}
+use mathlib.Core.Bool.{Bool, false, true}
+use mathlib.Core.List.{List, [], _++_, _∷_}
 use mathlib.Core.Option.{some}
 use mathlib.Core.Path.{_∙_, _≡_, ap, ap₂, refl, subst, sym}
-use lib.Dec.{lit≤}
+use lib.Dec.{eqb, lit≤}
+use lib.ListN.{length, length-append}
 use Rattle.demands.proofs.Everything.{everything}
 use Rattle.demands.proofs.Night.{firstRow, night-declared, nightColumns, nightDecls, room, secondRow, small-bytes}
 use Rattle.demands.specs.Cases.{nightBinary2, nightText}
-use Rattle.demands.specs.Demands.{Accepted, Converter, Demand2, Valid, output}
+use Rattle.demands.proofs.OnlyOne.{only-one}
+use Rattle.demands.specs.Demands.{Accepted, Comes, Converter, Demand1, Demand2, Demand3, SameFate, Stream, Valid, both-refused, both-written, called, output}
 use Rattle.demands.specs.Tables.{count, rowAt, upTo}
 use Rattle.fields.specs.Fields.{declare}
 use Rattle.rows.proofs.Laws.{read-nothing}
-use Rattle.rows.specs.Stream.{Table, read}
+use Rattle.rows.specs.Convert.{convert}
+use Rattle.table.proofs.Laws.{bad-good}
+use Rattle.rows.specs.Stream.{Table, read, writeRow}
 use Rattle.rows.specs.Sequence.{finished, row, stopped}
 use Rattle.table.specs.All.{All, AreBytes}
 use Rattle.table.specs.Cell.{Cell, null, shown}
-use Rattle.table.specs.Outcome.{Call}
-use Rattle.table.specs.Result.{good}
+use Rattle.table.specs.Bytes.{bytes}
+use Rattle.table.specs.Outcome.{Call, Refusal, at, ending, refused}
+use Rattle.table.specs.Result.{Result, bad, good}
+use Rattle.table.specs.declared.Answer.{Answer}
 use Rattle.table.specs.declared.Column.{Column}
 use Rattle.table.specs.declared.Rows.{Rows}
 use Rattle.table.specs.declared.Rows.the-variants.{Binary2, TableData}
@@ -134,3 +143,112 @@ module _ (convert : Converter) (d : Demand2 convert) where
       let none-read : emptyCall .answer .rows ≡ 0
       = d .does-all nightDecls TableData Binary2 [] room nightColumns night-declared empty-accepted ∙ ap count (read-nothing TableData nightColumns) ∙ (unfold count in refl) in
       absurd (omega (arith, two, wrong nightDecls TableData Binary2 [] room empty-accepted, none-read))
+
+-- ---- the sample night, cut in its third row: two good rows, and the spot is row 2, column 0
+
+abbrev cutNight : List ℕ
+cutNight = nightText ++ bytes "<T"
+
+ours-gives-two : convert nightDecls TableData Binary2 cutNight room .answer ≡ record { number = 10; row = 2; column = 0; rows = 2; bytes = 16 }
+unfolding everything
+ours-gives-two = refl
+
+-- accepts what is valid as ours does, and answers every other input under good declarations with 17 at row 0, column 0, nothing written
+abbrev pub none : List ℕ → Call
+none out = ending (refused (at 0 17) 0 []) out
+
+abbrev pub under : Result Refusal (List Column) → Bool → Call → List ℕ → Call
+under (bad e) b c out = c
+under (good cs) true c out = c
+under (good cs) false c out = none out
+
+abbrev pub liar : Converter
+liar decls from to input out = under (declare decls) (eqb (convert decls from to input out .answer .number) 0) (convert decls from to input out) out
+
+liar-gives-none : liar nightDecls TableData Binary2 cutNight room .answer ≡ record { number = 17; row = 0; column = 0; rows = 0; bytes = 0 }
+unfolding everything
+liar-gives-none = refl
+
+pub not-the-liar : Demand1 liar → ⊥
+not-the-liar d =
+    let e = ap (λ (c : Call). c .answer .number) (only-one liar d nightDecls TableData Binary2 cutNight room) in
+    let o = ap (λ (a : Answer). a .number) ours-gives-two in
+    let l = ap (λ (a : Answer). a .number) liar-gives-none in
+    absurd (omega (arith, e, o, l))
+
+-- nor does it meet demand 3, whose premises are not its own to choose: the first row of the cut night should stand
+abbrev cutStream : Stream
+cutStream = record { from = TableData; input = cutNight; out = room; row = 0 }
+
+abbrev firstBytes : List ℕ
+firstBytes = 0x00 ∷ 0x00 ∷ 0x07 ∷ 0x61 ∷ 0x26 ∷ 0x62 ∷ 0x00 ∷ 0x54 ∷ []
+
+first-form : writeRow Binary2 nightColumns firstRow ≡ good firstBytes
+unfolding everything
+first-form = refl
+
+same-form : (b : List ℕ) → writeRow Binary2 nightColumns firstRow ≡ good b → firstBytes ≡ b
+same-form b q = let e : _≡_ {A = Result Refusal (List ℕ)} (good firstBytes) (good b) = sym first-form ∙ q in cc e
+
+cut-comes : Comes Binary2 nightColumns firstRow cutStream
+unfolding everything
+cut-comes =
+    record {
+      bytes = small-bytes cutNight refl;
+      sized = lit≤ tt;
+      shows = refl;
+      before = [];
+      not-earlier = refl;
+      room-before = lit≤ tt;
+      room-enough = λ b q. subst (λ (l : List ℕ). length l ≤ 100) (same-form b q) (lit≤ tt);
+    }
+
+liar-writes-none : output (called liar nightDecls Binary2 cutStream) ≡ []
+unfolding everything
+liar-writes-none = refl
+
+pub not-the-liar-by-rows : Demand3 liar → ⊥
+not-the-liar-by-rows d = caught (d .same-rows nightDecls Binary2 nightColumns firstRow cutStream cutStream night-declared cut-comes cut-comes)
+  where
+    caught : SameFate Binary2 nightColumns firstRow cutStream cutStream (cut-comes .before) (cut-comes .before) (called liar nightDecls Binary2 cutStream)
+        (called liar nightDecls Binary2 cutStream) → ⊥
+    caught (both-written {b = b} q s t) =
+        let e = ap length (sym liar-writes-none ∙ s .there ∙ ap (λ (l : List ℕ). cut-comes .before ++ (l ++ s .behind)) (sym (same-form b q))) in
+        absurd (omega (arith, e, length-append (cut-comes .before) (firstBytes ++ s .behind)))
+    caught (both-refused q s t) = bad-good (sym q ∙ first-form)
+
+-- ---- what any converter that meets demand 1 answers there
+
+no-declarations : convert [] TableData Binary2 [] [] .answer .number ≡ 5
+unfolding everything
+no-declarations = refl
+
+module _ (f : Converter) (d : Demand1 f) where
+  abbrev cutCall : Call
+  cutCall = f nightDecls TableData Binary2 cutNight room
+
+  cut-answer : cutCall .answer ≡ record { number = 10; row = 2; column = 0; rows = 2; bytes = 16 }
+  cut-answer = ap (λ (c : Call). c .answer) (only-one f d nightDecls TableData Binary2 cutNight room) ∙ ours-gives-two
+
+  cut-number : cutCall .answer .number ≡ 10
+  cut-number = ap (λ (a : Answer). a .number) cut-answer
+
+  -- the one that throws away the rows before a bad one
+  pub not-the-thrower : ((decls : List ℕ) (from to : Rows) (input out : List ℕ) → ¬ Accepted (f decls from to input out) → f decls from to input out .answer .rows ≡ 0) → ⊥
+  not-the-thrower wrong =
+      let r = ap (λ (a : Answer). a .rows) cut-answer in
+      absurd (omega (arith, r, wrong nightDecls TableData Binary2 cutNight room (λ a. omega (arith, a, cut-number))))
+
+  -- the one that always names another number where ours refuses
+  pub not-another-number : ((decls : List ℕ) (from to : Rows) (input out : List ℕ) → ¬ Accepted (convert decls from to input out)
+      → ¬ (f decls from to input out .answer .number ≡ convert decls from to input out .answer .number)) → ⊥
+  not-another-number wrong =
+      let o : convert nightDecls TableData Binary2 cutNight room .answer .number ≡ 10 = ap (λ (a : Answer). a .number) ours-gives-two in
+      wrong nightDecls TableData Binary2 cutNight room (λ a. omega (arith, a, o)) (cut-number ∙ sym o)
+
+  -- the one that gives every refusal the same number
+  pub not-one-number : (n : ℕ) → ((decls : List ℕ) (from to : Rows) (input out : List ℕ) → ¬ Accepted (f decls from to input out) → f decls from to input out .answer .number ≡ n) → ⊥
+  not-one-number n wrong =
+      let five : f [] TableData Binary2 [] [] .answer .number ≡ 5 = ap (λ (c : Call). c .answer .number) (only-one f d [] TableData Binary2 [] []) ∙ no-declarations in
+      let k = wrong [] TableData Binary2 [] [] (λ a. omega (arith, a, five)) in
+      absurd (omega (arith, k, five, cut-number, wrong nightDecls TableData Binary2 cutNight room (λ a. omega (arith, a, cut-number))))
