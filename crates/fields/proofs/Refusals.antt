@@ -23,7 +23,7 @@ use Rattle.table.specs.declared.Null.the-variants.{Undeclared}
 
 -- ---- each part of an element refuses with its own number
 
--- what is not of an element's shape refuses with 1
+-- 1: its shape
 module _ {P : ℕ → Type 0} (one : P 1) where
   value-fails : (quote : ℕ) (s : List ℕ) → Fails P (spanValue quote s)
   unfolding spanValue
@@ -91,11 +91,13 @@ module _ {P : ℕ → Type 0} (one : P 1) where
       (fails-else (fails-bind (after-fails 1 (bytes "/>") (skipWhite (a .1)) one) (λ r. gives)) (fails-bind (after-fails 1 (bytes ">") (skipWhite (a .1)) one) (λ v. body-fails v)))
       (λ n. fails-bind (exactly-one-fails (valuesOf (bytes "datatype") (a .0))) (λ d. fails-bind (most-one-fails (valuesOf (bytes "arraysize") (a .0))) (λ l. gives)))))
 
+-- 2: its datatype
 pub kind-fails : {P : ℕ → Type 0} → P 2 → (ks : List (List ℕ × Kind)) (s : List ℕ) → Fails P (kindOf ks s)
 unfolding kindOf
 kind-fails two [] s = fails two
 kind-fails two (k ∷ ks) s = fails-cond (same (k .0) s) gives (kind-fails two ks s)
 
+-- 3: its arraysize
 module _ {P : ℕ → Type 0} (three : P 3) where
   length-fails : (s : List ℕ) → Fails P (lengthOf s)
   unfolding lengthOf
@@ -119,6 +121,7 @@ module _ {P : ℕ → Type 0} (three : P 3) where
   len-fails none = gives
   len-fails (some s) = before-fails (beforeStar s) s
 
+-- 4: its null
 module _ {P : ℕ → Type 0} (four : P 4) where
   null-value-fails : (g : Bool) (v : Width) (ws : List (List ℕ)) → Fails P (nullValue g v ws)
   unfolding nullValue
@@ -134,7 +137,7 @@ module _ {P : ℕ → Type 0} (four : P 4) where
   null-fails Text scalar (some s) = gives
   null-fails (Whole g v) scalar (some s) = fails-cond scalar (null-value-fails g v (words s)) gives
 
--- ---- a column
+-- ---- declarations
 
 abbrev one : Numbered 1 6 1
 one = (lit≤ tt, lit≤ tt)
@@ -142,7 +145,9 @@ one = (lit≤ tt, lit≤ tt)
 judge-fails : (f : Field) → Fails (Numbered 1 6) (judge f)
 unfolding judge
 judge-fails f =
-    fails-bind (kind-fails (lit≤ tt, lit≤ tt) kinds (f .datatype)) (λ k. fails-bind (len-fails (lit≤ tt, lit≤ tt) (f .arraysize)) (λ l. fails-bind (null-fails (lit≤ tt, lit≤ tt) (shape k) (isScalar (columnOf k l Undeclared)) (f .null)) (λ n. gives)))
+    fails-bind (kind-fails (lit≤ tt, lit≤ tt) kinds (f .datatype)) (λ k.
+    fails-bind (len-fails (lit≤ tt, lit≤ tt) (f .arraysize)) (λ l.
+    fails-bind (null-fails (lit≤ tt, lit≤ tt) (shape k) (isScalar (columnOf k l Undeclared)) (f .null)) (λ n. gives)))
 
 -- a refusal of declarations: 1 to 6, at a place that is at most 64
 abbrev pub AtPlace : Refusal → Type 0
