@@ -110,14 +110,17 @@ then-refused k s [] more h e ih =
     cond-cases (Fails (Behind k s)) (eqb k 0) (bad (at 0 5)) (good [])
     (λ z. fails (subst⁻¹ (λ (x : ℕ). NoColumns x s 5 0) (eqb-true k 0 z) (no-column (white-only s e)))) (λ _. gives)
 then-refused k s (b ∷ v) more h e ih =
-    fails-then (fails-as (at k) shape-refused (λ n p. at-column h p)) (holds-as (at k) (field-is (b ∷ v))) (λ f i.
+    fails-then (fails-as (at k) shape-refused refused-here) (holds-as (at k) (field-is (b ∷ v))) (λ f i.
     let here : IsField (skipWhite s) f = subst⁻¹ (λ (x : List ℕ). IsField x f) e i in
-    fails-then (fails-as (at k) (judge-refused s f (field-at-is s f here)) (λ n p. at-column h p)) (holds-as (at k) (judge-is (skipWhite s) f here)) (λ c g.
+    fails-then (fails-as (at k) (judge-refused s f (field-at-is s f here)) refused-here) (holds-as (at k) (judge-is (skipWhite s) f here)) (λ c g.
     cond-cases (Fails (Behind k s)) (eqb k 64) (bad (at 64 5)) (more (f .rest) >>= λ cs. good (c ∷ cs))
     (λ z. fails (subst⁻¹ (λ (x : ℕ). NoColumns x s 5 64) (eqb-true k 64 z) (one-too-many (column-at s f g))))
     (λ z. let few : k < 64 = omega (arith, eqb-false k 64 z) in
     fails-bind (fails-weaken (ih (f .rest) (omega arith)) (λ x p. column-then few (column-at s f g) (subst (λ (m : ℕ). Behind m (f .rest) x) (omega arith) p))) (λ cs. gives))))
   where
+    refused-here : (n : ℕ) → NoColumn s n → NoColumns k s n k
+    refused-here n p = at-column {k = k} (omega arith) p
+
     not-white : White s → ⊥
     not-white w = let q : _≡_ {A = ℕ} 0 (suc (length v)) = ap length (sym (skip-all w) ∙ e) in omega arith
 
