@@ -21,126 +21,133 @@ use Rattle.table.specs.declared.Column.{Column}
 use Rattle.table.specs.declared.Kind.{Kind}
 use Rattle.table.specs.declared.Null.the-variants.{Undeclared}
 
+-- ---- each part of an element refuses with its own number
+
+-- 1: its shape
+module _ {P : ℕ → Type 0} (one : P 1) where
+  value-fails : (quote : ℕ) (s : List ℕ) → Fails P (spanValue quote s)
+  unfolding spanValue
+  value-fails quote [] = fails one
+  value-fails quote (b ∷ s) = fails-cond (eqb b quote) gives (fails-cond (eqb b (byte "<")) (fails one) (fails-bind (value-fails quote s) (λ v. gives)))
+
+  read-value-fails : (s : List ℕ) → Fails P (readValue s)
+  unfolding readValue
+  read-value-fails [] = fails one
+  read-value-fails (b ∷ s) = fails-cond (eqb b (byte "\"") || eqb b (byte "'")) (value-fails b s) (fails one)
+
+  name-fails : (n : List ℕ × List ℕ) → Fails P (someName n)
+  unfolding someName
+  name-fails ([], s) = fails one
+  name-fails (b ∷ n, s) = gives
+
+  attribute-fails : (s : List ℕ) → Fails P (readAttribute s)
+  unfolding readAttribute ends
+  attribute-fails s =
+      fails-bind (name-fails (spanName s)) (λ n.
+      fails-bind (after-fails 1 (bytes "=") (skipWhite (n .1)) one) (λ t. fails-bind (read-value-fails (skipWhite t)) (λ v. gives)))
+
+  attributes-fails : (f : ℕ) (s : List ℕ) → Fails P (attributesF f s)
+  unfolding attributesF
+  attributes-fails zero s = fails one
+  attributes-fails (suc f) s =
+      fails-cond (attributeComes s) (fails-bind (attribute-fails (skipWhite s)) (λ a. fails-bind (attributes-fails f (a .1)) (λ r. gives))) gives
+
+  most-one-fails : (vs : List (List ℕ)) → Fails P (atMostOne vs)
+  unfolding atMostOne
+  most-one-fails [] = gives
+  most-one-fails (v ∷ []) = gives
+  most-one-fails (v ∷ w ∷ vs) = fails one
+
+  exactly-one-fails : (vs : List (List ℕ)) → Fails P (exactlyOne vs)
+  unfolding exactlyOne
+  exactly-one-fails [] = fails one
+  exactly-one-fails (v ∷ []) = gives
+  exactly-one-fails (v ∷ w ∷ vs) = fails one
+
+  values-fails : (s : List ℕ) → Fails P (readValues s)
+  unfolding readValues attributes ends
+  values-fails s =
+      fails-bind (after-fails 1 (bytes "<VALUES") (skipWhite s) one) (λ t.
+      fails-bind (attributes-fails (suc (length t)) t) (λ a.
+      fails-bind (after-fails 1 (bytes "/>") (skipWhite (a .1)) one) (λ u. fails-bind (most-one-fails (valuesOf (bytes "null") (a .0))) (λ v. gives))))
+
+  begins-fails : {A : Type 0} {x y : Result ℕ A} (r : Result ℕ (List ℕ)) → Fails P x → Fails P y → Fails P (begins r x y)
+  unfolding begins
+  begins-fails (good s) f g = f
+  begins-fails (bad n) f g = g
+
+  body-fails : (s : List ℕ) → Fails P (fieldBody s)
+  unfolding fieldBody ends
+  body-fails s =
+      fails-bind (begins-fails (after 1 (bytes "<VALUES") (skipWhite s)) (values-fails s) gives) (λ v.
+      fails-bind (tag-fails 1 (bytes "</FIELD") (skipWhite (v .1)) one) (λ r. gives))
+
+  pub field-fails : (s : List ℕ) → Fails P (readField s)
+  unfolding readField attributes ends
+  field-fails s =
+      fails-bind (after-fails 1 (bytes "<FIELD") s one) (λ t.
+      fails-bind (attributes-fails (suc (length t)) t) (λ a.
+      fails-bind
+      (fails-else (fails-bind (after-fails 1 (bytes "/>") (skipWhite (a .1)) one) (λ r. gives)) (fails-bind (after-fails 1 (bytes ">") (skipWhite (a .1)) one) (λ v. body-fails v)))
+      (λ n. fails-bind (exactly-one-fails (valuesOf (bytes "datatype") (a .0))) (λ d. fails-bind (most-one-fails (valuesOf (bytes "arraysize") (a .0))) (λ l. gives)))))
+
+-- 2: its datatype
+pub kind-fails : {P : ℕ → Type 0} → P 2 → (ks : List (List ℕ × Kind)) (s : List ℕ) → Fails P (kindOf ks s)
+unfolding kindOf
+kind-fails two [] s = fails two
+kind-fails two (k ∷ ks) s = fails-cond (same (k .0) s) gives (kind-fails two ks s)
+
+-- 3: its arraysize
+module _ {P : ℕ → Type 0} (three : P 3) where
+  length-fails : (s : List ℕ) → Fails P (lengthOf s)
+  unfolding lengthOf
+  length-fails [] = fails three
+  length-fails (b ∷ s) =
+      fails-cond (between (byte "1") (byte "9") b && leb (length s) 3)
+      (fails-bind (fails-always (λ f. 3) (numeral digit 10 (b - 48) s) (λ f. three)) (λ n. fails-cond (leb n mostElements) gives (fails three))) (fails three)
+
+  bounded-fails : (s : List ℕ) → Fails P (boundedLen s)
+  unfolding boundedLen
+  bounded-fails [] = gives
+  bounded-fails (b ∷ s) = fails-bind (length-fails (b ∷ s)) (λ n. gives)
+
+  before-fails : (o : Option (List ℕ)) (s : List ℕ) → Fails P (lenBefore o s)
+  unfolding lenBefore
+  before-fails (some t) s = bounded-fails t
+  before-fails none s = fails-bind (length-fails s) (λ n. gives)
+
+  pub len-fails : (o : Option (List ℕ)) → Fails P (lenOf o)
+  unfolding lenOf
+  len-fails none = gives
+  len-fails (some s) = before-fails (beforeStar s) s
+
+-- 4: its null
+module _ {P : ℕ → Type 0} (four : P 4) where
+  null-value-fails : (g : Bool) (v : Width) (ws : List (List ℕ)) → Fails P (nullValue g v ws)
+  unfolding nullValue
+  null-value-fails g v [] = fails four
+  null-value-fails g v (w ∷ []) = fails-bind (fails-always (λ f. 4) (readInteger g (suc (last v)) w) (λ f. four)) (λ z. gives)
+  null-value-fails g v (w ∷ x ∷ ws) = fails four
+
+  pub null-fails : (k : Shape) (scalar : Bool) (o : Option (List ℕ)) → Fails P (nullOf k scalar o)
+  unfolding nullOf
+  null-fails k scalar none = gives
+  null-fails Truths scalar (some s) = gives
+  null-fails Bits scalar (some s) = gives
+  null-fails Text scalar (some s) = gives
+  null-fails (Whole g v) scalar (some s) = fails-cond scalar (null-value-fails g v (words s)) gives
+
+-- ---- declarations
+
 abbrev one : Numbered 1 6 1
 one = (lit≤ tt, lit≤ tt)
-
-value-fails : (quote : ℕ) (s : List ℕ) → Fails (Numbered 1 6) (spanValue quote s)
-unfolding spanValue
-value-fails quote [] = fails one
-value-fails quote (b ∷ s) = fails-cond (eqb b quote) gives (fails-cond (eqb b (byte "<")) (fails one) (fails-bind (value-fails quote s) (λ v. gives)))
-
-read-value-fails : (s : List ℕ) → Fails (Numbered 1 6) (readValue s)
-unfolding readValue
-read-value-fails [] = fails one
-read-value-fails (b ∷ s) = fails-cond (eqb b (byte "\"") || eqb b (byte "'")) (value-fails b s) (fails one)
-
-name-fails : (n : List ℕ × List ℕ) → Fails (Numbered 1 6) (someName n)
-unfolding someName
-name-fails ([], s) = fails one
-name-fails (b ∷ n, s) = gives
-
-attribute-fails : (s : List ℕ) → Fails (Numbered 1 6) (readAttribute s)
-unfolding readAttribute ends
-attribute-fails s =
-    fails-bind (name-fails (spanName s)) (λ n.
-    fails-bind (after-fails 1 (bytes "=") (skipWhite (n .1)) one) (λ t. fails-bind (read-value-fails (skipWhite t)) (λ v. gives)))
-
-attributes-fails : (f : ℕ) (s : List ℕ) → Fails (Numbered 1 6) (attributesF f s)
-unfolding attributesF
-attributes-fails zero s = fails one
-attributes-fails (suc f) s =
-    fails-cond (attributeComes s) (fails-bind (attribute-fails (skipWhite s)) (λ a. fails-bind (attributes-fails f (a .1)) (λ r. gives))) gives
-
-most-one-fails : (vs : List (List ℕ)) → Fails (Numbered 1 6) (atMostOne vs)
-unfolding atMostOne
-most-one-fails [] = gives
-most-one-fails (v ∷ []) = gives
-most-one-fails (v ∷ w ∷ vs) = fails one
-
-exactly-one-fails : (vs : List (List ℕ)) → Fails (Numbered 1 6) (exactlyOne vs)
-unfolding exactlyOne
-exactly-one-fails [] = fails one
-exactly-one-fails (v ∷ []) = gives
-exactly-one-fails (v ∷ w ∷ vs) = fails one
-
-values-fails : (s : List ℕ) → Fails (Numbered 1 6) (readValues s)
-unfolding readValues attributes ends
-values-fails s =
-    fails-bind (after-fails 1 (bytes "<VALUES") (skipWhite s) one) (λ t.
-    fails-bind (attributes-fails (suc (length t)) t) (λ a.
-    fails-bind (after-fails 1 (bytes "/>") (skipWhite (a .1)) one) (λ u. fails-bind (most-one-fails (valuesOf (bytes "null") (a .0))) (λ v. gives))))
-
-begins-fails : {A : Type 0} {x y : Result ℕ A} (r : Result ℕ (List ℕ)) → Fails (Numbered 1 6) x → Fails (Numbered 1 6) y → Fails (Numbered 1 6) (begins r x y)
-unfolding begins
-begins-fails (good s) f g = f
-begins-fails (bad n) f g = g
-
-body-fails : (s : List ℕ) → Fails (Numbered 1 6) (fieldBody s)
-unfolding fieldBody ends
-body-fails s =
-    fails-bind (begins-fails (after 1 (bytes "<VALUES") (skipWhite s)) (values-fails s) gives) (λ v.
-    fails-bind (tag-fails 1 (bytes "</FIELD") (skipWhite (v .1)) one) (λ r. gives))
-
-field-fails : (s : List ℕ) → Fails (Numbered 1 6) (readField s)
-unfolding readField attributes ends
-field-fails s =
-    fails-bind (after-fails 1 (bytes "<FIELD") s one) (λ t.
-    fails-bind (attributes-fails (suc (length t)) t) (λ a.
-    fails-bind
-    (fails-else (fails-bind (after-fails 1 (bytes "/>") (skipWhite (a .1)) one) (λ r. gives)) (fails-bind (after-fails 1 (bytes ">") (skipWhite (a .1)) one) (λ v. body-fails v)))
-    (λ n. fails-bind (exactly-one-fails (valuesOf (bytes "datatype") (a .0))) (λ d. fails-bind (most-one-fails (valuesOf (bytes "arraysize") (a .0))) (λ l. gives)))))
-
-kind-fails : (ks : List (List ℕ × Kind)) (s : List ℕ) → Fails (Numbered 1 6) (kindOf ks s)
-unfolding kindOf
-kind-fails [] s = fails (lit≤ tt, lit≤ tt)
-kind-fails (k ∷ ks) s = fails-cond (same (k .0) s) gives (kind-fails ks s)
-
-abbrev three : Numbered 1 6 3
-three = (lit≤ tt, lit≤ tt)
-
-length-fails : (s : List ℕ) → Fails (Numbered 1 6) (lengthOf s)
-unfolding lengthOf
-length-fails [] = fails three
-length-fails (b ∷ s) =
-    fails-cond (between (byte "1") (byte "9") b && leb (length s) 3)
-    (fails-bind (fails-always (λ f. 3) (numeral digit 10 (b - 48) s) (λ f. three)) (λ n. fails-cond (leb n mostElements) gives (fails three))) (fails three)
-
-bounded-fails : (s : List ℕ) → Fails (Numbered 1 6) (boundedLen s)
-unfolding boundedLen
-bounded-fails [] = gives
-bounded-fails (b ∷ s) = fails-bind (length-fails (b ∷ s)) (λ n. gives)
-
-before-fails : (o : Option (List ℕ)) (s : List ℕ) → Fails (Numbered 1 6) (lenBefore o s)
-unfolding lenBefore
-before-fails (some t) s = bounded-fails t
-before-fails none s = fails-bind (length-fails s) (λ n. gives)
-
-len-fails : (o : Option (List ℕ)) → Fails (Numbered 1 6) (lenOf o)
-unfolding lenOf
-len-fails none = gives
-len-fails (some s) = before-fails (beforeStar s) s
-
-abbrev four : Numbered 1 6 4
-four = (lit≤ tt, lit≤ tt)
-
-null-value-fails : (g : Bool) (v : Width) (ws : List (List ℕ)) → Fails (Numbered 1 6) (nullValue g v ws)
-unfolding nullValue
-null-value-fails g v [] = fails four
-null-value-fails g v (w ∷ []) = fails-bind (fails-always (λ f. 4) (readInteger g (suc (last v)) w) (λ f. four)) (λ z. gives)
-null-value-fails g v (w ∷ x ∷ ws) = fails four
-
-null-fails : (k : Shape) (scalar : Bool) (o : Option (List ℕ)) → Fails (Numbered 1 6) (nullOf k scalar o)
-unfolding nullOf
-null-fails k scalar none = gives
-null-fails Truths scalar (some s) = gives
-null-fails Bits scalar (some s) = gives
-null-fails Text scalar (some s) = gives
-null-fails (Whole g v) scalar (some s) = fails-cond scalar (null-value-fails g v (words s)) gives
 
 judge-fails : (f : Field) → Fails (Numbered 1 6) (judge f)
 unfolding judge
 judge-fails f =
-    fails-bind (kind-fails kinds (f .datatype)) (λ k. fails-bind (len-fails (f .arraysize)) (λ l. fails-bind (null-fails (shape k) (isScalar (columnOf k l Undeclared)) (f .null)) (λ n. gives)))
+    fails-bind (kind-fails (lit≤ tt, lit≤ tt) kinds (f .datatype)) (λ k.
+    fails-bind (len-fails (lit≤ tt, lit≤ tt) (f .arraysize)) (λ l.
+    fails-bind (null-fails (lit≤ tt, lit≤ tt) (shape k) (isScalar (columnOf k l Undeclared)) (f .null)) (λ n. gives)))
 
 -- a refusal of declarations: 1 to 6, at a place that is at most 64
 abbrev pub AtPlace : Refusal → Type 0
@@ -154,7 +161,7 @@ then-fails : (k : ℕ) (s : List ℕ) (more : List ℕ → Result Refusal (List 
 unfolding fieldsThen at
 then-fails k [] more h g = fails-cond (eqb k 0) (fails ((lit≤ tt, lit≤ tt), zero-le)) gives
 then-fails k (b ∷ s) more h g =
-    fails-bind (fails-as (at k) (field-fails (b ∷ s)) (λ n p. (p, h))) (λ x.
+    fails-bind (fails-as (at k) (field-fails one (b ∷ s)) (λ n p. (p, h))) (λ x.
     fails-bind (fails-as (at k) (judge-fails x) (λ n p. (p, h))) (λ c.
     cond-cases (Fails AtPlace) (eqb k 64) (bad (at 64 5)) (more (x .rest) >>= λ cs. good (c ∷ cs)) (λ _. fails five)
     (λ e. fails-bind (g (x .rest) (omega (arith, eqb-false k 64 e))) (λ cs. gives))))

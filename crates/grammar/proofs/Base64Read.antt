@@ -1,23 +1,25 @@
 -- Base64 is read exactly: what the grammar has decodes to those bytes, and what decodes is in the grammar.
-use Prim.Native.Nat.{_%_, _*_, _+_, _-_, _<_, ℕ}
+use Prim.Native.Nat.{_%_, _*_, _+_, _-_, _<_, _≤_, ℕ}
 use native.Mathlib.Omega.{arith}
 use mathlib.Core.Bool.{and-false, false, true}
 use mathlib.Core.List.{List, [], _++_, _∷_, append-nil}
 use mathlib.Core.Logic.{_↔_}
 use mathlib.Core.Path.{_∙_, _≡_, ap, ap₂, refl, subst, subst⁻¹, subst₂, sym}
 use lib.Dec.{eqb, lit<}
-use lib.ListN.{length}
+use lib.ListN.{drop, length, take}
+use lib.Seq.{take-at}
 use borrow.Author.Tests.{eq-eqb, eqb-true, le-leb, lt-leb, ne-eqb}
-use Rattle.base64.proofs.Laws.{Decodes, acceptance, decode-0, decode-17, decode-6, decode-7, decode-accepted, decode-call, exact, refusal}
+use Rattle.base64.proofs.Laws.{Decodes, Only, acceptance, decode-0, decode-17, decode-6, decode-7, decode-accepted, decode-call, decode-only, decode-refused-17}
+use Rattle.base64.proofs.Laws.{decode-refused-6, decode-refused-7, exact, fine, only, refusal}
 use Rattle.base64.specs.Base64.{decode, decodeCall, dense, fours, isPad, lastFour, oneByte, sextet, threeBytes, twoBytes}
 use Rattle.grammar.proofs.Fronts.{same-good}
 use Rattle.grammar.specs.Base64Text.{Base64Text, Fours, Letter, Sparse, base64-text, fours-end, fours-one, fours-then, fours-two, letter-capital}
 use Rattle.grammar.specs.Base64Text.{letter-figure, letter-plus, letter-slash, letter-small, sparse-end, sparse-then, sparse-white}
-use Rattle.grammar.specs.Exact.{InBase64}
+use Rattle.grammar.specs.Exact.{InBase64, NotDecoded, base64-too-long, no-base64, no-room-for-bytes}
 use Rattle.table.proofs.Laws.{between-is, cond-cases, holds-at, holds-bind, holds-cond, holds-weaken}
 use Rattle.table.specs.Bytes.{between, isWhite}
-use Rattle.table.specs.Outcome.{Call, at, mostInput}
-use Rattle.table.specs.Result.{Holds, good, holds, refuses}
+use Rattle.table.specs.Outcome.{Call, accepted, answerOf, at, bufferOf, ending, mostInput, refused, written}
+use Rattle.table.specs.Result.{Holds, Result, bad, good, holds, refuses}
 
 letter-read : {b v : ℕ} → Letter b v → sextet b ≡ good v
 unfolding sextet between
@@ -167,3 +169,56 @@ in-decodes input out g = ap (λ (c : Call). c .answer .number) (decode-accepted 
 -- a decoding step is accepted exactly when its input is in the grammar, within its size, and its bytes have room
 pub decodes-exactly : (input out : List ℕ) → (decodeCall input out .answer .number ≡ 0) ↔ InBase64 input (length out)
 decodes-exactly input out = (decodes-in input out (decode-call input out), in-decodes input out)
+
+-- ---- what it is refused with
+
+not-decoded-is : (input out : List ℕ) {c : Call} → Decodes input out c → 0 < c .answer .number → NotDecoded input (length out) (c .answer .number)
+unfolding refusal acceptance mostInput
+not-decoded-is input out (decode-6 h) z = base64-too-long h
+not-decoded-is input out (decode-7 h none) z = no-base64 h (λ b t. none b (exact input b .0 (base64-read t)))
+not-decoded-is input out (decode-17 b h k l) z = no-room-for-bytes h (base64-is input b (exact input b .1 k)) l
+not-decoded-is input out (decode-0 b h k l) z = absurd (omega arith)
+
+not-decoded-read : (input out : List ℕ) {n : ℕ} → NotDecoded input (length out) n → (decodeCall input out ≡ ending (refused (at 0 n) 0 []) out) × (0 < n)
+unfolding ending answerOf bufferOf written at refusal mostInput
+not-decoded-read input out (base64-too-long h) = (decode-refused-6 input out h, lit< tt)
+not-decoded-read input out (no-base64 h none) = (decode-refused-7 input out h (not-base64 (decode input) (decode-only input) refl), lit< tt)
+  where
+    not-base64 : (r : Result ℕ (List ℕ)) → Only 7 r → decode input ≡ r → decode input ≡ bad 7
+    not-base64 (good b) fine e = absurd (none b (base64-is input b e))
+    not-base64 (bad n) only e = e
+not-decoded-read input out (no-room-for-bytes {b = b} h t l) = (decode-refused-17 input out b h (base64-read t) l, lit< tt)
+
+-- a decoding step is refused with a number exactly when the grammar says so; then the answer is the number and zeros, and the buffer as it was
+pub refuses-exactly : (input out : List ℕ) (n : ℕ) → NotDecoded input (length out) n ↔ ((decodeCall input out ≡ ending (refused (at 0 n) 0 []) out) × (0 < n))
+unfolding ending answerOf at
+refuses-exactly input out n = (not-decoded-read input out, is-refused)
+  where
+    is-refused : (decodeCall input out ≡ ending (refused (at 0 n) 0 []) out) × (0 < n) → NotDecoded input (length out) n
+    is-refused r =
+        let number : decodeCall input out .answer .number ≡ n = ap (λ (c : Call). c .answer .number) (r .0) in
+        subst (NotDecoded input (length out)) number (not-decoded-is input out (decode-call input out) (subst⁻¹ (λ (x : ℕ). 0 < x) number (r .1)))
+
+-- ---- what it writes
+
+-- the bytes that an accepted step writes are known from its answer and its buffer
+bytes-written : (out b c : List ℕ) → ending (accepted 0 c) out ≡ ending (accepted 0 b) out → c ≡ b
+unfolding ending answerOf bufferOf written
+bytes-written out b c e =
+    let n : length c ≡ length b = ap (λ (x : Call). x .answer .bytes) e in
+    sym (take-at c (drop (length c) out) (length c) refl) ∙ ap₂ take n (ap (λ (x : Call). x .buffer) e) ∙ take-at b (drop (length b) out) (length b) refl
+
+decoded-read : (input out b : List ℕ) → (length input ≤ 1073741824) × Base64Text input b × (length b ≤ length out) → decodeCall input out ≡ ending (accepted 0 b) out
+unfolding ending answerOf bufferOf written acceptance mostInput
+decoded-read input out b g = decode-accepted input out b (g .0) (base64-read (g .1)) (g .2)
+
+decoded-is : (input out b : List ℕ) → decodeCall input out ≡ ending (accepted 0 b) out → (length input ≤ 1073741824) × Base64Text input b × (length b ≤ length out)
+decoded-is input out b e =
+    let g : InBase64 input (length out) = decodes-in input out (decode-call input out) (ap (λ (c : Call). c .answer .number) e ∙ unfold ending answerOf in refl) in
+    let q : g .bytes ≡ b = bytes-written out b (g .bytes) (sym (decoded-read input out (g .bytes) (g .sized, g .spelled, g .fits)) ∙ e) in
+    (g .sized, subst (Base64Text input) q (g .spelled), subst (λ (x : List ℕ). length x ≤ length out) q (g .fits))
+
+-- a decoding step writes these bytes, and is accepted, exactly when its input spells them, within its size, and they have room
+pub writes-exactly : (input out b : List ℕ)
+    → ((length input ≤ 1073741824) × Base64Text input b × (length b ≤ length out)) ↔ (decodeCall input out ≡ ending (accepted 0 b) out)
+writes-exactly input out b = (decoded-read input out b, decoded-is input out b)

@@ -38,7 +38,7 @@ use Rattle.table.specs.declared.Null.the-variants.{Undeclared}
 
 -- ---- datatype
 
-datatype-read : {d : List ℕ} {k : Kind} → Datatype d k → kindOf kinds d ≡ good k
+pub datatype-read : {d : List ℕ} {k : Kind} → Datatype d k → kindOf kinds d ≡ good k
 unfolding kindOf kinds same
 datatype-read datatype-boolean = refl
 datatype-read datatype-bit = refl
@@ -48,7 +48,7 @@ datatype-read datatype-int = refl
 datatype-read datatype-long = refl
 datatype-read datatype-char = refl
 
-datatype-is : (d : List ℕ) → Holds (Datatype d) (kindOf kinds d)
+pub datatype-is : (d : List ℕ) → Holds (Datatype d) (kindOf kinds d)
 unfolding kindOf kinds
 datatype-is d =
     holds-cond (same (bytes "boolean") d) (λ h. holds (rw (← same-is _ _ h) datatype-boolean)) (λ _.
@@ -131,7 +131,7 @@ bounded-read : {s : List ℕ} {n : ℕ} → SizeText s n → boundedLen s ≡ go
 unfolding boundedLen
 bounded-read (size-text m z l h) = rw (size-read (size-text m z l h))
 
-arraysize-read : {a : Option (List ℕ)} {l : Len} → Arraysize a l → lenOf a ≡ good l
+pub arraysize-read : {a : Option (List ℕ)} {l : Len} → Arraysize a l → lenOf a ≡ good l
 unfolding lenOf lenBefore
 arraysize-read size-absent = refl
 arraysize-read (size-fixed {s = s} h) = rw (no-star s (size-digits h .0) (size-digits h .1), size-read h)
@@ -143,7 +143,7 @@ unfolding boundedLen
 bounded-is s [] e = holds {a = Free} (rw e size-free)
 bounded-is s (b ∷ t) e = holds-bind (size-is (b ∷ t)) (λ n h. holds (rw e (size-bounded h)))
 
-arraysize-is : (a : Option (List ℕ)) → Holds (Arraysize a) (lenOf a)
+pub arraysize-is : (a : Option (List ℕ)) → Holds (Arraysize a) (lenOf a)
 unfolding lenOf
 arraysize-is none = holds size-absent
 arraysize-is (some s) = go (beforeStar s) (star-is s)
@@ -154,7 +154,7 @@ arraysize-is (some s) = go (beforeStar s) (star-is s)
 
 -- ---- null
 
-null-read : {k : Shape} {scalar : Bool} {o : Option (List ℕ)} {n : Null} → NullText k scalar o n → nullOf k scalar o ≡ good n
+pub null-read : {k : Shape} {scalar : Bool} {o : Option (List ℕ)} {n : Null} → NullText k scalar o n → nullOf k scalar o ≡ good n
 unfolding nullOf nullValue
 null-read null-absent = refl
 null-read (null-counts h (trimmed {v = v} w m u)) = rw (h, words-trimmed w (integer-word v _ m) u, integer-read m)
@@ -169,7 +169,7 @@ value-is g v (no-word w) scalar h = refuses
 value-is g v (one-word {v = x} w i u e) scalar h = holds-bind (holds-as (λ f. 4) (integer-is g (suc (last v)) x)) (λ z m. holds (null-counts h (rw e (trimmed w m u))))
 value-is g v (two-words x y vs) scalar h = refuses
 
-null-is : (k : Shape) (scalar : Bool) (o : Option (List ℕ)) → Holds (NullText k scalar o) (nullOf k scalar o)
+pub null-is : (k : Shape) (scalar : Bool) (o : Option (List ℕ)) → Holds (NullText k scalar o) (nullOf k scalar o)
 unfolding nullOf
 null-is k scalar none = holds null-absent
 null-is Truths scalar (some s) = holds null-truths
@@ -179,13 +179,13 @@ null-is (Whole g v) scalar (some s) = holds-cond scalar (λ h. value-is g v (one
 
 -- ---- a FIELD's column
 
-judge-read : {d : List ℕ} {a o : Option (List ℕ)} {k : Kind} {l : Len} {n : Null} → Datatype d k → Arraysize a l → NullText (shape k) (isScalar (columnOf k l Undeclared)) o n → (rest : List ℕ)
+pub judge-read : {d : List ℕ} {a o : Option (List ℕ)} {k : Kind} {l : Len} {n : Null} → Datatype d k → Arraysize a l → NullText (shape k) (isScalar (columnOf k l Undeclared)) o n → (rest : List ℕ)
     → judge (fieldAs d a o rest) ≡ good (columnOf k l n)
 unfolding judge
 judge-read h i j rest = rw (datatype-read h, arraysize-read i, null-read j)
 
 -- the column of a FIELD that was read
-judge-is : (s : List ℕ) (f : Field) → IsField s f → Holds (λ (c : Column). (t : List ℕ) × FieldOf t c × (s ≡ t ++ f .rest)) (judge f)
+pub judge-is : (s : List ℕ) (f : Field) → IsField s f → Holds (λ (c : Column). (t : List ℕ) × FieldOf t c × (s ≡ t ++ f .rest)) (judge f)
 unfolding judge
 judge-is s f h =
     holds-bind (datatype-is (f .datatype)) (λ k x.
@@ -195,7 +195,7 @@ judge-is s f h =
 -- ---- the list
 
 -- a FIELD's text begins with `<`
-starts : {t : List ℕ} {prs : List Pair} {o : Option (List ℕ)} → FieldText t prs o → (u : List ℕ) × (t ≡ 60 ∷ u)
+pub starts : {t : List ℕ} {prs : List Pair} {o : Option (List ℕ)} → FieldText t prs o → (u : List ℕ) × (t ≡ 60 ∷ u)
 starts (field-empty h k) = (_, refl)
 starts (field-tags h k i e) = (_, refl)
 

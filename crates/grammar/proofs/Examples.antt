@@ -1,4 +1,5 @@
 -- Some of 01's P cases in the grammar, derived by its constructors alone or through the theorems.
+use Prim.Native.Nat.{ℕ}
 use native.Mathlib.Omega.{arith}
 use mathlib.Core.Bool.{false, true}
 use mathlib.Core.List.{List, [], _∷_}
@@ -9,18 +10,22 @@ use lib.ListN.{length}
 use Rattle.demands.proofs.Everything.{everything}
 use Rattle.demands.proofs.Night.{firstRow, night-declared, nightColumns, nightDecls, room, secondRow, small-bytes}
 use Rattle.demands.specs.Cases.{nightBinary, nightBinary2, nightText}
-use Rattle.grammar.proofs.ColumnsRead.{declares-is}
+use Rattle.grammar.proofs.Base64Read.{refuses-exactly}
+use Rattle.grammar.proofs.ColumnsRead.{datatype-read, declares-is}
+use Rattle.grammar.proofs.DeclarationsRefused.{not-declared-exactly}
 use Rattle.grammar.proofs.Exactly.{accepts-exactly, declares-columns, spells-is}
 use Rattle.grammar.proofs.WordsRead.{integer-read}
-use Rattle.grammar.specs.Declarations.{Declares}
-use Rattle.grammar.specs.Exact.{InGrammar, tableOf}
+use Rattle.grammar.specs.DeclarationRefusals.{NotDeclared, no-column, not-declared}
+use Rattle.grammar.specs.Declarations.{Datatype, Declares}
+use Rattle.grammar.specs.Exact.{InGrammar, NotDecoded, tableOf}
 use Rattle.grammar.specs.Text.{Characters, char-amp, char-itself, chars-end, chars-then}
 use Rattle.grammar.specs.Valid.{Spells}
-use Rattle.grammar.specs.Words.{Hexadigit, IntegerWord, hex-small, one-digit, one-more, stands-negative, word-hexadecimal}
+use Rattle.grammar.specs.Words.{Hexadigit, IntegerWord, hex-small, one-digit, one-more, stands-negative, white-end, word-hexadecimal}
 use Rattle.table.proofs.Laws.{bad-good}
 use Rattle.table.specs.Bytes.{bytes}
 use Rattle.table.specs.Cell.{AreColumns, Cell}
 use Rattle.table.specs.Shape.{half}
+use Rattle.table.specs.declared.Kind.{Kind}
 use Rattle.table.specs.declared.Rows.the-variants.{Binary, Binary2, TableData}
 
 -- "P short `0xffff` is -1"
@@ -63,3 +68,23 @@ night-spelled =
       spells-is nightColumns i Binary nightBinary nightRows (small-bytes nightBinary refl) refl,
       spells-is nightColumns i Binary2 nightBinary2 nightRows (small-bytes nightBinary2 refl) refl,
     )
+
+-- ---- what is refused
+
+-- "no column at the end", at place 0
+pub empty-refused : NotDeclared [] 5 0
+empty-refused = not-declared (lit≤ tt) (no-column white-end)
+
+-- ` int` names no kind: "datatype not carried"
+pub int-trimmed : (k : Kind) → Datatype (bytes " int") k → ⊥
+unfolding everything
+int-trimmed k h = bad-good (datatype-read h)
+
+pub int-refused : NotDeclared (bytes "<FIELD datatype=\" int\"/>") 2 0
+unfolding everything
+int-refused = not-declared-exactly (bytes "<FIELD datatype=\" int\"/>") 2 0 .1 refl
+
+-- "`Zh==` 7", whatever the room
+pub zh-refused : (out : List ℕ) → NotDecoded (bytes "Zh==") (length out) 7
+unfolding everything
+zh-refused out = refuses-exactly (bytes "Zh==") out 7 .1 (refl, lit< tt)

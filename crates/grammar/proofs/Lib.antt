@@ -6,6 +6,7 @@ pub mod BinariesRead
 pub mod Streams
 pub mod DeclarationsRead
 pub mod ColumnsRead
+pub mod DeclarationsRefused
 pub mod FormsWritten
 pub mod Base64Read
 pub mod WrittenBytes

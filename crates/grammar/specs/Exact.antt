@@ -1,5 +1,5 @@
 -- What the theorems compare the grammar with: the table that a reader gives, and the acceptance of a call.
-use Prim.Native.Nat.{_≤_, ℕ}
+use Prim.Native.Nat.{_<_, _≤_, ℕ}
 use mathlib.Core.List.{List, [], _∷_}
 use mathlib.Core.Path.{_≡_}
 use lib.ListN.{length}
@@ -54,3 +54,12 @@ pub record InBase64 (input : List ℕ) (room : ℕ) : Type 0 where
   pub spelled : Base64Text input bytes
   -- 17: "the base64 result is longer than the room left"
   pub fits : length bytes ≤ room
+
+-- a decoding step that is refused: "Base64 refusals (6, 7, then 17)"
+pub data NotDecoded (input : List ℕ) (room : ℕ) : ℕ → Type 0 where
+  -- 6: "an input over its size"
+  base64-too-long : 1073741824 < length input → NotDecoded input room 6
+  -- 7: "base64 not valid"
+  no-base64 : length input ≤ 1073741824 → ((b : List ℕ) → Base64Text input b → ⊥) → NotDecoded input room 7
+  -- 17: "the base64 result is longer than the room left"
+  no-room-for-bytes : {b : List ℕ} → length input ≤ 1073741824 → Base64Text input b → room < length b → NotDecoded input room 17
