@@ -10,5 +10,7 @@ pub mod DeclarationsRefused
 pub mod FormsWritten
 pub mod Base64Read
 pub mod WrittenBytes
+pub mod Taken
+pub mod Resumption
 pub mod Exactly
 pub mod Examples

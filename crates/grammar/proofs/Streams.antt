@@ -96,7 +96,7 @@ text-cells-are (c ∷ cs) fs k s =
       spelled = cells-then (h .is-white) (h .spelled) (g .spelled);
     })))
 
-text-row-read : {cs : List Column} {w r : List ℕ} {xs : List Cell} → White w → TextRow cs r xs → (rest : List ℕ) → readRow TableData cs (w ++ (r ++ rest)) ≡ good (xs, rest)
+pub text-row-read : {cs : List Column} {w r : List ℕ} {xs : List Cell} → White w → TextRow cs r xs → (rest : List ℕ) → readRow TableData cs (w ++ (r ++ rest)) ≡ good (xs, rest)
 unfolding readRow readStart readEnd open-TR close-TR
 text-row-read {cs} w (text-row {a = a} {b = b} {w = u} {z = z} h c v k) rest =
     rw (
@@ -112,7 +112,7 @@ text-start-is : (n : ℕ) (s : List ℕ) → Holds (λ (p : List Bool × List �
 unfolding readStart open-TR
 text-start-is n s = holds-bind (indented-tag-is 10 (bytes "<TR") s) (λ t h. holds h)
 
-text-row-is : (cs : List Column) (s : List ℕ) → Holds (Indented (TextRow cs) s) (readRow TableData cs s)
+pub text-row-is : (cs : List Column) (s : List ℕ) → Holds (Indented (TextRow cs) s) (readRow TableData cs s)
 unfolding readRow readEnd close-TR
 text-row-is cs s =
     holds-bind (holds-as (at 0) (text-start-is (length cs) s)) (λ p h.
@@ -126,7 +126,7 @@ text-row-is cs s =
       spelled = text-row (h .3) (g .spelled) (k .2) (k .3);
     }))))
 
-empty-is : (s : List ℕ) → isEmpty s ≡ true → s ≡ []
+pub empty-is : (s : List ℕ) → isEmpty s ≡ true → s ≡ []
 unfolding isEmpty
 empty-is [] h = refl
 empty-is (b ∷ s) h = absurd (false≢true h)

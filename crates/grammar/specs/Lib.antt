@@ -8,3 +8,4 @@ pub mod CellRefusals
 pub mod DeclarationRefusals
 pub mod Valid
 pub mod Exact
+pub mod Resumption
