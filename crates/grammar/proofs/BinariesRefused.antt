@@ -124,23 +124,22 @@ bits-long-as e h = rw e (padding-long h)
 
 -- ---- a cell
 
+unflagged-refused : (c : Column) {f : Bool} (n : ℕ) (b : List ℕ) {m : ℕ} → f ≡ false → content (shape (c .kind)) n b ≡ bad m → shows c f n b ≡ bad m
+unfolding shows
+unflagged-refused c n b u e = rw (u, e)
+
 pub no-binary2-read : {c : Column} {f : Bool} {s : List ℕ} {n : ℕ} → AreBytes s → NoBinary2Cell c f s n → readBinary2 c f s ≡ bad n
-unfolding readBinary2 shows
+unfolding readBinary2
 no-binary2-read {s = s} a (cut-count h k) = rw (count-short h s k)
-no-binary2-read a (over-bound rest h e b k) = rw (e, count-over h b k rest)
-no-binary2-read {c} a (cut-content b {n = n} e h k l) = rw (e, counted-read h b, first-short (contentBytes (shape (c .kind)) n) b (rw (takes-read k) l))
+no-binary2-read a (over-bound rest h e b k) = rw (e, count-over h b (omega arith) rest)
+no-binary2-read {c} a (cut-content b {n = n} e h k l) = rw (e, counted-read h b, first-short (contentBytes (shape (c .kind)) n) b (omega (arith, takes-read k)))
 no-binary2-read {c} a (padding-not-0 {b = b} rest {n = n} u e h k p) =
-    rw (e, u, counted-read h (b ++ rest), first-back (contentBytes (shape (c .kind)) n) b rest (bits-long-as k p), bits-refused k p)
+    rw (e, counted-read h (b ++ rest), first-back (contentBytes (shape (c .kind)) n) b rest (bits-long-as k p), unflagged-refused c n b u (bits-refused k p))
 no-binary2-read {c} {s = s} a (no-byte-value {a = d} b rest {n = n} u e h k l i none) =
     let w : length b ≡ contentBytes (shape (c .kind)) n = l ∙ sym (takes-read k) in
     let q : AreBytes b = parts-bytes (b ++ rest) b rest refl (parts-bytes s d (b ++ rest) e a .1) .0 in
-    rw (
-      e,
-      u,
-      counted-read h (b ++ rest),
-      first-back (contentBytes (shape (c .kind)) n) b rest w,
-      refused (not-bits (shape (c .kind)) n b i refl) (holds-weaken (content-is (shape (c .kind)) n b w q) none),
-    )
+    let r : content (shape (c .kind)) n b ≡ bad 11 = refused (not-bits (shape (c .kind)) n b i refl) (holds-weaken (content-is (shape (c .kind)) n b w q) none) in
+    rw (e, counted-read h (b ++ rest), first-back (contentBytes (shape (c .kind)) n) b rest w, unflagged-refused c n b u r)
 
 pub no-binary2-is : (c : Column) (f : Bool) (s : List ℕ) → AreBytes s → Fails (NoBinary2Cell c f s) (readBinary2 c f s)
 unfolding readBinary2
