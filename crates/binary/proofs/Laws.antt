@@ -437,19 +437,21 @@ binary-less c flagged s i =
 
 -- ---- the numbers of its refusals
 
-truth-fails : (n : ℕ) → Fails (Numbered 8 13) (truth n)
-unfolding truth
-truth-fails n =
-    fails-cond (eqb n (byte "T") || eqb n (byte "t") || eqb n (byte "1")) gives
-    (fails-cond (eqb n (byte "F") || eqb n (byte "f") || eqb n (byte "0")) gives
-    (fails-cond (eqb n 0x00 || eqb n 0x20 || eqb n 0x3F) gives (fails (lit≤ tt, lit≤ tt))))
+-- what is no element is 11
+module _ {P : ℕ → Type 0} (eleven : P 11) where
+  truth-fails : (n : ℕ) → Fails P (truth n)
+  unfolding truth
+  truth-fails n =
+      fails-cond (eqb n (byte "T") || eqb n (byte "t") || eqb n (byte "1")) gives
+      (fails-cond (eqb n (byte "F") || eqb n (byte "f") || eqb n (byte "0")) gives
+      (fails-cond (eqb n 0x00 || eqb n 0x20 || eqb n 0x3F) gives (fails eleven)))
 
-element-fails : (k : Shape) (n : ℕ) → Fails (Numbered 8 13) (element k n)
-unfolding element
-element-fails Truths n = truth-fails n
-element-fails Bits n = gives
-element-fails (Whole g v) n = gives
-element-fails Text n = fails-cond (ltb n 128) gives (fails (lit≤ tt, lit≤ tt))
+  pub element-fails : (k : Shape) (n : ℕ) → Fails P (element k n)
+  unfolding element
+  element-fails Truths n = truth-fails n
+  element-fails Bits n = gives
+  element-fails (Whole g v) n = gives
+  element-fails Text n = fails-cond (ltb n 128) gives (fails eleven)
 
 pub unpack-fails : (n : ℕ) (s : List ℕ) → Fails (Numbered 8 13) (unpack n s)
 unfolding unpack
@@ -480,7 +482,7 @@ shows-fails : (c : Column) (flagged : Bool) (n : ℕ) (p : List ℕ) → Fails (
 unfolding shows content
 shows-fails c true n p = gives
 shows-fails c false n p =
-    fails-bind (fails-bind (in-fails (shape (c .kind)) n p) (λ ns. fails-every (element (shape (c .kind))) (element-fails (shape (c .kind))) ns)) (λ es. gives)
+    fails-bind (fails-bind (in-fails (shape (c .kind)) n p) (λ ns. fails-every (element (shape (c .kind))) (element-fails (lit≤ tt, lit≤ tt) (shape (c .kind))) ns)) (λ es. gives)
 
 pub binary2-fails : (c : Column) (flagged : Bool) (s : List ℕ) → Fails (Numbered 8 13) (readBinary2 c flagged s)
 unfolding readBinary2

@@ -74,7 +74,7 @@ packed-read (packed-then {bits = bits} {more = more} {n = n} l a m r) =
     let e : toDigits 2 8 (ofDigits 2 0 bits) ≡ bits = rw l at (to-of 2 (lit< tt) 0 bits a) in
     rw (packed-read r) (ap (λ (x : List ℕ). x ++ more) (rw (itself-read m) at e))
 
-packed-is : (s : List ℕ) → AreBytes s → Packed (bitsOf s) s
+pub packed-is : (s : List ℕ) → AreBytes s → Packed (bitsOf s) s
 unfolding bitsOf
 packed-is [] a = packed-end
 packed-is (b ∷ s) a =
@@ -82,12 +82,12 @@ packed-is (b ∷ s) a =
     let e : ofDigits 2 0 (toDigits 2 8 b) ≡ b = of-to 2 (lit< tt) 8 b (a .0) in
     packed-then (length-to 2 8 b) (all-to 2 (lit< tt) 8 b) (rw e at m) (packed-is s (a .1))
 
-zeros-are : (s : List ℕ) → allZero s ≡ true → s ≡ replicate (length s) 0
+pub zeros-are : (s : List ℕ) → allZero s ≡ true → s ≡ replicate (length s) 0
 unfolding allZero
 zeros-are [] h = refl
 zeros-are (b ∷ s) h = let k = and-both (eqb b 0) (allZero s) h in ap₂ (λ (x : ℕ) (y : List ℕ). x ∷ y) (eqb-true b 0 (k .0)) (zeros-are s (k .1))
 
-bits-long : (s : List ℕ) → length (bitsOf s) ≡ length s * 8
+pub bits-long : (s : List ℕ) → length (bitsOf s) ≡ length s * 8
 unfolding bitsOf
 bits-long [] = refl
 bits-long (b ∷ s) = length-append (toDigits 2 8 b) (bitsOf s) ∙ omega (arith, length-to 2 8 b, bits-long s)
@@ -222,7 +222,7 @@ chars-long (bytes-then h k r) = ap suc (chars-long r)
 
 -- ---- contents
 
-content-read : {k : Shape} {n : ℕ} {s : List ℕ} {es : List ℤ} → Content k n s es → content k n s ≡ good es
+pub content-read : {k : Shape} {n : ℕ} {s : List ℕ} {es : List ℤ} → Content k n s es → content k n s ≡ good es
 unfolding content numbersIn
 content-read (content-truths h) = listed-read TruthByte 1 (element Truths) truth-long truth-byte-read truth-byte-is h
 content-read (content-bits {bits = bits} h) = rw (bits-in-read h) (every-bits bits)
@@ -238,7 +238,7 @@ content-long (content-whole {g = g} {v = v} h) =
     listed-long (IntegerBytes g (suc (last v))) (suc (last v)) (element (Whole g v)) (integer-long g (suc (last v))) (integer-bytes-read g v) (integer-bytes-are g v) h
 content-long (content-chars h) = chars-long h
 
-content-is : (k : Shape) (n : ℕ) (s : List ℕ) → length s ≡ contentBytes k n → AreBytes s → Holds (Content k n s) (content k n s)
+pub content-is : (k : Shape) (n : ℕ) (s : List ℕ) → length s ≡ contentBytes k n → AreBytes s → Holds (Content k n s) (content k n s)
 unfolding content numbersIn contentBytes bitBytes
 content-is Truths n s l a = holds-weaken (listed-is TruthByte 1 (element Truths) truth-long truth-byte-read truth-byte-is n s (omega arith) a) (λ es h. content-truths h)
 content-is Bits n s l a = holds-bind (bits-in-is n s l a) (λ bits h. rw (every-bits bits) (holds (content-bits h)))
@@ -247,14 +247,14 @@ content-is (Whole g v) n s l a =
     (λ es h. content-whole h)
 content-is Text n s l a = holds-weaken (chars-are s) (λ es h. content-chars (subst (λ (x : ℕ). CharBytes x s es) l h))
 
-takes-read : {k : Shape} {n m : ℕ} → Takes k n m → contentBytes k n ≡ m
+pub takes-read : {k : Shape} {n m : ℕ} → Takes k n m → contentBytes k n ≡ m
 unfolding contentBytes bitBytes
 takes-read takes-truths = refl
 takes-read takes-bits = refl
 takes-read takes-whole = refl
 takes-read takes-chars = refl
 
-takes-is : (k : Shape) (n : ℕ) → Takes k n (contentBytes k n)
+pub takes-is : (k : Shape) (n : ℕ) → Takes k n (contentBytes k n)
 unfolding contentBytes bitBytes
 takes-is Truths n = takes-truths
 takes-is Bits n = takes-bits
@@ -263,11 +263,14 @@ takes-is Text n = takes-chars
 
 -- ---- counts
 
+pub big-endian-is : (b : List ℕ) → length b ≡ 4 → BigEndian 4 b (ofDigits 256 0 b)
+big-endian-is b l = big-endian l (itself-is 256 b (rw l (lit≤ tt)))
+
 count-read : (most : ℕ) {b : List ℕ} {m : ℕ} → BigEndian 4 b m → m ≤ most → (t : List ℕ) → counted most (b ++ t) ≡ good (m, t)
 unfolding counted atMost
 count-read most {b} {m} (big-endian l n) h t = rw (first-back 4 b t l, itself-read n, le-ltb most m h)
 
-counted-read : {l : Len} {b : List ℕ} {m : ℕ} → Counted l b m → (t : List ℕ) → countIn l (b ++ t) ≡ good (m, t)
+pub counted-read : {l : Len} {b : List ℕ} {m : ℕ} → Counted l b m → (t : List ℕ) → countIn l (b ++ t) ≡ good (m, t)
 unfolding countIn
 counted-read counted-fixed t = refl
 counted-read (counted-bounded {n = n} e h) t = count-read n e h t
@@ -277,9 +280,9 @@ count-is : (most : ℕ) (s : List ℕ) → Holds (Front (λ (b : List ℕ) (m : 
 unfolding counted atMost
 count-is most s = holds-bind (first-splits 4 s) (λ p h.
     holds-cond (ltb most (ofDigits 256 0 (p .0))) (λ _. refuses) (λ f.
-    holds (record { taken = p .0; whole = h .1; spelled = (big-endian (h .0) (itself-is 256 (p .0) (rw (h .0) (lit≤ tt))), ltb-false most (ofDigits 256 0 (p .0)) f) })))
+    holds (record { taken = p .0; whole = h .1; spelled = (big-endian-is (p .0) (h .0), ltb-false most (ofDigits 256 0 (p .0)) f) })))
 
-counted-is : (l : Len) (s : List ℕ) → Holds (Front (Counted l) s) (countIn l s)
+pub counted-is : (l : Len) (s : List ℕ) → Holds (Front (Counted l) s) (countIn l s)
 unfolding countIn
 counted-is (Fixed n) s = holds (record { taken = []; whole = refl; spelled = counted-fixed })
 counted-is (Bounded n) s = holds-weaken (count-is n s) (λ p h. record { taken = h .taken; whole = h .whole; spelled = counted-bounded (h .spelled .0) (h .spelled .1) })

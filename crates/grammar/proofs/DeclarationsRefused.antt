@@ -15,7 +15,7 @@ use Rattle.fields.proofs.Refusals.{field-fails, kind-fails, len-fails, null-fai
 use Rattle.fields.specs.Fields.{Field, declare, fieldsF, fieldsThen, judge, kindOf, kinds, lenOf, nullOf, readField}
 use Rattle.grammar.proofs.ColumnsRead.{arraysize-is, arraysize-read, datatype-is, datatype-read, judge-is, judge-read, null-is, null-read, starts}
 use Rattle.grammar.proofs.DeclarationsRead.{IsField, field-is, field-read, fieldAs}
-use Rattle.grammar.proofs.Fronts.{skip-all, skip-is, skip-stays, skip-white}
+use Rattle.grammar.proofs.Fronts.{fails-then, skip-all, skip-is, skip-stays, skip-white}
 use Rattle.grammar.specs.DeclarationRefusals.{ColumnAt, FieldAt, NoColumn, NoColumns, NotDeclared, at-column, column-then, declarations-too-long, no-column}
 use Rattle.grammar.specs.DeclarationRefusals.{no-kind, no-length, no-null, no-shape, not-declared, one-too-many}
 use Rattle.grammar.specs.Declarations.{FieldOf, field-of}
@@ -41,12 +41,6 @@ module _ {E A : Type 0} where
   none-read : {P : A → Type 0} {n : E} {r : Result E A} → Holds P r → Fails (λ (e : E). e ≡ n) r → ((a : A) → P a → ⊥) → r ≡ bad n
   none-read (holds {a = a} h) f none = absurd (none a h)
   none-read refuses (fails e) none = ap bad e
-
--- what a stage refuses, or else what the next one does with its value
-fails-then : {E A B : Type 0} {P : A → Type 0} {Q : E → Type 0} {r : Result E A} {f : A → Result E B}
-    → Fails Q r → Holds P r → ((a : A) → P a → Fails Q (f a)) → Fails Q (r >>= f)
-fails-then (fails h) k g = fails h
-fails-then gives (holds {a = a} h) g = g a h
 
 -- ---- a FIELD
 

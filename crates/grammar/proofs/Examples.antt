@@ -1,7 +1,7 @@
 -- Some of 01's P cases in the grammar, derived by its constructors alone or through the theorems.
-use Prim.Native.Nat.{ℕ}
+use Prim.Native.Nat.{_<_, _≤_, ℕ}
 use native.Mathlib.Omega.{arith}
-use mathlib.Core.Bool.{false, true}
+use mathlib.Core.Bool.{Bool, false, true}
 use mathlib.Core.List.{List, [], _∷_}
 use mathlib.Core.Path.{refl}
 use lib.Dec.{lit<, lit≤}
@@ -14,18 +14,24 @@ use Rattle.grammar.proofs.Base64Read.{refuses-exactly}
 use Rattle.grammar.proofs.ColumnsRead.{datatype-read, declares-is}
 use Rattle.grammar.proofs.DeclarationsRefused.{not-declared-exactly}
 use Rattle.grammar.proofs.Exactly.{accepts-exactly, declares-columns, spells-is}
+use Rattle.grammar.proofs.TextRead.{elements-of-read}
 use Rattle.grammar.proofs.WordsRead.{integer-read}
+use Rattle.grammar.specs.Binaries.{Packed, big-endian, counted-fixed, packed-end, packed-then}
+use Rattle.grammar.specs.CellRefusals.{NoCell, has-bounded, no-text-value, over-bound, padding-not-0, padding-set}
 use Rattle.grammar.specs.DeclarationRefusals.{NotDeclared, no-column, not-declared}
 use Rattle.grammar.specs.Declarations.{Datatype, Declares}
 use Rattle.grammar.specs.Exact.{InGrammar, NotDecoded, tableOf}
-use Rattle.grammar.specs.Text.{Characters, char-amp, char-itself, chars-end, chars-then}
+use Rattle.grammar.specs.Text.{Characters, Marked, char-amp, char-itself, chars-end, chars-then, marked-text}
 use Rattle.grammar.specs.Valid.{Spells}
-use Rattle.grammar.specs.Words.{Hexadigit, IntegerWord, hex-small, one-digit, one-more, stands-negative, white-end, word-hexadecimal}
+use Rattle.grammar.specs.Words.{Hexadigit, IntegerWord, Itself, a-tag, hex-small, itself, one-digit, one-more, stands-negative, white-end, word-hexadecimal}
 use Rattle.table.proofs.Laws.{bad-good}
 use Rattle.table.specs.Bytes.{bytes}
-use Rattle.table.specs.Cell.{AreColumns, Cell}
+use Rattle.table.specs.Cell.{AreColumns, Cell, columnOf}
 use Rattle.table.specs.Shape.{half}
 use Rattle.table.specs.declared.Kind.{Kind}
+use Rattle.table.specs.declared.Kind.the-variants.{Bit, UnsignedByte}
+use Rattle.table.specs.declared.Len.the-variants.{Bounded, Fixed}
+use Rattle.table.specs.declared.Null.{Null}
 use Rattle.table.specs.declared.Rows.the-variants.{Binary, Binary2, TableData}
 
 -- "P short `0xffff` is -1"
@@ -88,3 +94,46 @@ int-refused = not-declared-exactly (bytes "<FIELD datatype=\" int\"/>") 2 0 .1 r
 pub zh-refused : (out : List ℕ) → NotDecoded (bytes "Zh==") (length out) 7
 unfolding everything
 zh-refused out = refuses-exactly (bytes "Zh==") out 7 .1 (refl, lit< tt)
+
+-- a digit that is its own value
+digit : (n : ℕ) → Itself n n
+digit n = itself
+
+-- "P nine bits .. `FF 81` 13": nine of 1, and a padding whose last bit is 1
+pub nine-bits : (n : Null) (flagged : Bool) → NoCell Binary (columnOf Bit (Fixed 9) n) flagged (0xFF ∷ 0x81 ∷ []) 13
+nine-bits n flagged = padding-not-0 {a = []} [] refl refl counted-fixed refl
+    (padding-set (1 ∷ 1 ∷ 1 ∷ 1 ∷ 1 ∷ 1 ∷ 1 ∷ 1 ∷ 1 ∷ []) (0 ∷ 0 ∷ 0 ∷ 0 ∷ 0 ∷ 0 ∷ 1 ∷ []) refl refl packed (λ z. omega (arith, z .1 .1 .1 .1 .1 .1 .0)))
+  where
+    set : 1 < 2
+    set = lit< tt
+
+    unset : 0 < 2
+    unset = lit< tt
+
+    packed : Packed (1 ∷ 1 ∷ 1 ∷ 1 ∷ 1 ∷ 1 ∷ 1 ∷ 1 ∷ 1 ∷ 0 ∷ 0 ∷ 0 ∷ 0 ∷ 0 ∷ 0 ∷ 1 ∷ []) (0xFF ∷ 0x81 ∷ [])
+    packed =
+        let i = digit 1 in
+        let o = digit 0 in
+        packed-then {bits = 1 ∷ 1 ∷ 1 ∷ 1 ∷ 1 ∷ 1 ∷ 1 ∷ 1 ∷ []} refl (set, (set, (set, (set, (set, (set, (set, (set, tt))))))))
+        (one-more (one-more (one-more (one-more (one-more (one-more (one-more (one-digit i) i) i) i) i) i) i) i)
+        (packed-then {bits = 1 ∷ 0 ∷ 0 ∷ 0 ∷ 0 ∷ 0 ∷ 0 ∷ 1 ∷ []} refl (set, (unset, (unset, (unset, (unset, (unset, (unset, (set, tt))))))))
+        (one-more (one-more (one-more (one-more (one-more (one-more (one-more (one-digit i) o) o) o) o) o) o) i) packed-end)
+
+-- "P `4*` with count .. 5 is 9": of any kind, under a flag or not, whatever follows
+pub five-of-four : (k : Kind) (n : Null) (flagged : Bool) (rest : List ℕ) → NoCell Binary2 (columnOf k (Bounded 4) n) flagged (0 ∷ 0 ∷ 0 ∷ 5 ∷ rest) 9
+five-of-four k n flagged rest =
+    let o = digit 0 in
+    over-bound {b = 0 ∷ 0 ∷ 0 ∷ 5 ∷ []} rest has-bounded refl (big-endian refl (one-more (one-more (one-more (one-digit o) o) o) (digit 5))) (lit< tt)
+
+-- "P unsignedByte `256` 11": its tags and characters are there, and they spell no element
+pub no-byte-256 : (n : Null) (flagged : Bool) → NoCell TableData (columnOf UnsignedByte (Fixed 1) n) flagged (bytes "<TD>256</TD>") 11
+unfolding everything
+no-byte-256 n flagged = no-text-value {cs = bytes "256"} {rest = []}
+    (record { white = []; taken = bytes "<TD>256</TD>"; is-white = white-end; whole = refl; marked = marked })
+    (λ es a h. bad-good (elements-of-read a h))
+  where
+    plain : {b : ℕ} → 48 ≤ b → b ≤ 57 → {s cs : List ℕ} → Characters s cs → Characters (b ∷ s) (b ∷ cs)
+    plain {b} l m r = chars-then (char-itself {b = b} (λ e. omega arith) (λ e. omega arith)) r
+
+    marked : Marked (bytes "<TD>256</TD>") (bytes "256")
+    marked = marked-text (a-tag white-end) (plain (lit≤ tt) (lit≤ tt) (plain (lit≤ tt) (lit≤ tt) (plain (lit≤ tt) (lit≤ tt) chars-end))) (a-tag white-end)

@@ -2,7 +2,7 @@
 -- is read whatever follows, and what is read is what the grammar has.
 use Prim.Native.Nat.{_*_, _+_, _-_, _≤_, ℕ}
 use native.Mathlib.Omega.{arith}
-use mathlib.Core.Bool.{and-false, false}
+use mathlib.Core.Bool.{Bool, and-false, false, true}
 use mathlib.Core.List.{List, [], _++_, _∷_, append-assoc, append-nil}
 use mathlib.Core.Path.{_∙_, _≡_, ap, refl, subst, subst₂, sym}
 use lib.Dec.{eqb, lit≤}
@@ -15,7 +15,7 @@ use Rattle.table.proofs.Laws.{all-append, between-is, between-yes, cond-cases, 
 use Rattle.table.specs.All.{All}
 use Rattle.table.specs.Bytes.{after, between, bytes, ends, isWhite, skipWhite, tag}
 use Rattle.table.specs.Outcome.{at}
-use Rattle.table.specs.Result.{Holds, Result, good, holds, refuses}
+use Rattle.table.specs.Result.{Fails, Holds, Result, _>>=_, bad, fails, gives, good, holds, refuses}
 
 -- ---- what was taken from the front of a text
 
@@ -31,6 +31,29 @@ pub record Rest (P : List ℕ → Type 0) (s rest : List ℕ) : Type 0 where
 
 pub same-good : {E A : Type 0} {a b : A} → _≡_ {A = Result E A} (good a) (good b) → a ≡ b
 same-good e = cc e
+
+-- ---- refusals
+
+pub not-so : (b : Bool) → (b ≡ true → ⊥) → b ≡ false
+not-so true h = absurd (h refl)
+not-so false h = refl
+
+-- what is found of a value goes on into what comes after it
+pub fails-then : {E A B : Type 0} {P : A → Type 0} {Q : E → Type 0} {r : Result E A} {f : A → Result E B}
+    → Fails Q r → Holds P r → ((a : A) → P a → Fails Q (f a)) → Fails Q (r >>= f)
+fails-then (fails q) h g = fails q
+fails-then gives (holds {a = a} p) g = g a p
+
+module _ {E A : Type 0} where
+  -- a refusal may rest on the reader's having refused: what the grammar has is then not there, since it would have been read
+  pub fails-told : {Q : E → Type 0} {r : Result E A} → Fails (λ (e : E). r ≡ bad e → Q e) r → Fails Q r
+  fails-told (fails h) = fails (h refl)
+  fails-told gives = gives
+
+  -- what has no value and one refusal alone
+  pub refused : {n : E} {r : Result E A} → Fails (λ (e : E). e ≡ n) r → Holds (λ (a : A). ⊥) r → r ≡ bad n
+  refused (fails h) none = ap bad h
+  refused gives (holds h) = absurd h
 
 -- ---- white space
 

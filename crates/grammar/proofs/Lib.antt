@@ -3,6 +3,9 @@ pub mod WordsRead
 pub mod ShownRead
 pub mod TextRead
 pub mod BinariesRead
+pub mod TextRefused
+pub mod BinariesRefused
+pub mod CellsRefused
 pub mod Streams
 pub mod DeclarationsRead
 pub mod ColumnsRead

@@ -1,10 +1,11 @@
 -- What the grammar says a cell shows is what the definition `show` computes: which elements stand for null, then lists of them.
-use mathlib.Core.Bool.{Bool, false, false≢true, true}
+use mathlib.Core.Bool.{false, false≢true, true}
 use mathlib.Core.List.{List, [], _∷_}
 use mathlib.Core.Option.{some}
 use mathlib.Core.Path.{_∙_, _≡_, ap, refl, subst⁻¹, sym}
 use lib.IntN.{pos, ℤ}
 use borrow.Author.Tests.{eqb-true}
+use Rattle.grammar.proofs.Fronts.{not-so}
 use Rattle.grammar.specs.Shown.{Shows, StandsForNull, null-declared, null-unknown, shows-list, shows-null}
 use Rattle.table.proofs.Laws.{and-both, cond-cases, same-self, same-true}
 use Rattle.table.specs.Cell.{Cell, isNullList, isNullOfKind, isOne, isScalar, null, nullElement, show, shown, standsForNull}
@@ -52,11 +53,7 @@ is-null c (e ∷ f ∷ es) h = absurd (false≢true h)
 not-null : (c : Column) (es : List ℤ) → ((z : ℤ) → es ≡ z ∷ [] → StandsForNull c z → ⊥) → isNullList (standsForNull c) es ≡ false
 unfolding isNullList
 not-null c [] h = refl
-not-null c (e ∷ []) h = go (standsForNull c e) refl
-  where
-    go : (b : Bool) → standsForNull c e ≡ b → standsForNull c e ≡ false
-    go true k = absurd (h e refl (stands-for-is c e k))
-    go false k = k
+not-null c (e ∷ []) h = not-so (standsForNull c e) (λ k. h e refl (stands-for-is c e k))
 not-null c (e ∷ f ∷ es) h = refl
 
 one-null : (c : Column) (z : ℤ) → StandsForNull c z → isNullList (standsForNull c) (z ∷ []) ≡ true

@@ -203,7 +203,7 @@ opens : {w : List ℕ} → White w → (t : List ℕ) → cellText (w ++ (bytes 
 unfolding cellText open-TD after
 opens w t = rw (skip-white w (bytes "<TD" ++ t), skip-stays 60 (84 ∷ 68 ∷ t) (no-white 60 (lit≤ tt)))
 
-cell-text-read : {w t cs : List ℕ} → White w → Marked t cs → (rest : List ℕ) → cellText (w ++ (t ++ rest)) ≡ good (cs, rest)
+pub cell-text-read : {w t cs : List ℕ} → White w → Marked t cs → (rest : List ℕ) → cellText (w ++ (t ++ rest)) ≡ good (cs, rest)
 cell-text-read {w} h (marked-empty (a-tag {w = u} k)) rest =
     opens h ((u ++ bytes "/>") ++ rest) ∙ rw (append-assoc u (bytes "/>") rest, ends-word 10 47 (62 ∷ []) rest (no-white 47 (lit≤ tt)) k)
 cell-text-read {w} h (marked-text {b = b} {z = z} (a-tag {w = u} k) r c) rest =
@@ -212,7 +212,7 @@ cell-text-read {w} h (marked-text {b = b} {z = z} (a-tag {w = u} k) r c) rest =
     ∙ rw (ends-other 10 47 62 (62 ∷ []) (b ++ (z ++ rest)) (no-white 62 (lit≤ tt)) refl k, ends-word 10 62 [] (b ++ (z ++ rest)) (no-white 62 (lit≤ tt)) k)
     (characters-read r c rest)
 
-cell-text-is : (s : List ℕ) → Holds (Indented Marked s) (cellText s)
+pub cell-text-is : (s : List ℕ) → Holds (Indented Marked s) (cellText s)
 unfolding cellText open-TD
 cell-text-is s =
     holds-bind (after-is 10 (bytes "<TD") (skipWhite s)) (λ t e.
@@ -298,6 +298,15 @@ elements-are (Whole g v) cs =
     holds-weaken (spaced-is (IntegerWord g (suc (last v))) (integerWord g (suc (last v))) (word-read g (suc (last v))) (word-is g (suc (last v))) integer-word cs) (λ es h. text-whole h)
 elements-are Text cs = holds text-chars
 
+-- the same of characters that may stand in a cell
+pub elements-of-read : {k : Shape} {cs : List ℕ} {es : List ℤ} → All IsText cs → TextElements k cs es → elementsOf k cs ≡ good es
+unfolding elementsOf
+elements-of-read {cs = cs} a h = rw (texts-read cs a) (elements-read h)
+
+pub elements-of-are : (k : Shape) (cs : List ℕ) → Holds (λ (es : List ℤ). All IsText cs × TextElements k cs es) (elementsOf k cs)
+unfolding elementsOf
+elements-of-are k cs = holds-cond (allText cs) (λ a. holds-weaken (elements-are k cs) (λ es h. (texts-are cs a, h))) (λ _. refuses)
+
 -- ---- how many
 
 many-read : {k : Shape} {l : Len} {m : ℕ} → Many k l m → (roomFits k (roomIn l m) m && leb m (bound l)) ≡ true
@@ -318,6 +327,14 @@ many-is k (Fixed n) m h = go k (and-both (roomFits k n m) (leb m n) h .0)
 many-is k (Bounded n) m h = many-bounded (leb-true m n (and-both (roomFits k m m) (leb m n) h .1))
 many-is k Free m h = many-free (leb-true m mostElements (and-both (roomFits k m m) (leb m mostElements) h .1))
 
+pub fits-read : (c : Column) {m : ℕ} → Many (shape (c .kind)) (c .len) m → countFits c m ≡ true
+unfolding countFits
+fits-read c h = rw (many-read h, or-true)
+
+pub fits-is : (c : Column) (m : ℕ) → countFits c (suc m) ≡ true → Many (shape (c .kind)) (c .len) (suc m)
+unfolding countFits
+fits-is c m h = or-either (eqb (suc m) 0) _ h (λ z. absurd (omega (arith, eqb-true (suc m) 0 z))) (λ z. many-is _ _ _ z)
+
 -- ---- what a cell's characters show
 
 nothing-left : (c : Column) → emptyIsNull (show c []) ≡ null
@@ -330,24 +347,18 @@ something-left c e es =
     cond-cases (λ (x : Cell). emptyIsNull x ≡ x) (isNullList (standsForNull c) (e ∷ es)) null (shown (e ∷ es)) (λ _. refl) (λ _. refl)
 
 text-shows-read : {c : Column} {cs : List ℕ} {x : Cell} → All IsText cs → TextShows c cs x → textCell c cs ≡ good x
-unfolding textCell elementsOf countFits
-text-shows-read {c} {cs} a (shows-empty h) = rw (texts-read cs a, elements-read h) (ap good (nothing-left c))
-text-shows-read {c} {cs} a (shows-elements {e = e} {es = es} h m s) =
-    rw (texts-read cs a, elements-read h, many-read m, or-true) (ap good (something-left c e es ∙ shows-read s))
+unfolding textCell
+text-shows-read {c} a (shows-empty h) = unfold countFits in rw (elements-of-read a h) (ap good (nothing-left c))
+text-shows-read {c} a (shows-elements {e = e} {es = es} h m s) = rw (elements-of-read a h, fits-read c m) (ap good (something-left c e es ∙ shows-read s))
 
 text-shows-is : (c : Column) (cs : List ℕ) → Holds (λ (x : Cell). All IsText cs × TextShows c cs x) (textCell c cs)
-unfolding textCell elementsOf countFits
+unfolding textCell
 text-shows-is c cs =
-    holds-bind {P = λ (es : List ℤ). All IsText cs × TextElements (shape (c .kind)) cs es}
-    (holds-cond (allText cs) (λ a. holds-weaken (elements-are (shape (c .kind)) cs) (λ es h. (texts-are cs a, h))) (λ _. refuses)) (λ es h.
-    holds-cond (eqb (length es) 0 || (roomFits (shape (c .kind)) (roomIn (c .len) (length es)) (length es) && leb (length es) (bound (c .len))))
-    (λ m. holds (h .0, go es (h .1) m)) (λ _. refuses))
+    holds-bind (elements-of-are (shape (c .kind)) cs) (λ es h. holds-cond (countFits c (length es)) (λ m. holds (h .0, go es (h .1) m)) (λ _. refuses))
   where
-    go : (es : List ℤ) → TextElements (shape (c .kind)) cs es
-        → (eqb (length es) 0 || (roomFits (shape (c .kind)) (roomIn (c .len) (length es)) (length es) && leb (length es) (bound (c .len)))) ≡ true → TextShows c cs (emptyIsNull (show c es))
+    go : (es : List ℤ) → TextElements (shape (c .kind)) cs es → countFits c (length es) ≡ true → TextShows c cs (emptyIsNull (show c es))
     go [] h m = rw (nothing-left c) (shows-empty h)
-    go (e ∷ es) h m = rw (something-left c e es)
-        (shows-elements h (or-either (eqb (suc (length es)) 0) _ m (λ z. absurd (omega (arith, eqb-true (suc (length es)) 0 z))) (λ z. many-is _ _ _ z)) (shows-is c (e ∷ es)))
+    go (e ∷ es) h m = rw (something-left c e es) (shows-elements h (fits-is c (length es) m) (shows-is c (e ∷ es)))
 
 -- ---- a cell
 

@@ -1,7 +1,7 @@
 -- What is wrong with a cell: for each refusal in reading it, when no cell stands at the front of what is left. Nothing here reads: a refusal is
 -- given where what comes before it is spelled and what it is about is not.
 use Prim.Native.Nat.{_+_, _/_, _<_, suc, ℕ}
-use mathlib.Core.Bool.{Bool, false, true}
+use mathlib.Core.Bool.{Bool, false}
 use mathlib.Core.List.{List, _++_, _∷_}
 use mathlib.Core.Path.{_≡_}
 use lib.IntN.{ℤ}
@@ -81,3 +81,11 @@ abbrev pub NoCell : Rows → Column → Bool → List ℕ → ℕ → Type 0
 NoCell TableData c flagged s n = NoTextCell c s n
 NoCell Binary c flagged s n = NoBinary2Cell c false s n
 NoCell Binary2 c flagged s n = NoBinary2Cell c flagged s n
+
+-- ---- the flags of a BINARY2 row: "flag bytes first (8, then 13, at column 0)"
+
+pub data NoFlags (n : ℕ) (s : List ℕ) : ℕ → Type 0 where
+  -- 8: "A BINARY2 row begins with (columns+7)/8 bytes, rounded down, of flags": what is left is a proper front of them
+  cut-flags : length s < (n + 7) / 8 → NoFlags n s 8
+  -- 13: "spare bits 0 (refusing a 1 is a plan rule)"
+  spare-flag : {a : List ℕ} (rest : List ℕ) → s ≡ a ++ rest → PaddingSet n a → NoFlags n s 13

@@ -352,60 +352,62 @@ text-fits c s =
 
 -- ---- the numbers of its refusals
 
-abbrev ten : Numbered 8 13 10
-ten = (lit≤ tt, lit≤ tt)
+-- what is no text is 10
+module _ {P : ℕ → Type 0} (ten : P 10) where
+  follow-fails : (x : Step) (s : List ℕ) (more : Where → Result ℕ (List ℕ × List ℕ)) → ((v : Where) → Fails P (more v)) → Fails P (follow x s more)
+  unfolding follow consText
+  follow-fails (emit c) s more h = fails-bind (h plain) (λ p. gives)
+  follow-fails (goes w) s more h = h w
+  follow-fails tagBegins s more h = fails-bind (tag-fails 10 close-TD s ten) (λ t. gives)
+  follow-fails broken s more h = fails ten
 
-follow-fails : (x : Step) (s : List ℕ) (more : Where → Result ℕ (List ℕ × List ℕ)) → ((v : Where) → Fails (Numbered 8 13) (more v)) → Fails (Numbered 8 13) (follow x s more)
-unfolding follow consText
-follow-fails (emit c) s more h = fails-bind (h plain) (λ p. gives)
-follow-fails (goes w) s more h = h w
-follow-fails tagBegins s more h = fails-bind (tag-fails 10 close-TD s ten) (λ t. gives)
-follow-fails broken s more h = fails ten
+  characters-fails : (w : Where) (s : List ℕ) → Fails P (characters w s)
+  unfolding characters
+  characters-fails w [] = fails ten
+  characters-fails w (b ∷ s) = follow-fails (step w b) (b ∷ s) (λ v. characters v s) (λ v. characters-fails v s)
 
-characters-fails : (w : Where) (s : List ℕ) → Fails (Numbered 8 13) (characters w s)
-unfolding characters
-characters-fails w [] = fails ten
-characters-fails w (b ∷ s) = follow-fails (step w b) (b ∷ s) (λ v. characters v s) (λ v. characters-fails v s)
+  pub cell-fails : (s : List ℕ) → Fails P (cellText s)
+  unfolding cellText ends
+  cell-fails s =
+      fails-bind (after-fails 10 open-TD (skipWhite s) ten) (λ t.
+      fails-else (fails-bind (after-fails 10 (bytes "/>") (skipWhite t) ten) (λ r. gives))
+      (fails-bind (after-fails 10 (bytes ">") (skipWhite t) ten) (λ u. characters-fails plain u)))
 
-cell-fails : (s : List ℕ) → Fails (Numbered 8 13) (cellText s)
-unfolding cellText ends
-cell-fails s =
-    fails-bind (after-fails 10 open-TD (skipWhite s) ten) (λ t.
-    fails-else (fails-bind (after-fails 10 (bytes "/>") (skipWhite t) ten) (λ r. gives))
-    (fails-bind (after-fails 10 (bytes ">") (skipWhite t) ten) (λ u. characters-fails plain u)))
+-- what is no element is 11
+module _ {P : ℕ → Type 0} (eleven : P 11) where
+  truth-fails : (w : List ℕ) → Fails P (truthWord w)
+  unfolding truthWord truthLetter
+  truth-fails [] = fails eleven
+  truth-fails (b ∷ []) =
+      fails-cond (eqb b (byte "T") || eqb b (byte "t") || eqb b (byte "1")) gives
+      (fails-cond (eqb b (byte "F") || eqb b (byte "f") || eqb b (byte "0")) gives
+      (fails-cond (eqb b (byte "?")) gives (fails eleven)))
+  truth-fails (b ∷ c ∷ w) =
+      fails-cond (same (map lower (b ∷ c ∷ w)) (bytes "true")) gives
+      (fails-cond (same (map lower (b ∷ c ∷ w)) (bytes "false")) gives (fails eleven))
 
-abbrev eleven : Numbered 8 13 11
-eleven = (lit≤ tt, lit≤ tt)
+  bits-fails : (ws : List (List ℕ)) → Fails P (bitWords ws)
+  unfolding bitWords bitLetter
+  bits-fails [] = gives
+  bits-fails (w ∷ []) = fails-every bitLetter (λ b. fails-cond (between (byte "0") (byte "1") b) gives (fails eleven)) w
+  bits-fails (w ∷ v ∷ ws) = fails eleven
 
-truth-fails : (w : List ℕ) → Fails (Numbered 8 13) (truthWord w)
-unfolding truthWord truthLetter
-truth-fails [] = fails eleven
-truth-fails (b ∷ []) =
-    fails-cond (eqb b (byte "T") || eqb b (byte "t") || eqb b (byte "1")) gives
-    (fails-cond (eqb b (byte "F") || eqb b (byte "f") || eqb b (byte "0")) gives
-    (fails-cond (eqb b (byte "?")) gives (fails eleven)))
-truth-fails (b ∷ c ∷ w) =
-    fails-cond (same (map lower (b ∷ c ∷ w)) (bytes "true")) gives
-    (fails-cond (same (map lower (b ∷ c ∷ w)) (bytes "false")) gives (fails eleven))
+  elements-fails : (k : Shape) (cs : List ℕ) → Fails P (textElements k cs)
+  unfolding textElements integerWord
+  elements-fails Truths cs = fails-every truthWord truth-fails (words cs)
+  elements-fails Bits cs = bits-fails (words cs)
+  elements-fails (Whole g v) cs = fails-every (integerWord g (suc (last v))) (λ w. fails-always (λ f. 11) (readInteger g (suc (last v)) w) (λ f. eleven)) (words cs)
+  elements-fails Text cs = gives
 
-bits-fails : (ws : List (List ℕ)) → Fails (Numbered 8 13) (bitWords ws)
-unfolding bitWords bitLetter
-bits-fails [] = gives
-bits-fails (w ∷ []) = fails-every bitLetter (λ b. fails-cond (between (byte "0") (byte "1") b) gives (fails eleven)) w
-bits-fails (w ∷ v ∷ ws) = fails eleven
-
-elements-fails : (k : Shape) (cs : List ℕ) → Fails (Numbered 8 13) (textElements k cs)
-unfolding textElements integerWord
-elements-fails Truths cs = fails-every truthWord truth-fails (words cs)
-elements-fails Bits cs = bits-fails (words cs)
-elements-fails (Whole g v) cs = fails-every (integerWord g (suc (last v))) (λ w. fails-always (λ f. 11) (readInteger g (suc (last v)) w) (λ f. eleven)) (words cs)
-elements-fails Text cs = gives
+  pub elements-of-fails : (k : Shape) (cs : List ℕ) → Fails P (elementsOf k cs)
+  unfolding elementsOf
+  elements-of-fails k cs = fails-cond (allText cs) (elements-fails k cs) (fails eleven)
 
 pub text-fails : (c : Column) (s : List ℕ) → Fails (Numbered 8 13) (readText c s)
-unfolding readText textCell elementsOf
+unfolding readText textCell
 text-fails c s =
-    fails-bind (cell-fails s) (λ p.
-    fails-bind (fails-bind (fails-cond (allText (p .0)) (elements-fails (shape (c .kind)) (p .0)) (fails eleven))
+    fails-bind (cell-fails (lit≤ tt, lit≤ tt) s) (λ p.
+    fails-bind (fails-bind (elements-of-fails (lit≤ tt, lit≤ tt) (shape (c .kind)) (p .0))
     (λ es. fails-cond (countFits c (length es)) gives (fails (lit≤ tt, lit≤ tt)))) (λ x. gives))
 
 form-fails : (e : ℤ) → Fails (Numbered 14 16) (formOf e)
