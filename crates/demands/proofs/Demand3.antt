@@ -26,6 +26,7 @@ use Rattle.rows.specs.Convert.{convert, converting, underColumns}
 use Rattle.rows.specs.Stream.{Table, fitted, read, run, write, writeRow, wroteThen}
 use Rattle.rows.specs.Sequence.{finished, row, stopped}
 use Rattle.table.proofs.Laws.{bind-good, fails-at, holds-at}
+use Rattle.table.specs.All.{AreBytes}
 use Rattle.table.specs.Cell.{AreColumns, Cell}
 use Rattle.table.specs.Outcome.{Call, Outcome, Refusal, answerOf, at, ending, mostInput, refused, written}
 use Rattle.table.specs.Result.{Result, _>>=_, bad, good}
@@ -107,13 +108,13 @@ abbrev Fate : Rows → List Column → List Cell → Stream → List ℕ → Res
 Fate to cs xs s before (good b) c = Stands to cs xs s before b c
 Fate to cs xs s before (bad e) c = RefusedAt s before (e .number) (e .column) c
 
-module _ (to : Rows) (cs : List Column) (xs : List Cell) (s : Stream) (i : AreColumns cs) (k : Comes to cs xs s) where
+module _ (to : Rows) (cs : List Column) (xs : List Cell) (s : Stream) (i : AreColumns cs) (bytes : AreBytes (s .input)) (k : Comes to cs xs s) where
   abbrev table : Table
   table = read (s .from) cs (s .input)
 
   fate-of : (o : Outcome) (w : Result Refusal (List ℕ)) → writeRow to cs xs ≡ w → Gets (k .before) w (s .row) o → Fate to cs xs s (k .before) w (ending o (s .out))
   fate-of o (good b) q g =
-      let f : AllRows (FitsAll cs) table = read-fits (s .from) cs (s .input) (k .bytes) in
+      let f : AllRows (FitsAll cs) table = read-fits (s .from) cs (s .input) bytes in
       record {
         behind = g .0;
         there = output-of o (s .out) ∙ g .1;
@@ -134,16 +135,16 @@ module _ (to : Rows) (cs : List Column) (xs : List Cell) (s : Stream) (i : AreCo
   roomy (good b) q = k .room-enough b q
   roomy (bad e) q = tt
 
-pub fate : (decls : List ℕ) (to : Rows) (cs : List Column) (xs : List Cell) (s : Stream) → declare decls ≡ good cs → (k : Comes to cs xs s)
+pub fate : (decls : List ℕ) (to : Rows) (cs : List Column) (xs : List Cell) (s : Stream) → declare decls ≡ good cs → AreBytes (s .input) → (k : Comes to cs xs s)
     → Fate to cs xs s (k .before) (writeRow to cs xs) (called convert decls to s)
-fate decls to cs xs s q k =
+fate decls to cs xs s q bytes k =
     let e : called convert decls to s ≡ ending (run (s .from) to cs (length (s .out)) (s .input)) (s .out) = converts decls (s .from) to (s .input) (s .out) cs q (k .sized) in
     let g : Gets (k .before) (writeRow to cs xs) (s .row) (run (s .from) to cs (length (s .out)) (s .input))
     = unfold run in subst (λ (j : ℕ). Gets (k .before) (writeRow to cs xs) j (write to cs (length (s .out)) 0 [] (read (s .from) cs (s .input)))) (zero-add (s .row))
     (gets to cs (length (s .out)) (read (s .from) cs (s .input)) 0 [] (k .before) (s .row) xs (k .shows) (k .not-earlier) (k .room-before)
-    (roomy to cs xs s (declared-columns decls cs q) k (writeRow to cs xs) refl)) in
+    (roomy to cs xs s (declared-columns decls cs q) bytes k (writeRow to cs xs) refl)) in
     subst (Fate to cs xs s (k .before) (writeRow to cs xs)) (sym e)
-    (fate-of to cs xs s (declared-columns decls cs q) k (run (s .from) to cs (length (s .out)) (s .input)) (writeRow to cs xs) refl g)
+    (fate-of to cs xs s (declared-columns decls cs q) bytes k (run (s .from) to cs (length (s .out)) (s .input)) (writeRow to cs xs) refl g)
 
 same-fate : (to : Rows) (cs : List Column) (xs : List Cell) (s t : Stream) (p r : List ℕ) (c d : Call) (w : Result Refusal (List ℕ)) → writeRow to cs xs ≡ w
     → Fate to cs xs s p w c → Fate to cs xs t r w d → SameFate to cs xs s t p r c d
@@ -169,8 +170,8 @@ unseen-of decls to cs s t out q l h =
 pub demand3 : Demand3 convert
 demand3 =
     record {
-      same-rows = λ decls to cs xs s t q k l.
+      same-rows = λ decls to cs xs s t q a b k l.
           same-fate to cs xs s t (k .before) (l .before) (called convert decls to s) (called convert decls to t) (writeRow to cs xs) refl
-          (fate decls to cs xs s q k) (fate decls to cs xs t q l);
+          (fate decls to cs xs s q a k) (fate decls to cs xs t q b l);
       unseen-bytes = unseen-of;
     }

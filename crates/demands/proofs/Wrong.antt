@@ -194,7 +194,6 @@ cut-comes : Comes Binary2 nightColumns firstRow cutStream
 unfolding everything
 cut-comes =
     record {
-      bytes = small-bytes cutNight refl;
       sized = lit≤ tt;
       shows = refl;
       before = [];
@@ -203,12 +202,15 @@ cut-comes =
       room-enough = λ b q. subst (λ (l : List ℕ). length l ≤ 100) (same-form b q) (lit≤ tt);
     }
 
+cut-bytes : AreBytes cutNight
+cut-bytes = small-bytes cutNight refl
+
 liar-writes-none : output (called liar nightDecls Binary2 cutStream) ≡ []
 unfolding everything
 liar-writes-none = refl
 
 pub not-the-liar-by-rows : Demand3 liar → ⊥
-not-the-liar-by-rows d = caught (d .same-rows nightDecls Binary2 nightColumns firstRow cutStream cutStream night-declared cut-comes cut-comes)
+not-the-liar-by-rows d = caught (d .same-rows nightDecls Binary2 nightColumns firstRow cutStream cutStream night-declared cut-bytes cut-bytes cut-comes cut-comes)
   where
     caught : SameFate Binary2 nightColumns firstRow cutStream cutStream (cut-comes .before) (cut-comes .before) (called liar nightDecls Binary2 cutStream)
         (called liar nightDecls Binary2 cutStream) → ⊥

@@ -133,7 +133,6 @@ pub record Stream : Type 0 where
 
 -- its row shows xs, and "nothing earlier is refused and there is room enough": said of the table that is read and of the room
 pub record Comes (to : Rows) (cs : List Column) (xs : List Cell) (s : Stream) : Type 0 where
-  pub bytes : AreBytes (s .input)
   pub sized : length (s .input) ≤ mostInput
   pub shows : rowAt (s .row) (read (s .from) cs (s .input)) ≡ some xs
   -- each row before it has a form in the target, and these are their lines
@@ -172,7 +171,7 @@ pub record Demand3 (convert : Converter) : Type 0 where
   -- "Two rows that show the same under the same declarations, in any two streams, get for the same target, .. the same bytes or the same
   -- refusal number and column"
   pub same-rows : (decls : List ℕ) (to : Rows) (cs : List Column) (xs : List Cell) (s t : Stream) → declare decls ≡ good cs
-      → (k : Comes to cs xs s) (l : Comes to cs xs t)
+      → AreBytes (s .input) → AreBytes (t .input) → (k : Comes to cs xs s) (l : Comes to cs xs t)
       → SameFate to cs xs s t (k .before) (l .before) (called convert decls to s) (called convert decls to t)
   -- "if an accepted BINARY2 stream has changed only in bytes that show nothing (under a null flag, counts excepted, or after the first NUL
   -- of a text), it is accepted again, for the same target and room, and written as the same bytes": the whole call is the same, and a
