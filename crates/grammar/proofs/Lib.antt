@@ -15,5 +15,6 @@ pub mod Base64Read
 pub mod WrittenBytes
 pub mod Taken
 pub mod Resumption
+pub mod RowsRefused
 pub mod Exactly
 pub mod Examples

@@ -65,16 +65,25 @@ module _ (from : Rows) (cs : List Column) (i : AreColumns cs) where
           (p .1, q ∙ ap (λ (x : List Cell). good (x, p .1)) k, l)
       go false (bad n) q e = unfold rowThen in absurd (subst⁻¹ IsRow e tt)
 
+  pub first-stop : (s : List ℕ) (e : Refusal) → read from cs s ≡ stopped e → (atEnd from s ≡ false) × (readRow from cs s ≡ bad e)
+  first-stop s e q = go (atEnd from s) refl (readRow from cs s) refl (sym (read-step from cs i s) ∙ q)
+    where
+      go : (b : Bool) → atEnd from s ≡ b → (r : Result Refusal (List Cell × List ℕ)) → readRow from cs s ≡ r → cond b finished (rowThen r (read from cs)) ≡ stopped e
+          → (atEnd from s ≡ false) × (readRow from cs s ≡ bad e)
+      go true h r k q = absurd (subst IsFinished q tt)
+      go false h (good p) k q = unfold rowThen in absurd (subst IsRow q tt)
+      go false h (bad n) k q = unfold rowThen in let m : n ≡ e = cc q in (h, k ∙ ap bad m)
+
 -- ---- TABLEDATA
 
 -- a tag that may stand behind white space
-indented-tag : (n : ℕ) (word : List ℕ) {w a : List ℕ} → White w → Tag (60 ∷ word) (bytes ">") a → (rest : List ℕ) → tag n (60 ∷ word) (skipWhite (w ++ (a ++ rest))) ≡ good rest
+pub indented-tag : (n : ℕ) (word : List ℕ) {w a : List ℕ} → White w → Tag (60 ∷ word) (bytes ">") a → (rest : List ℕ) → tag n (60 ∷ word) (skipWhite (w ++ (a ++ rest))) ≡ good rest
 indented-tag n word w (a-tag h) rest = rw (skip-white w, skip-stays 60 _ (no-white 60 (lit≤ tt))) (tag-read n {word = 60 ∷ word} (a-tag h) rest)
 
-abbrev After : List ℕ → List ℕ → List ℕ → Type 0
+abbrev pub After : List ℕ → List ℕ → List ℕ → Type 0
 After word s rest = (w : List ℕ) × (a : List ℕ) × White w × Tag word (bytes ">") a × (s ≡ w ++ (a ++ rest))
 
-indented-tag-is : (n : ℕ) (word s : List ℕ) → Holds (After word s) (tag n word (skipWhite s))
+pub indented-tag-is : (n : ℕ) (word s : List ℕ) → Holds (After word s) (tag n word (skipWhite s))
 indented-tag-is n word s = holds-weaken (tag-is n word (skipWhite s)) (λ rest r.
     (skip-is s .taken, r .taken, skip-is s .spelled, r .spelled, skip-is s .whole ∙ ap (λ (x : List ℕ). skip-is s .taken ++ x) (r .whole)))
 
@@ -166,11 +175,11 @@ binary-cells-are (c ∷ cs) fs k s a =
       spelled = binary-then (h .spelled) (g .spelled);
     })))
 
-binary-row-read : (cs : List Column) (b : List ℕ) (xs : List Cell) → BinaryRow cs b xs → (rest : List ℕ) → readRow Binary cs (b ++ rest) ≡ good (xs, rest)
+pub binary-row-read : (cs : List Column) (b : List ℕ) (xs : List Cell) → BinaryRow cs b xs → (rest : List ℕ) → readRow Binary cs (b ++ rest) ≡ good (xs, rest)
 unfolding readRow readStart readEnd
 binary-row-read cs b xs h rest = rw (binary-cells-read h [] 0 rest)
 
-binary-row-is : (cs : List Column) (s : List ℕ) → AreBytes s → Holds (Front (BinaryRow cs) s) (readRow Binary cs s)
+pub binary-row-is : (cs : List Column) (s : List ℕ) → AreBytes s → Holds (Front (BinaryRow cs) s) (readRow Binary cs s)
 unfolding readRow readStart readEnd
 binary-row-is cs s a = holds-bind (binary-cells-are cs [] 0 s a) (λ p h. holds h)
 
@@ -204,7 +213,7 @@ flagged-are (c ∷ cs) (suc zero ∷ flags) k s l f a =
     })))
 flagged-are (c ∷ cs) (suc (suc n) ∷ flags) k s l f a = absurd (omega (arith, f .0))
 
-binary2-row-read : (cs : List Column) (b : List ℕ) (xs : List Cell) → Binary2Row cs b xs → (rest : List ℕ) → readRow Binary2 cs (b ++ rest) ≡ good (xs, rest)
+pub binary2-row-read : (cs : List Column) (b : List ℕ) (xs : List Cell) → Binary2Row cs b xs → (rest : List ℕ) → readRow Binary2 cs (b ++ rest) ≡ good (xs, rest)
 unfolding readRow readStart readEnd readFlags bitBytes
 binary2-row-read cs t xs (binary2-row {a = a} {b = b} h r) rest =
     rw (append-assoc a b rest, first-back ((length cs + 7) / 8) a (b ++ rest) (bits-in-bytes h), bits-in-read h, flagged-read r 0 rest)
@@ -216,14 +225,14 @@ flags-in n s a =
     holds-bind (bits-in-is n (p .0) (h .0) (parts-bytes s (p .0) (p .1) (h .1) a .0)) (λ flags g. holds (p .0, g, h .1)))
 
 -- flags, and what follows them
-abbrev Flags : ℕ → List ℕ → List Bool × List ℕ → Type 0
+abbrev pub Flags : ℕ → List ℕ → List Bool × List ℕ → Type 0
 Flags n s p = (a : List ℕ) × (flags : List ℕ) × BitsIn n a flags × (p .0 ≡ map isSet flags) × (s ≡ a ++ p .1)
 
-binary2-start-is : (n : ℕ) (s : List ℕ) → AreBytes s → Holds (Flags n s) (readStart Binary2 n s)
+pub binary2-start-is : (n : ℕ) (s : List ℕ) → AreBytes s → Holds (Flags n s) (readStart Binary2 n s)
 unfolding readStart
 binary2-start-is n s a = holds-bind (flags-in n s a) (λ p h. holds (h .0, p .0, h .1, refl, h .2))
 
-binary2-row-is : (cs : List Column) (s : List ℕ) → AreBytes s → Holds (Front (Binary2Row cs) s) (readRow Binary2 cs s)
+pub binary2-row-is : (cs : List Column) (s : List ℕ) → AreBytes s → Holds (Front (Binary2Row cs) s) (readRow Binary2 cs s)
 unfolding readRow readEnd
 binary2-row-is cs s a =
     holds-bind (holds-as (at 0) (binary2-start-is (length cs) s a)) (λ p h.

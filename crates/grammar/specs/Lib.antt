@@ -5,6 +5,7 @@ pub mod Binaries
 pub mod Declarations
 pub mod Base64Text
 pub mod CellRefusals
+pub mod RowRefusals
 pub mod DeclarationRefusals
 pub mod Valid
 pub mod Exact
