@@ -22,14 +22,8 @@ fn put_piece(piece: Piece, answer: &mut [u64; 6])
     ensures { λ _. ⌜ now (answer .exit) ≡ six (piece .answer) (piece .place) ⌝ }
 {
     let a = piece.answer;
-    *answer = [
-        a.number,
-        a.row,
-        a.column,
-        a.rows,
-        a.bytes,
-        piece.place as u64,
-    ];
+    let place = piece.place as u64;
+    *answer = [a.number, a.row, a.column, a.rows, a.bytes, place];
 }
 
 // A kind of rows by its number, or none.
@@ -94,10 +88,8 @@ pub extern "C" fn sailmortar_convert_piece(
         *answer = NO_SUCH_KIND_OF_PIECE;
         return;
     };
-    put_piece(
-        convert::convert_piece(decls, source, target, input, out),
-        answer,
-    );
+    let piece = convert::convert_piece(decls, source, target, input, out);
+    put_piece(piece, answer);
 }
 
 // Base64 to bytes.
