@@ -41,6 +41,11 @@ enum {
     SAILMORTAR_BYTES = 4   /* how many bytes were written */
 };
 
+/* One place more in the answer of sailmortar_convert_piece. */
+enum {
+    SAILMORTAR_END = 5 /* where in the input the rows done end */
+};
+
 /* Places in the answer of sailmortar_declare; the number is at SAILMORTAR_NUMBER, the other two are 0. */
 enum {
     SAILMORTAR_PLACE = 2,  /* the whole FIELDs before the refused element */
@@ -76,6 +81,14 @@ enum {
  */
 void sailmortar_convert(const uint8_t *decls, size_t decls_length, uint32_t from, uint32_t to, const uint8_t *input, size_t input_length,
                         uint8_t *out, size_t out_length, uint64_t answer[5]);
+
+/*
+ * The same for a piece of a table, such as its front while the rest is still to come. Sixth in the answer is the place in `input` where the
+ * rows done end: where the refused row begins, white space before a row of TABLEDATA included; the length of `input` on acceptance; 0 where a
+ * refusal stands before any row. The next piece begins there, with what has come since.
+ */
+void sailmortar_convert_piece(const uint8_t *decls, size_t decls_length, uint32_t from, uint32_t to, const uint8_t *input, size_t input_length,
+                              uint8_t *out, size_t out_length, uint64_t answer[6]);
 
 /* Decodes base64 (RFC 4648, white space skipped anywhere). A refusal, 6, 7 or 17, writes nothing. (n / 4 + 1) * 3 bytes are room enough. */
 void sailmortar_base64_decode(const uint8_t *input, size_t input_length, uint8_t *out, size_t out_length, uint64_t answer[5]);

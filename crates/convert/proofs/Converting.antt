@@ -1,5 +1,5 @@
--- The loop over rows: the answer for the whole input is the answer of going on from here (RowsInv); one turn is one step of `read` and one of
--- `write`. Cited by convert_rows.
+-- The loop over rows: the answer for the whole input is the answer of going on from here, and here is where the rows done end (RowsInv); one turn
+-- is one step of `read` and one of `write`. Cited by convert_rows.
 use Prim.Native.Nat.{_+_, _-_, _<_, _≤_, ℕ}
 use native.Mathlib.Omega.{arith}
 use mathlib.Core.Bool.{false, true}
@@ -13,7 +13,9 @@ use Rattle.convert.proofs.Lists.{drop-sets, more-kept, take-sets}
 use Rattle.convert.specs.declared.Cursor.{Cursor}
 use Rattle.convert.specs.declared.Progress.{Progress}
 use Rattle.rows.proofs.Laws.{within-step}
+use Rattle.rows.proofs.Pieces.{behind-more, place-refused}
 use Rattle.rows.specs.Bounds.{Within}
+use Rattle.rows.specs.Pieces.{behindRows, placeOf}
 use Rattle.rows.specs.Sequence.{rowThen}
 use Rattle.rows.specs.Stream.{atEnd, fitted, read, readRow, run, write, writeRow, wroteThen}
 use Rattle.table.specs.Cell.{Cell}
@@ -30,11 +32,12 @@ pub record RowsInv (from to : Rows) (cols : List Column) (s out₀ out : List �
   pub room : p .bytes ≤ length out
   pub long : length out ≡ length out₀
   pub kept : drop (p .bytes) out ≡ drop (p .bytes) out₀
+  pub done : behindRows from cols (p .rows) s ≡ drop (cursor .at) s
   pub ahead : run from to cols (length out₀) s ≡ write to cols (length out₀) (p .rows) (take (p .bytes) out) (read from cols (drop (cursor .at) s))
 
 pub rows-start : (from to : Rows) (cols : List Column) (s out : List ℕ) (cursor : Cursor) (p : Progress) → cursor .at ≡ 0 → (p .rows ≡ 0) × (p .bytes ≡ 0)
     → RowsInv from to cols s out out cursor p
-unfolding run
+unfolding run behindRows
 rows-start from to cols s out cursor p z h =
     record {
       inside = omega arith;
@@ -42,13 +45,15 @@ rows-start from to cols s out cursor p z h =
       room = omega arith;
       long = refl;
       kept = refl;
+      done = rw (z, h .0);
       ahead = rw (z, h .0, h .1);
     }
 
 -- what the function gives back
-pub record Finished (from to : Rows) (cols : List Column) (s out₀ out : List ℕ) (a : Answer) : Type 0 where
+pub record Finished (from to : Rows) (cols : List Column) (s out₀ out : List ℕ) (a : Answer) (place : ℕ) : Type 0 where
   pub answers : a ≡ answerOf (run from to cols (length out₀) s)
   pub leaves : out ≡ bufferOf (run from to cols (length out₀) s) out₀
+  pub stands : place ≡ placeOf from cols s (run from to cols (length out₀) s)
 
 module _ (from to : Rows) (cols : List Column) (are : Within cols) (s out₀ out : List ℕ) (cursor : Cursor) (p : Progress) (inv : RowsInv from to cols s out₀ out cursor p) where
   as-long : length (take (p .bytes) out) ≡ p .bytes
@@ -59,16 +64,21 @@ module _ (from to : Rows) (cols : List Column) (are : Within cols) (s out₀ out
 
   -- a refusal at this row
   refusal : (e : Refusal) → run from to cols (length out₀) s ≡ refused e (p .rows) (take (p .bytes) out)
-      → Finished from to cols s out₀ out (record { number = e .number; row = p .rows; column = e .column; rows = p .rows; bytes = p .bytes })
+      → Finished from to cols s out₀ out (record { number = e .number; row = p .rows; column = e .column; rows = p .rows; bytes = p .bytes }) (cursor .at)
   unfolding answerOf bufferOf written
-  refusal e q = record { answers = rw (q, as-long); leaves = rw q laid }
+  refusal e q =
+      record {
+        answers = rw (q, as-long);
+        leaves = rw q laid;
+        stands = sym (ap (placeOf from cols s) q ∙ place-refused from cols (p .rows) (cursor .at) s (take (p .bytes) out) e (inv .done) (inv .inside));
+      }
 
   -- no row is left
-  pub acceptance : atEnd from (drop (cursor .at) s) ≡ true → Finished from to cols s out₀ out (record { number = 0; row = 0; column = 0; rows = p .rows; bytes = p .bytes })
-  unfolding answerOf bufferOf written write
+  pub acceptance : atEnd from (drop (cursor .at) s) ≡ true → Finished from to cols s out₀ out (record { number = 0; row = 0; column = 0; rows = p .rows; bytes = p .bytes }) (length s)
+  unfolding answerOf bufferOf placeOf written write
   acceptance h =
       let e : run from to cols (length out₀) s ≡ accepted (p .rows) (take (p .bytes) out) = inv .ahead ∙ rw (within-step from cols are (drop (cursor .at) s), h) in
-      record { answers = rw (e, as-long); leaves = rw e laid }
+      record { answers = rw (e, as-long); leaves = rw e laid; stands = rw e }
 
   -- a row is left
   module _ (more : atEnd from (drop (cursor .at) s) ≡ false) where
@@ -77,7 +87,7 @@ module _ (from to : Rows) (cols : List Column) (are : Within cols) (s out₀ out
 
     -- the row does not read
     pub read-refusal : (e : Refusal) → readRow from cols (drop (cursor .at) s) ≡ bad e
-        → Finished from to cols s out₀ out (record { number = e .number; row = p .rows; column = e .column; rows = p .rows; bytes = p .bytes })
+        → Finished from to cols s out₀ out (record { number = e .number; row = p .rows; column = e .column; rows = p .rows; bytes = p .bytes }) (cursor .at)
     unfolding rowThen write
     read-refusal e q = refusal e (turned ∙ rw q)
 
@@ -89,7 +99,7 @@ module _ (from to : Rows) (cols : List Column) (are : Within cols) (s out₀ out
 
       -- the row has no form
       pub write-refusal : (x : Refusal) → writeRow to cols xs ≡ bad x
-          → Finished from to cols s out₀ out (record { number = x .number; row = p .rows; column = x .column; rows = p .rows; bytes = p .bytes })
+          → Finished from to cols s out₀ out (record { number = x .number; row = p .rows; column = x .column; rows = p .rows; bytes = p .bytes }) (cursor .at)
       unfolding wroteThen fitted
       write-refusal x w = refusal x (wrote ∙ rw w)
 
@@ -98,7 +108,7 @@ module _ (from to : Rows) (cols : List Column) (are : Within cols) (s out₀ out
         beyond = length-append (take (p .bytes) out) b ∙ ap (λ (n : ℕ). n + length b) as-long
 
         -- the row does not fit
-        pub room-refusal : length out - p .bytes < length b → Finished from to cols s out₀ out (record { number = 17; row = p .rows; column = 0; rows = p .rows; bytes = p .bytes })
+        pub room-refusal : length out - p .bytes < length b → Finished from to cols s out₀ out (record { number = 17; row = p .rows; column = 0; rows = p .rows; bytes = p .bytes }) (cursor .at)
         unfolding wroteThen fitted at
         room-refusal h =
             let t : ltb (length out₀) (length (take (p .bytes) out ++ b)) ≡ true = lt-ltb (length out₀) (length (take (p .bytes) out ++ b)) (omega (arith, beyond, inv .long, inv .room)) in
@@ -119,5 +129,6 @@ module _ (from to : Rows) (cols : List Column) (are : Within cols) (s out₀ out
               room = omega (arith, ol, qb);
               long = ol ∙ inv .long;
               kept = rw (qb, o) (drop-sets b out (p .bytes) fits ∙ more-kept (length b) (p .bytes) out out₀ (inv .kept));
+              done = rw (ca, qr) (behind-more from cols (p .rows) (cursor .at) s rest xs (inv .done) e ∙ d);
               ahead = wrote ∙ rw (w, t) (rw (ca, qr, qb, o, take-sets b out (p .bytes) fits, ← d));
             }

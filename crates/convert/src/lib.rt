@@ -27,6 +27,7 @@ ghost use Rattle.table.specs.ColumnList.{listed};
 ghost use Rattle.row_writing.specs.Contracts.{SizeWithin, mostCellBytes};
 ghost use Rattle.rows.specs.Bounds.{Within};
 ghost use Rattle.rows.specs.Convert.{Converts};
+ghost use Rattle.rows.specs.Pieces.{ConvertsPiece, placeOf};
 ghost use Rattle.rows.specs.Stream.{readCell, run};
 ghost use Rattle.convert.specs.Contracts.{GrownBy, MeasuredBy, holdingOf, scratchLength};
 
@@ -42,11 +43,12 @@ impl Cursor {
         Cursor { at: 0 }
     }
 
-    // The state after a row that ends at `next`.
-    fn after(self, next: usize) -> Cursor
-        ensures { λ r. ⌜ r .at ≡ next ⌝ }
+    // The state after a row that took `size` bytes of the input.
+    fn after(self, size: usize) -> Cursor
+        requires { ⌜ self .at + size < 2 ^ 64 ⌝ }
+        ensures { λ r. ⌜ r .at ≡ self .at + size ⌝ }
     {
-        Cursor { at: next }
+        Cursor { at: self.at + size }
     }
 }
 
@@ -91,11 +93,19 @@ enum Turn {
     Refused(u64),
 }
 
-// What stops the loop over rows: a refusal's number, row and column, as the answer has them; all are 0 where no row is left.
+// What stops the loop over rows: a refusal's number, row and column, as the answer has them, all 0 where no row is left; and the place in the input
+// where the rows done end.
 struct Stop {
     number: u64,
     row: u64,
     column: usize,
+    place: usize,
+}
+
+// An answer, and the place in the input where the rows done end.
+pub struct Piece {
+    pub answer: Answer,
+    pub place: usize,
 }
 
 // What the scratch has: it holds cells while a cell of any size has room behind them.
@@ -237,9 +247,10 @@ fn convert_rows(
     s: &[u8],
     out: &mut [u8],
     scratch: &mut [i64],
-) -> Answer
+) -> Piece
     requires { ⌜ Within (listed cols) × (scratchLength ≤ length (now scratch)) ⌝ }
-    ensures { λ r. ⌜ r ≡ answerOf (run from to (listed cols) (length (now (out .entry))) (now (s .entry))) ⌝ }
+    ensures { λ r. ⌜ r .answer ≡ answerOf (run from to (listed cols) (length (now (out .entry))) (now (s .entry))) ⌝ }
+    ensures { λ r. ⌜ r .place ≡ placeOf from (listed cols) (now (s .entry)) (run from to (listed cols) (length (now (out .entry))) (now (s .entry))) ⌝ }
     ensures { λ _. ⌜ now (out .exit) ≡ bufferOf (run from to (listed cols) (length (now (out .entry))) (now (s .entry))) (now (out .entry)) ⌝ }
 {
     let count = cols.count;
@@ -247,9 +258,10 @@ fn convert_rows(
     let mut cursor = Cursor::start();
     let mut p = Progress::start();
     let mut stop = Stop {
-        number: 0,
+        number: NONE,
         row: 0,
         column: 0,
+        place: s.len(),
     };
     'rows: while !at_end(from, s, cursor.at) {
         let start = cursor.at;
@@ -262,6 +274,7 @@ fn convert_rows(
                     number: n,
                     row: p.rows,
                     column: 0,
+                    place: start,
                 };
                 break 'rows;
             }
@@ -283,6 +296,7 @@ fn convert_rows(
                         number: n,
                         row: p.rows,
                         column: i,
+                        place: start,
                     };
                     break 'rows;
                 }
@@ -301,6 +315,7 @@ fn convert_rows(
                     number: n,
                     row: p.rows,
                     column: count,
+                    place: start,
                 };
                 break 'rows;
             }
@@ -313,6 +328,7 @@ fn convert_rows(
                 number: m.number,
                 row: p.rows,
                 column: m.column,
+                place: start,
             };
             break 'rows;
         }
@@ -323,6 +339,7 @@ fn convert_rows(
                 number: 17,
                 row: p.rows,
                 column: 0,
+                place: start,
             };
             break 'rows;
         }
@@ -341,16 +358,30 @@ fn convert_rows(
             p.bytes,
             scratch,
         );
-        cursor = cursor.after(next);
+        cursor = cursor.after(next - start);
         p = p.after(size);
     }
-    Answer {
-        number: stop.number,
-        row: stop.row,
-        column: stop.column as u64,
-        rows: p.rows,
-        bytes: p.bytes as u64,
+    Piece {
+        answer: Answer {
+            number: stop.number,
+            row: stop.row,
+            column: stop.column as u64,
+            rows: p.rows,
+            bytes: p.bytes as u64,
+        },
+        place: stop.place,
     }
+}
+
+// Rows under a column list, and the place where those done end.
+pub fn convert_piece_columns(cols: Columns, from: Rows, to: Rows, s: &[u8], out: &mut [u8]) -> Piece
+    requires { ⌜ Within (listed cols) ⌝ }
+    ensures { λ r. ⌜ r .answer ≡ answerOf (run from to (listed cols) (length (now (out .entry))) (now (s .entry))) ⌝ }
+    ensures { λ r. ⌜ r .place ≡ placeOf from (listed cols) (now (s .entry)) (run from to (listed cols) (length (now (out .entry))) (now (s .entry))) ⌝ }
+    ensures { λ _. ⌜ now (out .exit) ≡ bufferOf (run from to (listed cols) (length (now (out .entry))) (now (s .entry))) (now (out .entry)) ⌝ }
+{
+    let mut scratch = [0i64; SCRATCH];
+    convert_rows(cols, from, to, s, out, &mut scratch)
 }
 
 // Rows under a column list.
@@ -359,25 +390,36 @@ pub fn convert_columns(cols: Columns, from: Rows, to: Rows, s: &[u8], out: &mut 
     ensures { λ r. ⌜ r ≡ answerOf (run from to (listed cols) (length (now (out .entry))) (now (s .entry))) ⌝ }
     ensures { λ _. ⌜ now (out .exit) ≡ bufferOf (run from to (listed cols) (length (now (out .entry))) (now (s .entry))) (now (out .entry)) ⌝ }
 {
-    let mut scratch = [0i64; SCRATCH];
-    convert_rows(cols, from, to, s, out, &mut scratch)
+    let piece = convert_piece_columns(cols, from, to, s, out);
+    piece.answer
 }
 
-// Rows of one kind to rows of another: the front of the call, then the rows.
-pub fn convert(decls: &[u8], from: Rows, to: Rows, input: &[u8], out: &mut [u8]) -> Answer
-    ensures { λ r. ⌜ Converts (now (decls .entry)) from to (now (input .entry)) (now (out .entry)) r (now (out .exit)) ⌝ }
+// Rows of one kind to rows of another: the front of the call, then the rows. A refusal of the front stands before any row.
+pub fn convert_piece(decls: &[u8], from: Rows, to: Rows, input: &[u8], out: &mut [u8]) -> Piece
+    ensures { λ r. ⌜ ConvertsPiece (now (decls .entry)) from to (now (input .entry)) (now (out .entry)) (r .answer) (r .place) (now (out .exit)) ⌝ }
 {
     let d = front(decls, input.len());
     let number = d.number;
     if number != 0 {
-        return Answer {
-            number,
-            row: 0,
-            column: d.place as u64,
-            rows: 0,
-            bytes: 0,
+        return Piece {
+            answer: Answer {
+                number,
+                row: 0,
+                column: d.place as u64,
+                rows: 0,
+                bytes: 0,
+            },
+            place: 0,
         };
     }
     let cols = d.columns;
-    convert_columns(cols, from, to, input, out)
+    convert_piece_columns(cols, from, to, input, out)
+}
+
+// The same, for a caller who wants no place.
+pub fn convert(decls: &[u8], from: Rows, to: Rows, input: &[u8], out: &mut [u8]) -> Answer
+    ensures { λ r. ⌜ Converts (now (decls .entry)) from to (now (input .entry)) (now (out .entry)) r (now (out .exit)) ⌝ }
+{
+    let piece = convert_piece(decls, from, to, input, out);
+    piece.answer
 }

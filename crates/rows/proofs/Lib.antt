@@ -1,3 +1,4 @@
 pub mod Sequences
 pub mod Laws
 pub mod Calls
+pub mod Pieces

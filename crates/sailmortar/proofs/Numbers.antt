@@ -4,8 +4,7 @@ use mathlib.Core.Option.{none, some}
 use mathlib.Core.List.{List, [], _∷_}
 use mathlib.Core.Path.{_≡_, refl}
 use Rattle.declaring.specs.Contracts.{answered}
-use Rattle.sailmortar.specs.Face.{betweenKinds, convertFace, declaredNumbers, faced, noSuchKind, rowsOf}
-use Rattle.rows.specs.Convert.{convert}
+use Rattle.sailmortar.specs.Face.{Faced, betweenKinds, declaredNumbers, rowsOf}
 use Rattle.declaring.specs.declared.Declared.{Declared}
 use Rattle.table.specs.Outcome.{Refusal}
 use Rattle.table.specs.Result.{Result, bad, good}
@@ -30,16 +29,16 @@ no-rows (suc (suc (suc n))) a b c = refl
 
 -- ---- a call, by what its two numbers name
 
-module _ (decls : List ℕ) (from to : ℕ) (input out : List ℕ) where
-  pub no-source : rowsOf from ≡ none → convertFace decls from to input out ≡ noSuchKind out
-  unfolding convertFace betweenKinds
+module _ (from to : ℕ) (otherwise : Faced) (call : Rows → Rows → Faced) where
+  pub no-source : rowsOf from ≡ none → betweenKinds (rowsOf from) (rowsOf to) otherwise call ≡ otherwise
+  unfolding betweenKinds
   no-source e = rw e
 
   module _ (source : Rows) (e : rowsOf from ≡ some source) where
-    pub no-target : rowsOf to ≡ none → convertFace decls from to input out ≡ noSuchKind out
-    unfolding convertFace betweenKinds
+    pub no-target : rowsOf to ≡ none → betweenKinds (rowsOf from) (rowsOf to) otherwise call ≡ otherwise
+    unfolding betweenKinds
     no-target f = rw (e, f)
 
-    pub known : (target : Rows) → rowsOf to ≡ some target → convertFace decls from to input out ≡ faced (convert decls source target input out)
-    unfolding convertFace betweenKinds
+    pub known : (target : Rows) → rowsOf to ≡ some target → betweenKinds (rowsOf from) (rowsOf to) otherwise call ≡ call source target
+    unfolding betweenKinds
     known target f = rw (e, f)

@@ -1,11 +1,12 @@
 -- The public face: what each function for C answers, in numbers, and what it leaves in the buffer that it was lent.
 use Prim.Native.Nat.{suc, zero, ℕ}
-use mathlib.Core.List.{List, [], _∷_}
+use mathlib.Core.List.{List, [], _++_, _∷_}
 use mathlib.Core.Option.{Option, none, some}
-use lib.ListN.{length}
+use lib.ListN.{length, replicate}
 use Rattle.base64.specs.Base64.{decodeCall, encodeCall}
 use Rattle.fields.specs.Fields.{declare}
 use Rattle.rows.specs.Convert.{convert}
+use Rattle.rows.specs.Pieces.{PieceCall, convertPiece}
 use Rattle.table.specs.Outcome.{Call, Refusal}
 use Rattle.table.specs.Result.{Result, bad, good}
 use Rattle.table.specs.declared.Answer.{Answer}
@@ -24,7 +25,7 @@ rowsOf (suc (suc (suc n))) = none
 unfoldable pub five : Answer → List ℕ
 five a = a .number ∷ a .row ∷ a .column ∷ a .rows ∷ a .bytes ∷ []
 
--- the five numbers, and every byte of the buffer
+-- the numbers, and every byte of the buffer
 pub record Faced : Type 0 where
   pub numbers : List ℕ
   pub buffer : List ℕ
@@ -34,17 +35,30 @@ faced c = record { numbers = five (c .answer); buffer = c .buffer }
 
 -- ---- conversion
 
--- a kind's number that is none of the three: 255, everything else 0 and nothing touched, before anything else is judged
-unfoldable pub noSuchKind : List ℕ → Faced
-noSuchKind out = record { numbers = 255 ∷ 0 ∷ 0 ∷ 0 ∷ 0 ∷ []; buffer = out }
+-- a kind's number that is none of the three: 255, all other numbers 0 and nothing touched, before anything else is judged
+unfoldable pub noSuchKind : ℕ → List ℕ → Faced
+noSuchKind others out = record { numbers = 255 ∷ replicate others 0; buffer = out }
 
-unfoldable pub betweenKinds : List ℕ → Option Rows → Option Rows → List ℕ → List ℕ → Faced
-betweenKinds decls (some from) (some to) input out = faced (convert decls from to input out)
-betweenKinds decls (some from) none input out = noSuchKind out
-betweenKinds decls none to input out = noSuchKind out
+unfoldable pub betweenKinds : Option Rows → Option Rows → Faced → (Rows → Rows → Faced) → Faced
+betweenKinds (some from) (some to) otherwise call = call from to
+betweenKinds (some from) none otherwise call = otherwise
+betweenKinds none to otherwise call = otherwise
 
 unfoldable pub convertFace : List ℕ → ℕ → ℕ → List ℕ → List ℕ → Faced
-convertFace decls from to input out = betweenKinds decls (rowsOf from) (rowsOf to) input out
+convertFace decls from to input out =
+    betweenKinds (rowsOf from) (rowsOf to) (noSuchKind 4 out) (λ source target. faced (convert decls source target input out))
+
+-- ---- conversion of a piece: the five numbers, and sixth the place where the rows done end
+
+unfoldable pub six : Answer → ℕ → List ℕ
+six a place = five a ++ (place ∷ [])
+
+unfoldable pub pieceFaced : PieceCall → Faced
+pieceFaced p = record { numbers = six (p .call .answer) (p .place); buffer = p .call .buffer }
+
+unfoldable pub pieceFace : List ℕ → ℕ → ℕ → List ℕ → List ℕ → Faced
+pieceFace decls from to input out =
+    betweenKinds (rowsOf from) (rowsOf to) (noSuchKind 5 out) (λ source target. pieceFaced (convertPiece decls source target input out))
 
 -- ---- base64
 

@@ -1,18 +1,29 @@
 // The public face: the functions for C, Rust and Python, numbers and slices only. `answer` gets the number, the row, the column, the rows done
 // and the bytes written.
+use convert::Piece;
 use table::Answer;
 use table::Rows;
 ghost use mathlib.Core.Path.{_≡_};
-ghost use Rattle.sailmortar.specs.Face.{convertFace, declareFace, decodeFace, encodeFace, five, rowsOf};
+ghost use Rattle.sailmortar.specs.Face.{convertFace, declareFace, decodeFace, encodeFace, five, pieceFace, rowsOf, six};
 ghost use Rattle.sailmortar.specs.Named.{namedAs};
 
 // 01 has no number for it.
 const NO_SUCH_KIND: [u64; 5] = [255, 0, 0, 0, 0];
 
+const NO_SUCH_KIND_OF_PIECE: [u64; 6] = [255, 0, 0, 0, 0, 0];
+
 fn put_answer(a: Answer, answer: &mut [u64; 5])
     ensures { λ _. ⌜ now (answer .exit) ≡ five a ⌝ }
 {
     *answer = [a.number, a.row, a.column, a.rows, a.bytes];
+}
+
+fn put_piece(piece: Piece, answer: &mut [u64; 6])
+    ensures { λ _. ⌜ now (answer .exit) ≡ six (piece .answer) (piece .place) ⌝ }
+{
+    let a = piece.answer;
+    let place = piece.place as u64;
+    *answer = [a.number, a.row, a.column, a.rows, a.bytes, place];
 }
 
 // A kind of rows by its number, or none.
@@ -54,6 +65,31 @@ pub extern "C" fn sailmortar_convert(
         return;
     };
     put_answer(convert::convert(decls, source, target, input, out), answer);
+}
+
+// The same for a piece of a table: sixth, `answer` gets the place in the input where the rows done end, so that the caller can go on from there.
+#[no_mangle]
+pub extern "C" fn sailmortar_convert_piece(
+    decls: &[u8],
+    from: u32,
+    to: u32,
+    input: &[u8],
+    out: &mut [u8],
+    answer: &mut [u64; 6],
+)
+    ensures numbers { λ _. ⌜ now (answer .exit) ≡ pieceFace (now (decls .entry)) from to (now (input .entry)) (now (out .entry)) .numbers ⌝ }
+    ensures buffer { λ _. ⌜ now (out .exit) ≡ pieceFace (now (decls .entry)) from to (now (input .entry)) (now (out .entry)) .buffer ⌝ }
+{
+    let Named::Known(source) = rows_of(from) else {
+        *answer = NO_SUCH_KIND_OF_PIECE;
+        return;
+    };
+    let Named::Known(target) = rows_of(to) else {
+        *answer = NO_SUCH_KIND_OF_PIECE;
+        return;
+    };
+    let piece = convert::convert_piece(decls, source, target, input, out);
+    put_piece(piece, answer);
 }
 
 // Base64 to bytes.

@@ -1,46 +1,14 @@
--- convert::convert: the front of the call, then the rows; each way out is one law of rows' Calls.
-use mathlib.Core.Path.{_≡_}
-use lib.ListN.{length}
-use denote.Ref.{now}
-use Rattle.declaring.proofs.Answers.{accepted-is, refused-is}
-use Rattle.fields.proofs.Front.{front-fails, front-is}
-use Rattle.fields.specs.Front.{front}
-use Rattle.rows.proofs.Calls.{refused-front, rows-converted}
-use Rattle.rows.proofs.Laws.{columns-within}
-use Rattle.table.proofs.Laws.{holds-at}
-use Rattle.table.specs.ColumnList.{listed}
-use Rattle.table.specs.Result.{good}
+-- convert::convert: the answer of `convert_piece` and its buffer, which are those of `convert`.
+use Rattle.rows.specs.Pieces.{convertPiece}
 use borrow.Author.Needs.{needs}
 use Rattle.convert.proofs.convert.Statement.{statement}
 use Rattle.convert.proofs.convert.Tie as tie
 
 returns : tie.Need-returns
+unfolding convertPiece
 returns c =
-    let a = c .before .before .before .before .before in
-    let f = c .before .front in
-    refused-front (now (a .args .decls)) (a .args .from) (a .args .to) (now (a .args .input)) (now (a .args .out)) _ _
-    (refused-is _ (f .result) (f .ensures) (front-fails (now (a .args .decls)) (length (now (a .args .input)))) (c .if1 .taken))
-
--- the front hands out the columns
-columns : (c : tie.Else1)
-    → front (now (c .before .before .before .before .before .args .decls)) (length (now (c .before .before .before .before .before .args .input))) ≡ good (listed (c .before .front .result .columns))
-columns c =
-    let a = c .before .before .before .before .before in
-    let f = c .before .front in
-    accepted-is _ (f .result) (f .ensures) (front-fails (now (a .args .decls)) (length (now (a .args .input)))) (c .if1 .left)
-
-convert-columns-requires : tie.Need-convert-columns-requires
-convert-columns-requires c κs =
-    let a = c .before .before .before .before .before .before .before in
-    columns-within _ (holds-at (front-is (now (a .args .decls)) (length (now (a .args .input)))) (columns (c .before .before)))
-
-returns-2 : tie.Need-returns-2
-returns-2 c =
-    let e = c .before .before .before .before .before in
-    let a = e .before .before .before .before .before in
-    let r = c .before .before .convert-columns .ensures in
-    rows-converted (now (a .args .decls)) (a .args .from) (a .args .to) (now (a .args .input)) (now (a .args .out)) (listed (e .before .front .result .columns)) (columns e) _ _ (r .0) (r .1)
+    let p = c .before .before .before .convert-piece .ensures in
+    record { answers = p .answers; leaves = p .leaves }
 
 pub convert-spec : {M : Type 1} → statement M
-convert-spec =
-    tie.close (tie.spec (λ c κs. search needs) returns convert-columns-requires (λ c. search needs) returns-2)
+convert-spec = tie.close (tie.spec (λ c κs. search needs) (λ c. search needs) returns)

@@ -40,7 +40,7 @@ abbrev μ-loop : tie.MeasureT-loop
 
 abbrev Inv-rows : tie.InvT-rows
 Inv-rows from to s out₀ scratch₀ cols count around cursor₀ p₀ stop₀ out scratch cursor p stop =
-    RowsInv from to (listed cols) s out₀ out cursor p × (stop ≡ record { number = 0; row = 0; column = 0 }) × (length scratch ≡ length scratch₀)
+    RowsInv from to (listed cols) s out₀ out cursor p × (stop ≡ record { number = 0; row = 0; column = 0; place = length s }) × (length scratch ≡ length scratch₀)
 
 abbrev μ-rows : tie.MeasureT-rows
 μ-rows from to s out₀ scratch₀ cols count around cursor₀ p₀ stop₀ out scratch cursor p stop = length s - cursor .at
@@ -149,7 +149,7 @@ next-column t = listed-next (cols-at (rows-of (t .before .before))) (t .before .
 -- a row that does not read
 stopped : (t : Left) (n k : ℕ) → readRow (from-at (rows-at t)) (listed (cols-at (rows-at t))) (drop (rows-at t .rows .cursor .at) (s-at (rows-at t))) ≡ bad (at k n)
     → Finished (from-at (rows-at t)) (to-at (rows-at t)) (listed (cols-at (rows-at t))) (s-at (rows-at t)) (out-at (rows-at t)) (rows-at t .rows .out)
-    (record { number = n; row = rows-at t .rows .p .rows; column = k; rows = rows-at t .rows .p .rows; bytes = rows-at t .rows .p .bytes })
+    (record { number = n; row = rows-at t .rows .p .rows; column = k; rows = rows-at t .rows .p .rows; bytes = rows-at t .rows .p .bytes }) (rows-at t .rows .cursor .at)
 unfolding at
 stopped t n k e =
     let r = rows-at t in
@@ -344,6 +344,22 @@ put-row-requires c κs =
       subst (λ (y : Holding). r .rows .p .bytes + length (row-held f y) ≤ length (r .rows .out)) h (omega (arith, size-at f, c .before .before .before .if3 .left, r .rows .inv .0 .room)),
     )
 
+-- the row that was read, and the place behind it
+abbrev read-at : tie.After-scratch2 Inv-loop μ-loop Inv-rows μ-rows → Ended
+read-at c = ended-of (c .before .before .before .before .before .before .before .before .before .before)
+
+sub-after : tie.Need-sub-after Inv-loop μ-loop Inv-rows μ-rows
+sub-after c = omega (arith, onward (read-at c) .0)
+
+after-requires : tie.Need-after-requires Inv-loop μ-loop Inv-rows μ-rows
+after-requires c κs =
+    let o = onward (read-at c) in
+    omega (arith, o .0, o .1, begin (rows-of (begun-of (read-at c))) .good)
+
+-- the cursor moves on to it
+moved : (c : tie.After-after Inv-loop μ-loop Inv-rows μ-rows) → c .after .result .at ≡ next-at (read-at (c .before))
+moved c = omega (arith, onward (read-at (c .before)) .0, c .after .ensures)
+
 after-requires-2 : tie.Need-after-requires-2 Inv-loop μ-loop Inv-rows μ-rows
 after-requires-2 c κs =
     let f = c .before .before .before .before .before .before .before .before .before .before .before in
@@ -356,7 +372,7 @@ after-requires-2 c κs =
 rows-less : tie.Need-rows-less Inv-loop μ-loop Inv-rows μ-rows
 rows-less c =
     let o = onward (ended-of (c .before .before .before .before .before .before .before .before .before .before .before .before)) in
-    omega (arith, o .0, o .1, c .before .after .ensures)
+    omega (arith, o .0, o .1, moved (c .before))
 
 rows-again : tie.Need-rows-again Inv-loop μ-loop Inv-rows μ-rows
 rows-again c =
@@ -369,7 +385,7 @@ rows-again c =
     let h = c .before .before .before .before .before .before .before .before .holding-of .ensures in (
       row-done (from-at r) (to-at r) (listed (cols-at r)) (are r) (s-at r) (out-at r) (r .rows .out) (r .rows .cursor) (r .rows .p) (r .rows .inv .0) (left (left-of (begun-of e)))
           (l .inv .0 .acc) _ (whole e) (row-at f) (written-at f) (omega (arith, size-at f, c .before .before .before .before .before .before .before .before .before .if3 .left)) _ refl (o .0) (o .1) _
-          (w .0 .now-is ∙ ap (λ (y : Holding). sets (r .rows .out) (r .rows .p .bytes) (row-held f y)) h) (c .before .after .result) (c .after2 .result) (c .before .after .ensures)
+          (w .0 .now-is ∙ ap (λ (y : Holding). sets (r .rows .out) (r .rows .p .bytes) (row-held f y)) h) (c .before .after .result) (c .after2 .result) (moved (c .before))
           (c .after2 .ensures .0) (c .after2 .ensures .1 ∙ ap (λ (n : ℕ). r .rows .p .bytes + n) (sym (size-at f))),
       l .inv .2 ∙ r .rows .inv .1,
       w .1 ∙ l .inv .3 ∙ r .rows .inv .2,
@@ -388,7 +404,7 @@ returns c =
     let r = c .before .before in
     let d = acceptance (from-at r) (to-at r) (listed (cols-at r)) (are r) (s-at r) (out-at r) (r .rows .out) (r .rows .cursor) (r .rows .p) (r .rows .inv .0)
     (sym (c .before .at-end .ensures) ∙ not-false _ (c .if1 .left)) in
-    (rw (r .rows .inv .1) (d .answers), d .leaves)
+    (rw (r .rows .inv .1) (d .answers), (rw (r .rows .inv .1) (d .stands), d .leaves))
 
 same-length-3 : tie.Need-same-length-3 Inv-loop μ-loop Inv-rows μ-rows
 same-length-3 c = rows-at (c .before .before .before .before) .rows .inv .0 .long
@@ -403,7 +419,7 @@ returns-2 c =
     let g = c .before .before .before .begin-row in
     let d = stopped t _ 0 (row-unbegun (from-at r) (listed (cols-at r)) (cols-at r .count) (listed-length (cols-at r)) (s-at r) (r .rows .cursor .at) (g .result) (g .ensures)
     (c .before .b .given .0 .0) (c .before .b .given .1)) in
-    (d .answers, d .leaves)
+    (d .answers, (d .stands, d .leaves))
 
 same-length-5 : tie.Need-same-length-5 Inv-loop μ-loop Inv-rows μ-rows
 same-length-5 c = rows-of (c .before .before .before .before .before .before .before .before .before .before) .rows .inv .0 .long
@@ -423,7 +439,7 @@ returns-3 c =
     let x = subst (MeasuredBy _ _ _ _ _ _ _ _ _) (c .before .t .given .1) (c .before .before .before .before .measure .ensures .0) in
     let q = read-stop (from-at r) (listed (cols-at r)) _ (s-at r) (body-at b) (l .at) (l .i) (l .inv .0) (column-at t) (next-column t) (f .result) (f .ensures) _ x in
     let d = stopped (left-of b) _ (l .i) (begun b ∙ cells-stopped (from-at r) (listed (cols-at r)) _ (s-at r) (body-at b) _ q) in
-    (d .answers, d .leaves)
+    (d .answers, (d .stands, d .leaves))
 
 same-length-7 : tie.Need-same-length-7 Inv-loop μ-loop Inv-rows μ-rows
 same-length-7 c = rows-of (c .before .before .before .before .before .before) .rows .inv .0 .long
@@ -441,7 +457,7 @@ returns-4 c =
     let e = c .before .before .before .end-row in
     let q = cells-open (from-at r) (listed (cols-at r)) _ (s-at r) (body-at b) _ _ (all-read a) (e .result) (e .ensures) (c .before .e .given .0 .0) (c .before .e .given .1) in
     let d = stopped (left-of b) _ (cols-at r .count) (begun b ∙ q ∙ ap (λ (k : ℕ). bad (at k (c .before .e .given .0 .0))) (listed-length (cols-at r))) in
-    (d .answers, d .leaves)
+    (d .answers, (d .stands, d .leaves))
 
 same-length-9 : tie.Need-same-length-9 Inv-loop μ-loop Inv-rows μ-rows
 same-length-9 c = rows-of (begun-of (c .before .before)) .rows .inv .0 .long
@@ -463,7 +479,7 @@ returns-5 c =
     (a .loop-test .left) (c .if2 .taken) in
     let d = write-refusal (from-at r) (to-at r) (listed (cols-at r)) (are r) (s-at r) (out-at r) (r .rows .out) (r .rows .cursor) (r .rows .p) (r .rows .inv .0) (left (left-of b))
     (l .inv .0 .acc) _ (whole e) _ q in
-    (d .answers, d .leaves)
+    (d .answers, (d .stands, d .leaves))
 
 same-length-11 : tie.Need-same-length-11 Inv-loop μ-loop Inv-rows μ-rows
 same-length-11 c = rows-of (begun-of (ended-of (c .before .before .before))) .rows .inv .0 .long
@@ -482,7 +498,7 @@ returns-6 c =
     let d = room-refusal (from-at r) (to-at r) (listed (cols-at r)) (are r) (s-at r) (out-at r) (r .rows .out) (r .rows .cursor) (r .rows .p) (r .rows .inv .0) (left (left-of b))
     (all-of e .before .loop .inv .0 .acc) _ (whole e) (row-at f) (written-at f)
     (omega (arith, size-at f, c .if3 .taken)) in
-    (d .answers, d .leaves)
+    (d .answers, (d .stands, d .leaves))
 
 pub convert-rows-spec : {M : Type 1} → statement M
 convert-rows-spec =
@@ -518,7 +534,8 @@ convert-rows-spec =
     sub-room
     (λ c κs. search needs)
     put-row-requires
-    (λ c κs. search needs)
+    sub-after
+    after-requires
     after-requires-2
     rows-less
     rows-again

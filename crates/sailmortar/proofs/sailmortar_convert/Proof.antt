@@ -1,6 +1,6 @@
 -- Each number names a kind or none; where both do, the converter's answer goes out as five numbers and its buffer is the one lent.
 use Rattle.sailmortar.proofs.Numbers.{known, no-source, no-target}
-use Rattle.sailmortar.specs.Face.{Faced, faced, five, noSuchKind}
+use Rattle.sailmortar.specs.Face.{Faced, convertFace, faced, five, noSuchKind}
 use Rattle.sailmortar.specs.Named.{namedAs}
 use borrow.Author.Needs.{needs}
 use mathlib.Core.Path.{_∙_, ap, sym}
@@ -8,24 +8,24 @@ use Rattle.sailmortar.proofs.sailmortar_convert.Statement.{statement}
 use Rattle.sailmortar.proofs.sailmortar_convert.Tie as tie
 
 returns : tie.Need-returns
-unfolding noSuchKind
+unfolding convertFace noSuchKind
 returns c =
-    let e = no-source _ _ _ _ _ (sym (c .before .before .rows-of .ensures) ∙ ap namedAs (c .enum-told .given .1)) in
+    let e = no-source _ _ _ _ (sym (c .before .before .rows-of .ensures) ∙ ap namedAs (c .enum-told .given .1)) in
     (ap (λ (f : Faced). f .numbers) (sym e), ap (λ (f : Faced). f .buffer) (sym e))
 
 returns-2 : tie.Need-returns-2
-unfolding noSuchKind
+unfolding convertFace noSuchKind
 returns-2 c =
-    let e = no-target _ _ _ _ _ _
+    let e = no-target _ _ _ _ _
     (sym (c .before .before .before .before .before .before .rows-of .ensures) ∙ ap namedAs (c .before .before .before .before .source .given .1))
     (sym (c .before .before .rows-of2 .ensures) ∙ ap namedAs (c .enum-told2 .given .1)) in
     (ap (λ (f : Faced). f .numbers) (sym e), ap (λ (f : Faced). f .buffer) (sym e))
 
 returns-3 : tie.Need-returns-3
-unfolding faced
+unfolding convertFace faced
 returns-3 c =
     let k = c .before .before .before .before in
-    let e = known _ _ _ _ _ _
+    let e = known _ _ _ _ _
     (sym (k .before .before .before .before .before .before .before .before .before .rows-of .ensures) ∙ ap namedAs (k .before .before .before .before .before .before .before .source .given .1)) _
     (sym (k .before .before .before .before .before .rows-of2 .ensures) ∙ ap namedAs (k .before .before .before .target .given .1)) in (
       c .put-answer .ensures ∙ ap five (k .convert .ensures .answers) ∙ ap (λ (f : Faced). f .numbers) (sym e),

@@ -1,0 +1,50 @@
+-- Each number names a kind or none; where both do, the converter's answer goes out as six numbers and its buffer is the one lent.
+use Rattle.sailmortar.proofs.Numbers.{known, no-source, no-target}
+use Rattle.sailmortar.specs.Face.{Faced, noSuchKind, pieceFace, pieceFaced, six}
+use Rattle.sailmortar.specs.Named.{namedAs}
+use borrow.Author.Needs.{needs}
+use mathlib.Core.Path.{_∙_, ap, ap₂, sym}
+use Rattle.sailmortar.proofs.sailmortar_convert_piece.Statement.{statement}
+use Rattle.sailmortar.proofs.sailmortar_convert_piece.Tie as tie
+
+returns : tie.Need-returns
+unfolding pieceFace noSuchKind
+returns c =
+    let e = no-source _ _ _ _ (sym (c .before .before .rows-of .ensures) ∙ ap namedAs (c .enum-told .given .1)) in
+    (ap (λ (f : Faced). f .numbers) (sym e), ap (λ (f : Faced). f .buffer) (sym e))
+
+returns-2 : tie.Need-returns-2
+unfolding pieceFace noSuchKind
+returns-2 c =
+    let e = no-target _ _ _ _ _
+    (sym (c .before .before .before .before .before .before .rows-of .ensures) ∙ ap namedAs (c .before .before .before .before .source .given .1))
+    (sym (c .before .before .rows-of2 .ensures) ∙ ap namedAs (c .enum-told2 .given .1)) in
+    (ap (λ (f : Faced). f .numbers) (sym e), ap (λ (f : Faced). f .buffer) (sym e))
+
+returns-3 : tie.Need-returns-3
+unfolding pieceFace pieceFaced
+returns-3 c =
+    let k = c .before .before .before .before in
+    let e = known _ _ _ _ _
+    (sym (k .before .before .before .before .before .before .before .before .before .rows-of .ensures) ∙ ap namedAs (k .before .before .before .before .before .before .before .source .given .1)) _
+    (sym (k .before .before .before .before .before .rows-of2 .ensures) ∙ ap namedAs (k .before .before .before .target .given .1)) in (
+      c .put-piece .ensures ∙ ap₂ six (k .convert-piece .ensures .answers) (k .convert-piece .ensures .stands) ∙ ap (λ (f : Faced). f .numbers) (sym e),
+      k .convert-piece .ensures .leaves ∙ ap (λ (f : Faced). f .buffer) (sym e),
+    )
+
+pub sailmortar-convert-piece-spec : {M : Type 1} → statement M
+sailmortar-convert-piece-spec =
+    tie.close
+    (tie.spec
+    (λ c κs. search needs)
+    (λ c. search needs)
+    (λ c. search needs)
+    returns
+    (λ c κs. search needs)
+    (λ c. search needs)
+    (λ c. search needs)
+    returns-2
+    (λ c κs. search needs)
+    (λ c κs. search needs)
+    (λ c. search needs)
+    returns-3)
