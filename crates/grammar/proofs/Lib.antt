@@ -16,5 +16,6 @@ pub mod WrittenBytes
 pub mod Taken
 pub mod Resumption
 pub mod RowsRefused
+pub mod Refused
 pub mod Exactly
 pub mod Examples

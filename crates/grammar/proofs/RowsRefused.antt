@@ -210,7 +210,7 @@ no-cells-is from (c ∷ cs) (b ∷ flags) f k s a =
 
 -- ---- rows
 
-row-at-read : {cs : List Column} {from : Rows} {s : List ℕ} {xs : List Cell} {rest : List ℕ} → RowAt cs from s xs rest → readRow from cs s ≡ good (xs, rest)
+pub row-at-read : {cs : List Column} {from : Rows} {s : List ℕ} {xs : List Cell} {rest : List ℕ} → RowAt cs from s xs rest → readRow from cs s ≡ good (xs, rest)
 row-at-read (text-row-at {rest = rest} h r) = text-row-read h r rest
 row-at-read {cs} (binary-row-at {b = b} {rest = rest} {xs = xs} h) = binary-row-read cs b xs h rest
 row-at-read {cs} (binary2-row-at {b = b} {rest = rest} {xs = xs} h) = binary2-row-read cs b xs h rest

@@ -1,18 +1,20 @@
--- What the theorems compare the grammar with: the table that a reader gives, and the acceptance of a call.
-use Prim.Native.Nat.{_<_, _≤_, ℕ}
+-- What the theorems compare the grammar with: the table that a reader gives, and how a call ends: accepted, or refused with which number and where.
+use Prim.Native.Nat.{_+_, _<_, _≤_, ℕ}
 use mathlib.Core.List.{List, [], _∷_}
 use mathlib.Core.Path.{_≡_}
 use lib.ListN.{length}
 use Rattle.demands.specs.Demands.{Converter}
 use Rattle.demands.specs.Tables.{lines}
 use Rattle.grammar.specs.Base64Text.{Base64Text}
+use Rattle.grammar.specs.DeclarationRefusals.{NotDeclared}
 use Rattle.grammar.specs.Declarations.{Declares}
+use Rattle.grammar.specs.RowRefusals.{RowAt, RowsAt, StopsAt}
 use Rattle.grammar.specs.Valid.{HaveForms, Spells}
-use Rattle.rows.specs.Stream.{Table}
+use Rattle.rows.specs.Stream.{Table, writeRow}
 use Rattle.rows.specs.Sequence.{finished, row}
 use Rattle.table.specs.Cell.{Cell}
-use Rattle.table.specs.Outcome.{accepted, ending}
-use Rattle.table.specs.Result.{good}
+use Rattle.table.specs.Outcome.{accepted, at, ending}
+use Rattle.table.specs.Result.{bad, good}
 use Rattle.table.specs.declared.Column.{Column}
 use Rattle.table.specs.declared.Rows.{Rows}
 use Rattle.table.specs.declared.Rows.the-variants.{Binary2, TableData}
@@ -63,3 +65,30 @@ pub data NotDecoded (input : List ℕ) (room : ℕ) : ℕ → Type 0 where
   no-base64 : length input ≤ 1073741824 → ((b : List ℕ) → Base64Text input b → ⊥) → NotDecoded input room 7
   -- 17: "the base64 result is longer than the room left"
   no-room-for-bytes : {b : List ℕ} → length input ≤ 1073741824 → Base64Text input b → room < length b → NotDecoded input room 17
+
+-- ---- calls that are refused
+
+-- the rows done before a refusal: under these columns, of an input within its size, each has a form in the target, and these are their lines, for
+-- which there is room
+pub record RowsDone (decls : List ℕ) (to : Rows) (input : List ℕ) (room : ℕ) (cs : List Column) (rows : List (List Cell)) (body : List ℕ) : Type 0 where
+  pub declared : Declares decls cs
+  pub sized : length input ≤ 1073741824
+  pub forms : lines to cs (tableOf rows) ≡ good body
+  pub fits : length body ≤ room
+
+-- a call that is refused: the number, the row and the column. "Each is given exactly then, and the earliest wins."
+pub data Refuses (decls : List ℕ) (from to : Rows) (input : List ℕ) (room : ℕ) : ℕ → ℕ → ℕ → Type 0 where
+  -- 1 to 6: "their refusal comes first, at row 0 with its place as the column"
+  refuses-declarations : {n place : ℕ} → NotDeclared decls n place → Refuses decls from to input room n 0 place
+  -- 6: "an input over its size", "at row 0, column 0"
+  refuses-size : {cs : List Column} → Declares decls cs → 1073741824 < length input → Refuses decls from to input room 6 0 0
+  -- 8 to 13: what stands behind these rows is no row
+  refuses-reading : {cs : List Column} {rows : List (List Cell)} {body : List ℕ} {n k : ℕ} → RowsDone decls to input room cs rows body
+      → StopsAt from cs input rows n k → Refuses decls from to input room n (length rows) k
+  -- 14 to 16: the row that stands behind them has no form in the target
+  refuses-writing : {cs : List Column} {rows : List (List Cell)} {body rest more : List ℕ} {xs : List Cell} {n k : ℕ} → RowsDone decls to input room cs rows body
+      → RowsAt from cs input rows rest → RowAt cs from rest xs more → writeRow to cs xs ≡ bad (at k n) → Refuses decls from to input room n (length rows) k
+  -- 17: "the row is longer than the room left", at column 0
+  refuses-room : {cs : List Column} {rows : List (List Cell)} {body b rest more : List ℕ} {xs : List Cell} → RowsDone decls to input room cs rows body
+      → RowsAt from cs input rows rest → RowAt cs from rest xs more → writeRow to cs xs ≡ good b → room < length body + length b
+      → Refuses decls from to input room 17 (length rows) 0
