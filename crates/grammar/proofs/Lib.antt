@@ -15,6 +15,7 @@ pub mod Base64Read
 pub mod WrittenBytes
 pub mod Taken
 pub mod Resumption
+pub mod Pieces
 pub mod RowsRefused
 pub mod Refused
 pub mod Exactly

@@ -229,7 +229,5 @@ pub refuses-exactly-there : (decls : List ℕ) (from to : Rows) (input out : Lis
     → Refuses decls from to input (length out) n r k ↔ (Answers (convert decls from to input out .answer) n r k × (0 < n))
 refuses-exactly-there decls from to input out n r k a = (
   (λ h. (refuses-answers decls from to input out a h, above decls from to input out a h)),
-  (λ p. subst (λ (m : ℕ). Refuses decls from to input (length out) m r k) (p .0 .0)
-      (subst (λ (m : ℕ). Refuses decls from to input (length out) _ m k) (p .0 .1)
-      (subst (λ (m : ℕ). Refuses decls from to input (length out) _ _ m) (p .0 .2) (answers-refuses decls from to input out a (rw (p .0 .0) (p .1)))))),
+  (λ p. rw (← p .0 .0, ← p .0 .1, ← p .0 .2) (answers-refuses decls from to input out a (rw (p .0 .0) (p .1)))),
 )
