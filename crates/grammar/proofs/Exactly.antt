@@ -74,7 +74,7 @@ declares-columns s cs d = declared-columns s cs (declares-read d)
 
 -- ---- tables that end
 
-table-ends : (rows : List (List Cell)) → Ends (tableOf rows)
+pub table-ends : (rows : List (List Cell)) → Ends (tableOf rows)
 unfolding tableOf
 table-ends [] = tt
 table-ends (xs ∷ rows) = table-ends rows
@@ -118,7 +118,7 @@ rows-have to cs (xs ∷ rows) f g =
     both (good b) line (bad e) g = absurd g
     both (bad n) line q g = absurd g
 
-rows-written : (to : Rows) (cs : List Column) (rows : List (List Cell)) → HaveForms cs to rows → AllRows (Each (λ (c : Column) (x : Cell). IsGood (writeCell to c x)) cs) (tableOf rows)
+pub rows-written : (to : Rows) (cs : List Column) (rows : List (List Cell)) → HaveForms cs to rows → AllRows (Each (λ (c : Column) (x : Cell). IsGood (writeCell to c x)) cs) (tableOf rows)
 unfolding tableOf
 rows-written to cs [] h = tt
 rows-written to cs (xs ∷ rows) h = (each-weaken (λ (c : Column) (x : Cell). HasForm c to x) _ (λ c x f. form-written f) cs xs (h .0), rows-written to cs rows (h .1))
@@ -198,7 +198,7 @@ output-bytes decls from {to} b input out cs q a =
     (lines-written decls from to input out cs q)
 
 -- what is read back as these rows spells them
-back-spells : (decls : List ℕ) (from to : Rows) (input out : List ℕ) (cs : List Column) → declare decls ≡ good cs → AreBytes input → (rows : List (List Cell))
+pub back-spells : (decls : List ℕ) (from to : Rows) (input out : List ℕ) (cs : List Column) → declare decls ≡ good cs → AreBytes input → (rows : List (List Cell))
     → read to cs (output (convert decls from to input out)) ≡ tableOf rows → Spells to cs (output (convert decls from to input out)) rows
 back-spells decls from TableData input out cs q a rows e = text-table-is cs (declared-columns decls cs q) rows (output (convert decls from TableData input out)) e
 back-spells decls from Binary input out cs q a rows e =

@@ -19,4 +19,5 @@ pub mod Pieces
 pub mod RowsRefused
 pub mod Refused
 pub mod Exactly
+pub mod Cut
 pub mod Examples

@@ -47,7 +47,7 @@ use Rattle.table.specs.declared.Rows.{Rows}
 -- ---- rows that are written, and what comes behind them
 
 module _ (to : Rows) (cs : List Column) (room : ℕ) where
-  rows-go-on : (rows : List (List Cell)) (u : Table) (r : ℕ) (out body : List ℕ) → lines to cs (tableOf rows) ≡ good body → length (out ++ body) ≤ room
+  pub rows-go-on : (rows : List (List Cell)) (u : Table) (r : ℕ) (out body : List ℕ) → lines to cs (tableOf rows) ≡ good body → length (out ++ body) ≤ room
       → write to cs room r out (andThen (tableOf rows) u) ≡ write to cs room (r + length rows) (out ++ body) u
   unfolding lines tableOf andThen
   rows-go-on [] u r out body l h =
@@ -88,7 +88,7 @@ row-split j (stopped e) xs q = absurd (Option·none-ne-some xs q)
 row-split zero (row ys t) xs q = let k : ys ≡ xs = cc in ([], refl, t, ap (λ (x : List Cell). row x t) k)
 row-split (suc j) (row ys t) xs q = let r = row-split j t xs q in (ys ∷ r .0, ap suc (r .1), r .2, ap (row ys) (r .3))
 
-up-to-rows : (rows : List (List Cell)) (u : Table) → upTo (length rows) (andThen (tableOf rows) u) ≡ tableOf rows
+pub up-to-rows : (rows : List (List Cell)) (u : Table) → upTo (length rows) (andThen (tableOf rows) u) ≡ tableOf rows
 unfolding upTo andThen tableOf
 up-to-rows [] u = refl
 up-to-rows (xs ∷ rows) u = ap (row xs) (up-to-rows rows u)

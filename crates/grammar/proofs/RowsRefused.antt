@@ -274,13 +274,13 @@ white-only : (s : List ℕ) → skipWhite s ≡ [] → White s
 white-only s e =
     subst⁻¹ White (skip-is s .whole ∙ ap (λ (x : List ℕ). skip-is s .taken ++ x) e ∙ append-nil (skip-is s .taken)) (skip-is s .spelled)
 
-more-at-read : {from : Rows} {s : List ℕ} → MoreAt s from → atEnd from s ≡ false
+pub more-at-read : {from : Rows} {s : List ℕ} → MoreAt s from → atEnd from s ≡ false
 unfolding atEnd
 more-at-read {s = s} (text-more h) = not-empty (skipWhite s) (λ e. h (white-only s e))
 more-at-read {s = s} (binary-more h) = not-empty s h
 more-at-read {s = s} (binary2-more h) = not-empty s h
 
-more-at-is : (from : Rows) (s : List ℕ) → atEnd from s ≡ false → MoreAt s from
+pub more-at-is : (from : Rows) (s : List ℕ) → atEnd from s ≡ false → MoreAt s from
 unfolding atEnd
 more-at-is TableData s h = text-more (λ w. is-more (skipWhite s) h (skip-all w))
 more-at-is Binary s h = binary-more (is-more s h)
@@ -294,7 +294,7 @@ module _ (from : Rows) (cs : List Column) (i : AreColumns cs) where
   rows-at-read rows-none = refl
   rows-at-read (rows-next {s = s} {t = t} {xs = xs} h r) = read-row from cs i s xs t (row-at-read h) ∙ ap (row xs) (rows-at-read r)
 
-  rows-at-left : {s rest : List ℕ} {rows : List (List Cell)} → RowsAt from cs s rows rest → AreBytes s → AreBytes rest
+  pub rows-at-left : {s rest : List ℕ} {rows : List (List Cell)} → RowsAt from cs s rows rest → AreBytes s → AreBytes rest
   rows-at-left rows-none a = a
   rows-at-left (rows-next h r) a = rows-at-left r (row-at-left h a)
 

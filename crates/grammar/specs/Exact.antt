@@ -1,23 +1,23 @@
 -- What the theorems compare the grammar with: the table that a reader gives, and how a call ends: accepted, or refused with which number and where.
 use Prim.Native.Nat.{_+_, _<_, _≤_, ℕ}
-use mathlib.Core.List.{List, [], _∷_}
+use mathlib.Core.List.{List, [], _++_, _∷_}
 use mathlib.Core.Path.{_≡_}
 use lib.ListN.{length}
-use Rattle.demands.specs.Demands.{Converter}
+use Rattle.demands.specs.Demands.{Converter, output}
 use Rattle.demands.specs.Tables.{lines}
 use Rattle.grammar.specs.Base64Text.{Base64Text}
 use Rattle.grammar.specs.DeclarationRefusals.{NotDeclared}
 use Rattle.grammar.specs.Declarations.{Declares}
-use Rattle.grammar.specs.RowRefusals.{RowAt, RowsAt, StopsAt}
+use Rattle.grammar.specs.RowRefusals.{MoreAt, RowAt, RowsAt, StopsAt}
 use Rattle.grammar.specs.Valid.{HaveForms, Spells}
 use Rattle.rows.specs.Stream.{Table, writeRow}
 use Rattle.rows.specs.Sequence.{finished, row}
 use Rattle.table.specs.Cell.{Cell}
-use Rattle.table.specs.Outcome.{accepted, at, ending}
+use Rattle.table.specs.Outcome.{Call, accepted, at, ending}
 use Rattle.table.specs.Result.{bad, good}
 use Rattle.table.specs.declared.Column.{Column}
 use Rattle.table.specs.declared.Rows.{Rows}
-use Rattle.table.specs.declared.Rows.the-variants.{Binary2, TableData}
+use Rattle.table.specs.declared.Rows.the-variants.{Binary, Binary2, TableData}
 
 -- the table of these rows, read to its end
 unfoldable pub tableOf : List (List Cell) → Table
@@ -92,3 +92,33 @@ pub data Refuses (decls : List ℕ) (from to : Rows) (input : List ℕ) (room : 
   refuses-room : {cs : List Column} {rows : List (List Cell)} {body b rest more : List ℕ} {xs : List Cell} → RowsDone decls to input room cs rows body
       → RowsAt from cs input rows rest → RowAt cs from rest xs more → writeRow to cs xs ≡ good b → room < length body + length b
       → Refuses decls from to input room 17 (length rows) 0
+
+-- ---- a valid input that was cut
+
+-- the number that a cut gives: 8, "BINARY or BINARY2 stream ends inside a row"; 10, "TABLEDATA tags or references broken"
+abbrev pub cutNumber : Rows → ℕ
+cutNumber TableData = 10
+cutNumber Binary = 8
+cutNumber Binary2 = 8
+
+-- where the cut was
+pub data CutFate (from : Rows) (rest : List ℕ) (done : ℕ) (c : Call) : Type 0 where
+  -- between rows: it is accepted
+  cut-between : (MoreAt rest from → ⊥) → c .answer .number ≡ 0 → CutFate from rest done c
+  -- in a row: it is refused there
+  cut-inside : MoreAt rest from → c .answer .number ≡ cutNumber from → c .answer .row ≡ done → CutFate from rest done c
+
+-- "a cut file at that hour has no one awake to mend it. I need the good rows and the spot where it went wrong.": what a call on the front of a valid
+-- input gives
+pub record CutFile (from to : Rows) (cs : List Column) (front : List ℕ) (rows : List (List Cell)) (c : Call) : Type 0 where
+  -- the rows that are whole in the front, and no more are, and the others
+  pub done : List (List Cell)
+  pub left : List (List Cell)
+  pub split : rows ≡ done ++ left
+  pub rest : List ℕ
+  pub whole : RowsAt from cs front done rest
+  pub no-more : (xs : List Cell) (more : List ℕ) → RowAt cs from rest xs more → ⊥
+  -- "Rows before the bad one stand whole in the output"
+  pub rows-done : c .answer .rows ≡ length done
+  pub spelled : Spells to cs (output c) done
+  pub fate : CutFate from rest (length done) c
