@@ -1,20 +1,23 @@
--- A cell has a form in the target, as the grammar says it, exactly when the writer's definition gives one; so of rows and tables.
-use Prim.Native.Nat.{ℕ}
+-- A cell has a form in the target, as the grammar says it, exactly when the writer's definition gives one; and a row is refused in writing exactly where
+-- the grammar says, with that number.
+use Prim.Native.Nat.{_+_, ℕ}
 use mathlib.Core.Bool.{Bool, cond, false, false≢true, true}
 use mathlib.Core.List.{List, [], _++_, _∷_}
 use mathlib.Core.Option.{Option, none, some}
-use mathlib.Core.Path.{_∙_, _≡_, refl, subst, sym}
+use mathlib.Core.Path.{_∙_, _≡_, refl, subst, subst⁻¹, sym}
 use lib.IntN.{negsuc, pos, ℤ}
 use Rattle.binary.specs.Binary.{canBeEmpty, elementsBytes, nullForm, writeBinary}
+use Rattle.grammar.proofs.Fronts.{fails-then, fails-told, refused}
 use Rattle.grammar.proofs.ShownRead.{stands-for-is, stands-written}
 use Rattle.grammar.proofs.TextRead.{text-is, text-read}
-use Rattle.grammar.specs.Valid.{HasForm, XmlForm, form-binary-bounded, form-binary-chars, form-binary-elements, form-binary-free, form-binary-null, form-binary2}
-use Rattle.grammar.specs.Valid.{form-text-chars, form-text-elements, form-text-null, xml-form}
-use Rattle.rows.specs.Stream.{writeCell}
-use Rattle.table.proofs.Laws.{good-bind, null-stands}
+use Rattle.grammar.specs.Valid.{HasForm, NoForm, NoForms, XmlForm, at-form, form-binary-bounded, form-binary-chars, form-binary-elements, form-binary-free, form-binary-null, form-binary2}
+use Rattle.grammar.specs.Valid.{form-text-chars, form-text-elements, form-text-null, form-then, no-form-chars, no-form-empty, no-form-null, xml-form}
+use Rattle.rows.specs.Stream.{writeCell, writeCells, writeRow}
+use Rattle.table.proofs.Laws.{fails-as, fails-bind, fails-cond, fails-weaken, good-bind, holds-as, holds-eq, holds-weaken, null-stands, the}
 use Rattle.table.specs.All.{All}
 use Rattle.table.specs.Cell.{Cell, isChar, null, nullElement, shown}
-use Rattle.table.specs.Result.{IsGood, Result, _>>=_, bad, good}
+use Rattle.table.specs.Outcome.{Refusal, at}
+use Rattle.table.specs.Result.{Fails, IsGood, Result, _>>=_, bad, fails, gives, good}
 use Rattle.table.specs.Shape.{Bits, Shape, Text, Truths, Whole, shape}
 use Rattle.table.specs.declared.Column.{Column}
 use Rattle.table.specs.declared.Len.{Len}
@@ -127,3 +130,81 @@ form-is Binary c null g = null-form c g
 form-is Binary c (shown []) g = absurd g
 form-is Binary c (shown (e ∷ es)) g = form-binary-elements
 form-is Binary2 c x g = form-binary2
+
+-- ---- which number
+
+-- what a cell that has no form is refused with
+abbrev numberFor : Cell → ℕ
+numberFor null = 15
+numberFor (shown []) = 14
+numberFor (shown (e ∷ es)) = 16
+
+forms-fail : (es : List ℤ) → Fails (λ (n : ℕ). n ≡ 16) (forms es)
+unfolding forms
+forms-fail [] = gives
+forms-fail (e ∷ es) = fails-bind (one e) (λ b. fails-bind (forms-fail es) (λ r. gives))
+  where
+    one : (e : ℤ) → Fails (λ (n : ℕ). n ≡ 16) (formOf e)
+    one (pos n) = unfold formOf in fails-cond (isText n) gives (fails refl)
+    one (negsuc n) = unfold formOf in fails refl
+
+text-fails : (k : Shape) (es : List ℤ) → Fails (λ (n : ℕ). n ≡ 16) (elementText k es)
+unfolding elementText
+text-fails Truths es = gives
+text-fails Bits es = gives
+text-fails (Whole g v) es = gives
+text-fails Text es = forms-fail es
+
+null-fails : (c : Column) (o : Option ℤ) → Fails (λ (n : ℕ). n ≡ 15) (nullForm c o)
+unfolding nullForm
+null-fails c (some z) = gives
+null-fails c none = fails-cond (canBeEmpty (shape (c .kind)) (c .len)) gives (fails refl)
+
+cell-number : (to : Rows) (c : Column) (x : Cell) → Fails (λ (n : ℕ). n ≡ numberFor x) (writeCell to c x)
+unfolding writeCell writeText writeBinary
+cell-number TableData c null = gives
+cell-number TableData c (shown []) = fails refl
+cell-number TableData c (shown (e ∷ es)) = fails-bind (text-fails (shape (c .kind)) (e ∷ es)) (λ t. gives)
+cell-number Binary c null = null-fails c (nullElement c)
+cell-number Binary c (shown []) = fails refl
+cell-number Binary c (shown (e ∷ es)) = gives
+cell-number Binary2 c x = gives
+
+no-form : (to : Rows) (c : Column) (x : Cell) → (HasForm c to x → ⊥) → NoForm c to x (numberFor x)
+no-form to c null h = no-form-null h
+no-form to c (shown []) h = no-form-empty h
+no-form to c (shown (e ∷ es)) h = no-form-chars h
+
+-- a cell without a form is refused with its number
+without-form : (to : Rows) (c : Column) (x : Cell) → (HasForm c to x → ⊥) → writeCell to c x ≡ bad (numberFor x)
+without-form to c x h = refused (cell-number to c x) (holds-weaken (holds-eq (writeCell to c x)) (λ b e. h (form-is to c x (rw e tt))))
+
+no-form-read : (to : Rows) (c : Column) (x : Cell) (n : ℕ) → NoForm c to x n → writeCell to c x ≡ bad n
+no-form-read to c x n (no-form-empty h) = without-form to c (shown []) h
+no-form-read to c x n (no-form-null h) = without-form to c null h
+no-form-read to c x n (no-form-chars {e = e} {es = es} h) = without-form to c (shown (e ∷ es)) h
+
+no-form-is : (to : Rows) (c : Column) (x : Cell) → Fails (NoForm c to x) (writeCell to c x)
+no-form-is to c x = fails-told (fails-weaken (cell-number to c x) (λ n e q. subst⁻¹ (NoForm c to x) e (no-form to c x (λ h. absurd (subst IsGood q (form-written h))))))
+
+no-forms-read : {to : Rows} {cs : List Column} {k : ℕ} {xs : List Cell} {n j : ℕ} → NoForms to cs k xs n j → writeCells to cs xs k ≡ bad (at j n)
+unfolding writeCells
+no-forms-read {to} (at-form {c = c} {x = x} {n = n} h) = rw (no-form-read to c x n h)
+no-forms-read {to} (form-then {c = c} {x = x} h r) = let b = the (writeCell to c x) (form-written h) in rw (b .1, no-forms-read r)
+
+no-forms-are : (to : Rows) (cs : List Column) (k : ℕ) (xs : List Cell) → Fails (λ (e : Refusal). NoForms to cs k xs (e .number) (e .column)) (writeCells to cs xs k)
+unfolding writeCells at
+no-forms-are to [] k xs = gives
+no-forms-are to (c ∷ cs) k [] = gives
+no-forms-are to (c ∷ cs) k (x ∷ xs) =
+    fails-then (fails-as (at k) (no-form-is to c x) (λ n h. at-form h)) (holds-as (at k) (holds-weaken (holds-eq (writeCell to c x)) (λ b e. form-is to c x (rw e tt)))) (λ b h.
+    fails-bind (fails-weaken (no-forms-are to cs (k + 1) xs) (λ e r. form-then h r)) (λ r. gives))
+
+-- A ROW IS REFUSED IN WRITING exactly where the grammar says: at the first cell that has no form, with its number
+pub unwritten-read : {to : Rows} {cs : List Column} {xs : List Cell} {n k : ℕ} → NoForms to cs 0 xs n k → writeRow to cs xs ≡ bad (at k n)
+unfolding writeRow
+unwritten-read h = rw (no-forms-read h)
+
+pub unwritten-is : (to : Rows) (cs : List Column) (xs : List Cell) → Fails (λ (e : Refusal). NoForms to cs 0 xs (e .number) (e .column)) (writeRow to cs xs)
+unfolding writeRow
+unwritten-is to cs xs = fails-bind (no-forms-are to cs 0 xs) (λ b. gives)

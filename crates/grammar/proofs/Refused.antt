@@ -22,6 +22,7 @@ use Rattle.fields.specs.Fields.{declare}
 use Rattle.fields.specs.Front.{front}
 use Rattle.grammar.proofs.ColumnsRead.{declares-is, declares-read}
 use Rattle.grammar.proofs.DeclarationsRefused.{not-declared-is, not-declared-read}
+use Rattle.grammar.proofs.FormsWritten.{unwritten-is, unwritten-read}
 use Rattle.grammar.proofs.Resumption.{andThen}
 use Rattle.grammar.proofs.RowsRefused.{row-at-is, row-at-read, rows-at-is, rows-at-read, stops-exactly}
 use Rattle.grammar.proofs.Streams.{first-row}
@@ -139,7 +140,7 @@ module _ (decls : List ℕ) (from to : Rows) (input out : List ℕ) where
   refuses-answers a (refuses-reading {cs = cs} {rows = rows} {body = body} {n = n} {k = k} d s) =
       behind d (stopped (at k n)) (at k n) (stops-exactly from cs (columns d) rows input n k a .0 s) (unfold write in refl)
   refuses-answers a (refuses-writing {cs = cs} {rows = rows} {body = body} {rest = rest} {more = more} {xs = xs} {n = n} {k = k} d p q w) =
-      behind d (row xs (read from cs more)) (at k n) (next d p q) (no-form to cs (length out) xs (read from cs more) (length rows) body (at k n) w)
+      behind d (row xs (read from cs more)) (at k n) (next d p q) (no-form to cs (length out) xs (read from cs more) (length rows) body (at k n) (unwritten-read w))
   refuses-answers a (refuses-room {cs = cs} {rows = rows} {body = body} {b = b} {rest = rest} {more = more} {xs = xs} d p q w h) =
       behind d (row xs (read from cs more)) (at 0 17) (next d p q) (no-room to cs (length out) xs (read from cs more) (length rows) body b w h)
 
@@ -154,7 +155,7 @@ module _ (decls : List ℕ) (from to : Rows) (input out : List ℕ) where
       (subst (Stops (Placed 8 13 (length cs))) (stops-exactly from cs (columns d) rows input n k a .0 s) (read-stops from cs input)) in
       omega (arith, p .0 .0)
   above a (refuses-writing {cs = cs} {xs = xs} {n = n} {k = k} d p q w) =
-      let p : Placed 14 16 (length cs) (at k n) = fails-at (write-row-fails to cs xs) w in omega (arith, p .0 .0)
+      let p : Placed 14 16 (length cs) (at k n) = fails-at (write-row-fails to cs xs) (unwritten-read w) in omega (arith, p .0 .0)
   above a (refuses-room d p q w h) = lit< tt
 
   -- ---- from the answer to the grammar
@@ -196,7 +197,7 @@ module _ (decls : List ℕ) (from to : Rows) (input out : List ℕ) where
   by-rows cs q h a z c s (in-writing {e = e} {xs = xs} w f) =
       let t = row-split (c .answer .rows) (read from cs input) xs w in
       let p = there cs q a (t .0) xs (t .2) (t .3) in
-      rw (← t .1) (refuses-writing (done cs q h c s (t .0) (row xs (t .2)) (t .1) (t .3)) (p .2) (p .3) f)
+      rw (← t .1) (refuses-writing (done cs q h c s (t .0) (row xs (t .2)) (t .1) (t .3)) (p .2) (p .3) (fails-at (unwritten-is to cs xs) f))
   by-rows cs q h a z c s (no-space {xs = xs} {b = b} w f l) =
       let t = row-split (c .answer .rows) (read from cs input) xs w in
       let p = there cs q a (t .0) xs (t .2) (t .3) in

@@ -9,12 +9,12 @@ use Rattle.grammar.specs.Base64Text.{Base64Text}
 use Rattle.grammar.specs.DeclarationRefusals.{NotDeclared}
 use Rattle.grammar.specs.Declarations.{Declares}
 use Rattle.grammar.specs.RowRefusals.{MoreAt, RowAt, RowsAt, StopsAt}
-use Rattle.grammar.specs.Valid.{HaveForms, Spells}
+use Rattle.grammar.specs.Valid.{HaveForms, NoForms, Spells}
 use Rattle.rows.specs.Stream.{Table, writeRow}
 use Rattle.rows.specs.Sequence.{finished, row}
 use Rattle.table.specs.Cell.{Cell}
-use Rattle.table.specs.Outcome.{Call, accepted, at, ending}
-use Rattle.table.specs.Result.{bad, good}
+use Rattle.table.specs.Outcome.{Call, accepted, ending}
+use Rattle.table.specs.Result.{good}
 use Rattle.table.specs.declared.Column.{Column}
 use Rattle.table.specs.declared.Rows.{Rows}
 use Rattle.table.specs.declared.Rows.the-variants.{Binary, Binary2, TableData}
@@ -87,7 +87,7 @@ pub data Refuses (decls : List ℕ) (from to : Rows) (input : List ℕ) (room : 
       → StopsAt from cs input rows n k → Refuses decls from to input room n (length rows) k
   -- 14 to 16: the row that stands behind them has no form in the target
   refuses-writing : {cs : List Column} {rows : List (List Cell)} {body rest more : List ℕ} {xs : List Cell} {n k : ℕ} → RowsDone decls to input room cs rows body
-      → RowsAt from cs input rows rest → RowAt cs from rest xs more → writeRow to cs xs ≡ bad (at k n) → Refuses decls from to input room n (length rows) k
+      → RowsAt from cs input rows rest → RowAt cs from rest xs more → NoForms to cs 0 xs n k → Refuses decls from to input room n (length rows) k
   -- 17: "the row is longer than the room left", at column 0
   refuses-room : {cs : List Column} {rows : List (List Cell)} {body b rest more : List ℕ} {xs : List Cell} → RowsDone decls to input room cs rows body
       → RowsAt from cs input rows rest → RowAt cs from rest xs more → writeRow to cs xs ≡ good b → room < length body + length b

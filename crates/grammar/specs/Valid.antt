@@ -1,6 +1,6 @@
 -- What is valid, whole: which inputs of each kind spell which rows, and which cells have a form in the target.
-use Prim.Native.Nat.{ℕ}
-use mathlib.Core.List.{List, _∷_}
+use Prim.Native.Nat.{_+_, ℕ}
+use mathlib.Core.List.{List, [], _∷_}
 use mathlib.Core.Path.{_≡_}
 use lib.IntN.{pos, ℤ}
 use Rattle.grammar.specs.Binaries.{Binary2Row, BinaryRow, RowStream}
@@ -48,3 +48,17 @@ pub data HasForm (c : Column) : Rows → Cell → Type 0 where
 -- each row has a form: a cell for each column, and each cell has one
 abbrev pub HaveForms : List Column → Rows → List (List Cell) → Type 0
 HaveForms cs to rows = All (Each (λ (c : Column) (x : Cell). HasForm c to x) cs) rows
+
+-- a cell that has no form, and its number
+pub data NoForm (c : Column) (to : Rows) : Cell → ℕ → Type 0 where
+  -- 14: "empty but not null, target has no form for it"
+  no-form-empty : (HasForm c to (shown []) → ⊥) → NoForm c to (shown []) 14
+  -- 15: "null, target has no form for it"
+  no-form-null : (HasForm c to null → ⊥) → NoForm c to null 15
+  -- 16: "char with no XML form"
+  no-form-chars : {e : ℤ} {es : List ℤ} → (HasForm c to (shown (e ∷ es)) → ⊥) → NoForm c to (shown (e ∷ es)) 16
+
+-- "Writing: 14, 15, 16 at the first cell that has one": its number and its column; the first of these columns is column k
+pub data NoForms (to : Rows) : List Column → ℕ → List Cell → ℕ → ℕ → Type 0 where
+  at-form : {c : Column} {cs : List Column} {x : Cell} {xs : List Cell} {k n : ℕ} → NoForm c to x n → NoForms to (c ∷ cs) k (x ∷ xs) n k
+  form-then : {c : Column} {cs : List Column} {x : Cell} {xs : List Cell} {k n j : ℕ} → HasForm c to x → NoForms to cs (k + 1) xs n j → NoForms to (c ∷ cs) k (x ∷ xs) n j
