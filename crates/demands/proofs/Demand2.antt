@@ -127,11 +127,15 @@ pub runs : (from to : Rows) (cs : List Column) (s body : List ℕ) (t : Table) �
 unfolding run
 runs from to cs s body t q e l room h = rw q (accepts to cs t room 0 [] body e l h ∙ ap (λ (n : ℕ). accepted n body) (zero-add (count t)))
 
+done-whole : (decls : List ℕ) (from to : Rows) (input out : List ℕ) (cs : List Column) (body : List ℕ) → declare decls ≡ good cs → length input ≤ mostInput
+    → Ends (read from cs input) → lines to cs (read from cs input) ≡ good body → length body ≤ length out
+    → convert decls from to input out ≡ ending (accepted (count (read from cs input)) body) out
+done-whole decls from to input out cs body q h e l f =
+    converts decls from to input out cs q h ∙ ap (λ (o : Outcome). ending o out) (runs from to cs input body (read from cs input) refl e l (length out) f)
+
 valid-accepted : (decls : List ℕ) (from to : Rows) (input out : List ℕ) → Valid decls from to input (length out) → Accepted (convert decls from to input out)
 valid-accepted decls from to input out v =
-    ap (λ (c : Call). c .answer .number)
-    (converts decls from to input out (v .columns) (v .declared) (v .sized)
-    ∙ ap (λ (o : Outcome). ending o out) (runs from to (v .columns) input (v .body) (read from (v .columns) input) refl (v .ends) (v .forms) (length out) (v .fits)))
+    ap (λ (c : Call). c .answer .number) (done-whole decls from to input out (v .columns) (v .body) (v .declared) (v .sized) (v .ends) (v .forms) (v .fits))
     ∙ (unfold ending answerOf in refl)
 
 -- ---- what is written means what was read
@@ -177,6 +181,6 @@ demand2 =
     record {
       exactly = λ decls from to input out. (accepted-valid decls from to input out, valid-accepted decls from to input out);
       means = means-of;
-      does-all = λ decls from to input out cs q a. accepted-ends decls from to input out cs q a .1;
+      does-all = done-whole;
       there-and-back = there-and-back-of;
     }

@@ -3,7 +3,7 @@
 -- that meets demand 2 is one of these. Each is caught by the sample night, whose two rows differ, or by the empty input. Demand 1 leaves one
 -- converter, ours (`only-one`), so whoever answers otherwise meets it no more: the liar below, who throws good rows away, is caught by a night that
 -- was cut in its third row, and so is one that names another number.
-use Prim.Native.Nat.{_≤_, suc, zero, ℕ}
+use Prim.Native.Nat.{_≤_, suc, zero, zero-le, ℕ}
 use native.Mathlib.Omega.{arith}
 use mathlib.Core.Bool.{Bool, false, true}
 use mathlib.Core.List.{List, [], _++_, _∷_}
@@ -16,7 +16,7 @@ use Rattle.demands.proofs.Night.{firstRow, night-declared, nightColumns
 use Rattle.demands.specs.Cases.{nightBinary2, nightText}
 use Rattle.demands.proofs.OnlyOne.{only-one}
 use Rattle.demands.specs.Demands.{Accepted, Comes, Converter, Demand1, Demand2, Demand3, SameFate, Stream, Valid, both-refused, both-written, called, output}
-use Rattle.demands.specs.Tables.{count, rowAt, upTo}
+use Rattle.demands.specs.Tables.{Ends, count, lines, rowAt, upTo}
 use Rattle.fields.specs.Fields.{declare}
 use Rattle.rows.proofs.Laws.{read-nothing}
 use Rattle.rows.specs.Convert.{convert}
@@ -26,7 +26,7 @@ use Rattle.rows.specs.Sequence.{finished, row, stopped}
 use Rattle.table.specs.All.{All, AreBytes}
 use Rattle.table.specs.Cell.{Cell, null, shown}
 use Rattle.table.specs.Bytes.{bytes}
-use Rattle.table.specs.Outcome.{Call, Refusal, at, ending, refused}
+use Rattle.table.specs.Outcome.{Call, Refusal, accepted, at, ending, mostInput, refused}
 use Rattle.table.specs.Result.{Result, bad, good}
 use Rattle.table.specs.declared.Answer.{Answer}
 use Rattle.table.specs.declared.Column.{Column}
@@ -46,6 +46,34 @@ night-valid : Valid nightDecls TableData Binary2 nightText 100
 unfolding everything
 night-valid =
     record { columns = nightColumns; declared = night-declared; sized = lit≤ tt; ends = tt; body = nightBinary2; forms = refl; fits = lit≤ tt }
+
+night-sized : length nightText ≤ mostInput
+unfolding everything
+night-sized = lit≤ tt
+
+night-ends : Ends (read TableData nightColumns nightText)
+unfolding everything
+night-ends = tt
+
+night-forms : lines Binary2 nightColumns (read TableData nightColumns nightText) ≡ good nightBinary2
+unfolding everything
+night-forms = refl
+
+night-two : ending (accepted (count (read TableData nightColumns nightText)) nightBinary2) room .answer .rows ≡ 2
+unfolding everything
+night-two = refl
+
+nothing-ends : Ends (read TableData nightColumns [])
+unfolding everything
+nothing-ends = tt
+
+nothing-forms : lines Binary2 nightColumns (read TableData nightColumns []) ≡ good []
+unfolding everything
+nothing-forms = refl
+
+nothing-counted : ending (accepted (count (read TableData nightColumns [])) []) room .answer .rows ≡ 0
+unfolding everything
+nothing-counted = refl
 
 empty-valid : Valid nightDecls TableData Binary2 [] 100
 unfolding everything
@@ -85,7 +113,7 @@ module _ (convert : Converter) (d : Demand2 convert) where
   empty-accepted = d .exactly nightDecls TableData Binary2 [] room .1 empty-valid
 
   night-count : nightCall .answer .rows ≡ 2
-  night-count = d .does-all nightDecls TableData Binary2 nightText room nightColumns night-declared night-accepted ∙ ap count night-read ∙ (unfold count in refl)
+  night-count = ap (λ (c : Call). c .answer .rows) (d .does-all nightDecls TableData Binary2 nightText room nightColumns nightBinary2 night-declared night-sized night-ends night-forms (lit≤ tt)) ∙ night-two
 
   night-written : read Binary2 nightColumns (output nightCall) ≡ nightRows
   night-written =
@@ -141,7 +169,7 @@ module _ (convert : Converter) (d : Demand2 convert) where
   not-the-inventor n wrong =
       let two : 2 ≡ n = sym night-count ∙ wrong nightDecls TableData Binary2 nightText room night-accepted in
       let none-read : emptyCall .answer .rows ≡ 0
-      = d .does-all nightDecls TableData Binary2 [] room nightColumns night-declared empty-accepted ∙ ap count (read-nothing TableData nightColumns) ∙ (unfold count in refl) in
+      = ap (λ (c : Call). c .answer .rows) (d .does-all nightDecls TableData Binary2 [] room nightColumns [] night-declared zero-le nothing-ends nothing-forms zero-le) ∙ nothing-counted in
       absurd (omega (arith, two, wrong nightDecls TableData Binary2 [] room empty-accepted, none-read))
 
 -- ---- the sample night, cut in its third row: two good rows, and the spot is row 2, column 0

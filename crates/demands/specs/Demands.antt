@@ -115,9 +115,10 @@ pub record Demand2 (convert : Converter) : Type 0 where
   -- what is written reads back, under the same declarations and the target's kind, as the cells that were read, accepted or refused later
   pub means : (decls : List ℕ) (from to : Rows) (input out : List ℕ) (cs : List Column) → declare decls ≡ good cs → AreBytes input
       → read to cs (output (convert decls from to input out)) ≡ upTo (convert decls from to input out .answer .rows) (read from cs input)
-  -- acceptance does all the rows
-  pub does-all : (decls : List ℕ) (from to : Rows) (input out : List ℕ) (cs : List Column) → declare decls ≡ good cs
-      → Accepted (convert decls from to input out) → convert decls from to input out .answer .rows ≡ count (read from cs input)
+  -- what is valid is done whole: all its rows, and their lines
+  pub does-all : (decls : List ℕ) (from to : Rows) (input out : List ℕ) (cs : List Column) (body : List ℕ) → declare decls ≡ good cs → length input ≤ mostInput
+      → Ends (read from cs input) → lines to cs (read from cs input) ≡ good body → length body ≤ length out
+      → convert decls from to input out ≡ ending (accepted (count (read from cs input)) body) out
   pub there-and-back : (decls : List ℕ) (cs : List Column) (input : List ℕ) → declare decls ≡ good cs → length input ≤ mostInput
       → Ends (read TableData cs input) → ThereAndBack convert decls cs input
 

@@ -7,7 +7,7 @@ use mathlib.Core.Logic.{_↔_}
 use mathlib.Core.Path.{_∙_, _≡_, ap, ap₂, refl, subst, subst⁻¹, sym}
 use lib.ListN.{drop, length}
 use lib.Seq.{take-at}
-use Rattle.demands.proofs.Demand2.{declared-columns, demand2, lines-written}
+use Rattle.demands.proofs.Demand2.{accepted-ends, declared-columns, demand2, lines-written}
 use Rattle.demands.proofs.Writing.{lines-good, up-to-all}
 use Rattle.demands.specs.Demands.{Accepted, Converter, Demand2, ThereAndBack, Valid, output}
 use Rattle.demands.specs.Tables.{Ends, count, lines, upTo}
@@ -177,7 +177,7 @@ accepts-exactly = accepts-exactly-of convert demand2
 -- "rows done equal to the rows in the input"
 pub accepts-rows : (decls : List ℕ) (from to : Rows) (input out : List ℕ) (g : InGrammar decls from to input (length out)) → convert decls from to input out .answer .rows ≡ length (g .rows)
 accepts-rows decls from to input out g =
-    demand2 .does-all decls from to input out (g .columns) (declares-read (g .declared)) (demand2 .exactly decls from to input out .1 (in-valid decls from to input (length out) g))
+    accepted-ends decls from to input out (g .columns) (declares-read (g .declared)) (demand2 .exactly decls from to input out .1 (in-valid decls from to input (length out) g)) .1
     ∙ ap count (spells-read (g .columns) (declares-columns decls (g .columns) (g .declared)) from input (g .rows) (g .spelled)) ∙ table-count (g .rows)
 
 -- ---- "each row it writes means what the row it read means, cell by cell, nulls included"
