@@ -1,16 +1,16 @@
 -- Demand 1 leaves nothing open: whatever converter meets it gives, call by call, the answer and the buffer of `convert`. For what it says of a call
 -- (rows that stand, and why no more do) is met by one outcome of the table that was read: behind fewer rows than ours the next one has a form and
 -- room, and behind more stands what ours stopped at.
-use Prim.Native.Nat.{_+_, _<_, _≤_, suc, zero, ℕ}
-use native.Mathlib.Nat.{add-suc, add-zero, not-suc-le-zero, zero-add}
+use Prim.Native.Nat.{_+_, _≤_, suc, zero, ℕ}
+use native.Mathlib.Nat.{add-zero, not-suc-le-zero, zero-add}
 use native.Mathlib.Omega.{arith}
 use mathlib.Core.Bool.{Bool, false, true}
 use mathlib.Core.List.{List, [], _++_, append-assoc, append-nil}
-use mathlib.Core.Option.{Option·none-ne-some, some}
+use mathlib.Core.Option.{Option·none-ne-some}
 use mathlib.Core.Path.{_∙_, _≡_, ap, ap₂, refl, subst, subst⁻¹, sym}
 use lib.Dec.{ltb}
 use lib.ListN.{drop, length, length-append}
-use borrow.Author.Tests.{lt-ltb, ltb-false}
+use borrow.Author.Tests.{lt-ltb}
 use Rattle.demands.proofs.Demand1.{demand1}
 use Rattle.demands.proofs.Writing.{Stopped, goes-on, no-form, not-read, too-long}
 use Rattle.demands.specs.Demands.{Converter, Demand1, Ended, NoRows, RowsStand, Sized, Why, all-rows, in-reading, in-writing, no-space, output}

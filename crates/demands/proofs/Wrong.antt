@@ -113,7 +113,9 @@ module _ (convert : Converter) (d : Demand2 convert) where
   empty-accepted = d .exactly nightDecls TableData Binary2 [] room .1 empty-valid
 
   night-count : nightCall .answer .rows ≡ 2
-  night-count = ap (λ (c : Call). c .answer .rows) (d .does-all nightDecls TableData Binary2 nightText room nightColumns nightBinary2 night-declared night-sized night-ends night-forms (lit≤ tt)) ∙ night-two
+  night-count =
+      ap (λ (c : Call). c .answer .rows) (d .does-all nightDecls TableData Binary2 nightText room nightColumns nightBinary2 night-declared night-sized night-ends night-forms (lit≤ tt))
+      ∙ night-two
 
   night-written : read Binary2 nightColumns (output nightCall) ≡ nightRows
   night-written =

@@ -21,11 +21,11 @@ use Rattle.grammar.proofs.Refused.{rows-go-on, up-to-rows}
 use Rattle.grammar.proofs.Resumption.{andThen}
 use Rattle.grammar.proofs.RowsRefused.{more-at-is, more-at-read, no-row-is, row-at-read, rows-at-is, rows-at-left, rows-at-read, stops-exactly}
 use Rattle.grammar.proofs.Streams.{IsFinished, ends-there, first-stop}
-use Rattle.grammar.specs.CellRefusals.{CellAt, MarkedAt, NoBinary2Cell, NoCell, NoFlags, NoTextCell, binary-at, binary2-at, cut-content, cut-count, cut-flags, no-byte-value, no-element}
+use Rattle.grammar.specs.CellRefusals.{CellAt, MarkedAt, NoBinary2Cell, NoCell, binary-at, binary2-at, cut-content, cut-count, cut-flags, no-byte-value, no-element}
 use Rattle.grammar.specs.CellRefusals.{no-text-value, not-as-many, over-bound, padding-not-0, spare-flag, text-at}
 use Rattle.grammar.specs.Exact.{CutFate, CutFile, InGrammar, cut-between, cut-inside, cutNumber, tableOf}
-use Rattle.grammar.specs.RowRefusals.{CellsAt, Flag, MoreAt, NoCells, NoEnd, NoRow, NoStart, RowAt, RowsAt, StartAt, TagAt, at-cell, binary-row-at, binary-start}
-use Rattle.grammar.specs.RowRefusals.{binary2-row-at, binary2-start, cell-then, cells-next, cells-none, no-binary2-start, no-cells, no-end, no-start, no-text-end}
+use Rattle.grammar.specs.RowRefusals.{MoreAt, NoCells, NoRow, NoStart, RowAt, RowsAt, StartAt, TagAt, at-cell, binary-row-at, binary-start}
+use Rattle.grammar.specs.RowRefusals.{binary2-row-at, binary2-start, cell-then, no-binary2-start, no-cells, no-end, no-start, no-text-end}
 use Rattle.grammar.specs.RowRefusals.{binary-more, binary2-more, no-text-start, rows-next, rows-none, text-more, text-row-at, text-start}
 use Rattle.grammar.specs.Words.{White, white-end, white-then}
 use Rattle.rows.proofs.Calls.{converts}

@@ -4,7 +4,7 @@ use Prim.Native.Nat.{_+_, _<_, _≤_, suc, zero, ℕ}
 use native.Mathlib.Numerals.{add-one}
 use native.Mathlib.Omega.{arith}
 use mathlib.Core.Bool.{Bool, cond}
-use mathlib.Core.List.{List, [], _++_, _∷_, append-nil}
+use mathlib.Core.List.{List, [], _++_, _∷_}
 use mathlib.Core.Logic.{_↔_}
 use mathlib.Core.Option.{Option}
 use mathlib.Core.Path.{_∙_, _≡_, ap, refl, subst, subst⁻¹, sym}
@@ -15,16 +15,16 @@ use Rattle.fields.proofs.Refusals.{field-fails, kind-fails, len-fails, null-fai
 use Rattle.fields.specs.Fields.{Field, declare, fieldsF, fieldsThen, judge, kindOf, kinds, lenOf, nullOf, readField}
 use Rattle.grammar.proofs.ColumnsRead.{arraysize-is, arraysize-read, datatype-is, datatype-read, judge-is, judge-read, null-is, null-read, starts}
 use Rattle.grammar.proofs.DeclarationsRead.{IsField, field-is, field-read, fieldAs}
-use Rattle.grammar.proofs.Fronts.{fails-then, skip-all, skip-is, skip-stays, skip-white}
+use Rattle.grammar.proofs.Fronts.{fails-then, refused, skip-all, skip-is, skip-stays, skip-white, white-only}
 use Rattle.grammar.specs.DeclarationRefusals.{ColumnAt, FieldAt, NoColumn, NoColumns, NotDeclared, at-column, column-then, declarations-too-long, no-column}
 use Rattle.grammar.specs.DeclarationRefusals.{no-kind, no-length, no-null, no-shape, not-declared, one-too-many}
 use Rattle.grammar.specs.Declarations.{FieldOf, field-of}
 use Rattle.grammar.specs.Words.{White}
-use Rattle.table.proofs.Laws.{bad-good, cond-cases, fails-as, fails-at, fails-bind, fails-weaken, holds-as, no-white}
+use Rattle.table.proofs.Laws.{bad-good, cond-cases, fails-as, fails-at, fails-bind, fails-weaken, holds-as, holds-weaken, no-white}
 use Rattle.table.specs.Bytes.{after, skipWhite}
 use Rattle.table.specs.Cell.{columnOf, isScalar}
 use Rattle.table.specs.Outcome.{Refusal, at, mostDeclarations}
-use Rattle.table.specs.Result.{Fails, Holds, Result, _>>=_, bad, fails, gives, good, holds, refusedAs, refuses}
+use Rattle.table.specs.Result.{Fails, Result, _>>=_, bad, fails, gives, good, refusedAs}
 use Rattle.table.specs.Shape.{shape}
 use Rattle.table.specs.declared.Column.{Column}
 use Rattle.table.specs.declared.Null.the-variants.{Undeclared}
@@ -37,16 +37,7 @@ module _ {E A : Type 0} where
   none-there (good a) complete f = gives
   none-there (bad e) complete f = f (λ a h. bad-good (complete a h))
 
-  -- a stage that has no value in the grammar refuses, with its own number
-  none-read : {P : A → Type 0} {n : E} {r : Result E A} → Holds P r → Fails (λ (e : E). e ≡ n) r → ((a : A) → P a → ⊥) → r ≡ bad n
-  none-read (holds {a = a} h) f none = absurd (none a h)
-  none-read refuses (fails e) none = ap bad e
-
 -- ---- a FIELD
-
-white-only : (s : List ℕ) → skipWhite s ≡ [] → White s
-white-only s e =
-    subst⁻¹ White (skip-is s .whole ∙ ap (λ (x : List ℕ). skip-is s .taken ++ x) e ∙ append-nil (skip-is s .taken)) (skip-is s .spelled)
 
 field-skipped : {s d : List ℕ} {a o : Option (List ℕ)} {rest : List ℕ} (h : FieldAt s d a o rest) → skipWhite s ≡ h .taken ++ rest
 field-skipped {rest = rest} h =
@@ -149,22 +140,22 @@ unfolding judge
 no-column-read k s more (no-shape w none) = go (skipWhite s) refl
   where
     no-field : readField (skipWhite s) ≡ bad 1
-    no-field = none-read (field-is (skipWhite s)) (field-fails refl (skipWhite s)) (λ f i. none _ _ _ _ (field-at-is s f i))
+    no-field = refused (field-fails refl (skipWhite s)) (holds-weaken (field-is (skipWhite s)) (λ f i. none _ _ _ _ (field-at-is s f i)))
 
     go : (t : List ℕ) → skipWhite s ≡ t → fieldsThen k t more ≡ bad (at k 1)
     go [] e = absurd (w (white-only s e))
     go (b ∷ v) e = unfold fieldsThen in rw (sym (ap readField e) ∙ no-field)
 no-column-read k s more (no-kind {d = d} {a = a} {o = o} {rest = rest} h none) =
-    rw (then-judged k (skipWhite s) (fieldAs d a o rest) more (field-at-read h), none-read (datatype-is d) (kind-fails refl kinds d) none)
+    rw (then-judged k (skipWhite s) (fieldAs d a o rest) more (field-at-read h), refused (kind-fails refl kinds d) (holds-weaken (datatype-is d) none))
 no-column-read k s more (no-length {d = d} {a = a} {o = o} {rest = rest} h x none) =
-    rw (then-judged k (skipWhite s) (fieldAs d a o rest) more (field-at-read h), datatype-read x, none-read (arraysize-is a) (len-fails refl a) none)
+    rw (then-judged k (skipWhite s) (fieldAs d a o rest) more (field-at-read h), datatype-read x, refused (len-fails refl a) (holds-weaken (arraysize-is a) none))
 no-column-read k s more (no-null {d = d} {a = a} {o = o} {rest = rest} {k = q} {l = l} h x y none) =
     let scalar : Bool = isScalar (columnOf q l Undeclared) in
     rw (
       then-judged k (skipWhite s) (fieldAs d a o rest) more (field-at-read h),
       datatype-read x,
       arraysize-read y,
-      none-read (null-is (shape q) scalar o) (null-fails refl (shape q) scalar o) none,
+      refused (null-fails refl (shape q) scalar o) (holds-weaken (null-is (shape q) scalar o) none),
     )
 
 -- a column that is declared there is read, and then the rest

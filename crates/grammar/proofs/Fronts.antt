@@ -4,7 +4,7 @@ use Prim.Native.Nat.{_*_, _+_, _-_, _≤_, ℕ}
 use native.Mathlib.Omega.{arith}
 use mathlib.Core.Bool.{Bool, and-false, false, true}
 use mathlib.Core.List.{List, [], _++_, _∷_, append-assoc, append-nil}
-use mathlib.Core.Path.{_∙_, _≡_, ap, refl, subst, subst₂, sym}
+use mathlib.Core.Path.{_∙_, _≡_, ap, refl, subst, subst⁻¹, subst₂, sym}
 use lib.Dec.{eqb, lit≤}
 use lib.ListN.{length, length-append}
 use borrow.Author.Tests.{eq-eqb, eqb-true, le-leb, lt-leb}
@@ -73,6 +73,11 @@ skip-is (b ∷ s) =
     cond-cases (Rest White (b ∷ s)) (isWhite b) (skipWhite s) (b ∷ s)
     (λ h. record { taken = b ∷ skip-is s .taken; whole = ap (λ (t : List ℕ). b ∷ t) (skip-is s .whole); spelled = white-then h (skip-is s .spelled) })
     (λ _. record { taken = []; whole = refl; spelled = white-end })
+
+-- what white space is skipped of whole is white space
+pub white-only : (s : List ℕ) → skipWhite s ≡ [] → White s
+white-only s e =
+    subst⁻¹ White (skip-is s .whole ∙ ap (λ (x : List ℕ). skip-is s .taken ++ x) e ∙ append-nil (skip-is s .taken)) (skip-is s .spelled)
 
 pub skip-all : {w : List ℕ} → White w → skipWhite w ≡ []
 unfolding skipWhite

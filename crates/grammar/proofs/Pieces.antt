@@ -12,7 +12,7 @@ use Rattle.demands.proofs.Demand1.{rows-of}
 use Rattle.demands.proofs.Demand2.{accepted-ends, declared-columns, runs, stands}
 use Rattle.demands.proofs.Writing.{up-to-all}
 use Rattle.demands.specs.Demands.{RowsStand, output}
-use Rattle.demands.specs.Tables.{Ends, count, lines, upTo}
+use Rattle.demands.specs.Tables.{Ends, count, upTo}
 use Rattle.fields.proofs.Front.{front-declared}
 use Rattle.fields.specs.Fields.{declare}
 use Rattle.fields.specs.Front.{front}

@@ -2,16 +2,16 @@
 -- demand 1 says of the answer is carried from the table to the grammar (DeclarationsRefused, RowsRefused); backward, the rows done are written and the
 -- next thing refuses.
 use Prim.Native.Nat.{_+_, _<_, _≤_, suc, zero, ℕ}
-use native.Mathlib.Nat.{add-suc, add-zero, zero-add}
+use native.Mathlib.Nat.{add-zero, zero-add}
 use native.Mathlib.Omega.{arith}
-use mathlib.Core.Bool.{Bool, cond, false, true}
+use mathlib.Core.Bool.{Bool, false, true}
 use mathlib.Core.List.{List, [], _++_, _∷_, append-assoc, append-nil}
 use mathlib.Core.Logic.{_↔_}
 use mathlib.Core.Option.{Option·none-ne-some, some}
 use mathlib.Core.Path.{_∙_, _≡_, ap, refl, subst, subst⁻¹, sym}
 use lib.Dec.{lit<, ltb}
 use lib.ListN.{length, length-append}
-use borrow.Author.Tests.{le-ltb, lt-ltb, ltb-false, ltb-true}
+use borrow.Author.Tests.{lt-ltb, ltb-false, ltb-true}
 use Rattle.demands.proofs.Demand2.{declared-columns, stands}
 use Rattle.demands.proofs.Writing.{goes-on}
 use Rattle.demands.specs.Demands.{RowsStand, Why, all-rows, in-reading, in-writing, no-space, output}
@@ -26,10 +26,8 @@ use Rattle.grammar.proofs.FormsWritten.{unwritten-is, unwritten-read}
 use Rattle.grammar.proofs.Resumption.{andThen}
 use Rattle.grammar.proofs.RowsRefused.{row-at-is, row-at-read, rows-at-is, rows-at-read, stops-exactly}
 use Rattle.grammar.proofs.Streams.{first-row}
-use Rattle.grammar.specs.Declarations.{Declares}
-use Rattle.grammar.specs.DeclarationRefusals.{NotDeclared}
 use Rattle.grammar.specs.Exact.{Refuses, RowsDone, refuses-declarations, refuses-reading, refuses-room, refuses-size, refuses-writing, tableOf}
-use Rattle.grammar.specs.RowRefusals.{RowAt, RowsAt, StopsAt}
+use Rattle.grammar.specs.RowRefusals.{RowAt, RowsAt}
 use Rattle.rows.proofs.Calls.{converts}
 use Rattle.rows.proofs.Sequences.{Stops}
 use Rattle.rows.proofs.Laws.{Placed, read-row, read-stops, write-row-fails}

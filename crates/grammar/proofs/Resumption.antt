@@ -1,27 +1,27 @@
 -- Resumption: rows are independent, so an input may be converted in parts. Where the rows of a are read to their end, converting a ++ b is converting
 -- a and then b in the room that is left. A row takes a front of the stream and looks no further (Taken), so the table that is read of a ++ b is that
 -- of a and then that of b; writing goes on from one to the other.
-use Prim.Native.Nat.{_+_, _-_, _<_, _≤_, suc, zero, zero-le, ℕ}
-use native.Mathlib.Nat.{add-assoc, add-zero, zero-add}
+use Prim.Native.Nat.{_+_, _-_, _≤_, zero-le, ℕ}
+use native.Mathlib.Nat.{add-assoc, add-zero}
 use native.Mathlib.Omega.{arith}
 use mathlib.Core.Bool.{Bool, cond, false, true}
-use mathlib.Core.List.{List, [], _++_, _∷_, append-assoc, append-nil}
-use mathlib.Core.Path.{_∙_, _≡_, ap, ap₂, refl, subst₂, sym}
+use mathlib.Core.List.{List, [], _++_, append-assoc, append-nil}
+use mathlib.Core.Path.{_∙_, _≡_, ap, ap₂, refl, sym}
 use lib.Dec.{ltb}
 use lib.ListN.{length, length-append}
 use borrow.Author.Tests.{le-ltb, lt-ltb, ltb-false, ltb-true}
-use Rattle.demands.specs.Tables.{Ends, count, upTo}
-use Rattle.grammar.proofs.Fronts.{skip-is, skip-white}
+use Rattle.demands.specs.Tables.{Ends}
+use Rattle.grammar.proofs.Fronts.{skip-white, white-only}
 use Rattle.grammar.proofs.Streams.{empty-is, ends-there, first-row}
 use Rattle.grammar.proofs.Taken.{Taken, row-taken}
 use Rattle.grammar.specs.Resumption.{followedBy, roomBehind}
 use Rattle.rows.proofs.Laws.{read-row, read-step}
 use Rattle.rows.specs.Sequence.{finished, row, rowThen, stopped}
-use Rattle.rows.specs.Stream.{Table, atEnd, fitted, isEmpty, read, readRow, readStart, run, write, writeRow, wroteThen}
-use Rattle.table.proofs.Laws.{cond-cases, holds-at, holds-cond}
+use Rattle.rows.specs.Stream.{Table, atEnd, fitted, read, readRow, readStart, run, write, writeRow, wroteThen}
+use Rattle.table.proofs.Laws.{holds-at, holds-cond}
 use Rattle.table.specs.Bytes.{skipWhite}
-use Rattle.table.specs.Cell.{AreColumns, Cell}
-use Rattle.table.specs.Outcome.{Outcome, Refusal, accepted, at, refused, rowsDone, written}
+use Rattle.table.specs.Cell.{AreColumns}
+use Rattle.table.specs.Outcome.{Refusal, accepted, at, written}
 use Rattle.table.specs.Result.{Holds, Result, bad, good, holds, refuses}
 use Rattle.table.specs.declared.Column.{Column}
 use Rattle.table.specs.declared.Rows.{Rows}
@@ -36,9 +36,7 @@ andThen (stopped e) u = stopped e
 andThen (row xs t) u = row xs (andThen t u)
 
 white-before : (a b : List ℕ) → skipWhite a ≡ [] → skipWhite (a ++ b) ≡ skipWhite b
-white-before a b e =
-    let w : a ≡ skip-is a .taken = skip-is a .whole ∙ ap (λ (s : List ℕ). skip-is a .taken ++ s) e ∙ append-nil (skip-is a .taken) in
-    ap (λ (s : List ℕ). skipWhite (s ++ b)) w ∙ skip-white (skip-is a .spelled) b
+white-before a b e = skip-white (white-only a e) b
 
 text-step : (cs : List Column) (s t : List ℕ) → skipWhite s ≡ skipWhite t
     → cond (atEnd TableData s) finished (rowThen (readRow TableData cs s) (read TableData cs)) ≡ cond (atEnd TableData t) finished (rowThen (readRow TableData cs t) (read TableData cs))

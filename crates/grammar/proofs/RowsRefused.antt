@@ -2,37 +2,35 @@
 -- number and that column. Cells are refused exactly (CellsRefused); what is refused of a row is followed along its reader.
 use Prim.Native.Nat.{_+_, _/_, _<_, suc, zero, ℕ}
 use native.Mathlib.Omega.{arith}
-use mathlib.Core.Bool.{Bool, cond, false, false≢true, true}
-use mathlib.Core.List.{List, [], _++_, _∷_, append-assoc, append-nil, map}
+use mathlib.Core.Bool.{Bool, false, false≢true}
+use mathlib.Core.List.{List, [], _++_, _∷_, map}
 use mathlib.Core.Logic.{_↔_}
-use mathlib.Core.Path.{_∙_, _≡_, ap, ap₂, refl, subst, subst⁻¹, sym}
+use mathlib.Core.Path.{_∙_, _≡_, ap, refl, subst⁻¹, sym}
 use lib.Dec.{lit<}
 use lib.ListN.{length, length-replicate, replicate}
 use Rattle.binary.proofs.Laws.{first-back}
 use Rattle.binary.specs.Binary.{bitBytes, readFlags}
-use Rattle.demands.specs.Tables.{Ends}
 use Rattle.grammar.proofs.BinariesRead.{bits-in-all, bits-in-bytes, bits-in-long, bits-in-read, parts-bytes}
 use Rattle.grammar.proofs.BinariesRefused.{no-flags-is, no-flags-read}
 use Rattle.grammar.proofs.CellsRefused.{cell-at-is, cell-at-read, no-cell-is, no-cell-read}
-use Rattle.grammar.proofs.Fronts.{fails-then, refused, same-good, skip-all, skip-is}
+use Rattle.grammar.proofs.Fronts.{fails-then, refused, skip-all, white-only}
 use Rattle.grammar.proofs.Resumption.{andThen}
-use Rattle.grammar.proofs.Streams.{After, Flags, binary-row-is, binary-row-read, binary2-row-is, binary2-row-read, binary2-start-is, ends-there, first-row, first-stop, indented-tag, indented-tag-is, text-row-is, text-row-read}
-use Rattle.grammar.specs.Binaries.{BitsIn}
-use Rattle.grammar.specs.CellRefusals.{CellAt, NoCell, NoFlags, binary-at, binary2-at, text-at}
+use Rattle.grammar.proofs.Streams.{binary-row-is, binary-row-read, binary2-row-is, binary2-row-read, binary2-start-is, first-row, first-stop}
+use Rattle.grammar.proofs.Streams.{indented-tag, indented-tag-is, text-row-is, text-row-read}
+use Rattle.grammar.specs.CellRefusals.{CellAt, binary-at, binary2-at, text-at}
 use Rattle.grammar.specs.Exact.{tableOf}
 use Rattle.grammar.specs.RowRefusals.{CellsAt, Flag, MoreAt, NoCells, NoEnd, NoRow, NoStart, RowAt, RowsAt, StartAt, StopsAt, TagAt, at-cell, binary-more, binary-row-at}
 use Rattle.grammar.specs.RowRefusals.{binary-start, binary2-more, binary2-row-at, binary2-start, cell-then, cells-next, cells-none, flag-set, flag-unset, no-binary2-start, no-cells, no-end}
 use Rattle.grammar.specs.RowRefusals.{no-start, no-text-end, no-text-start, rows-next, rows-none, text-more, text-row-at, text-start}
-use Rattle.grammar.specs.Words.{White}
 use Rattle.rows.proofs.Laws.{read-row, read-step}
-use Rattle.rows.specs.Sequence.{finished, row, rowThen, stopped}
+use Rattle.rows.specs.Sequence.{row, rowThen, stopped}
 use Rattle.rows.specs.Stream.{Table, atEnd, flag, flagsLeft, isEmpty, isSet, read, readCell, readCells, readEnd, readRow, readStart}
 use Rattle.table.proofs.Laws.{all-replicate, bad-good, fails-as, fails-at, fails-bind, fails-weaken, holds-as, holds-at, holds-bind, holds-weaken, tag-fails}
 use Rattle.table.specs.All.{All, AreBytes}
 use Rattle.table.specs.Bytes.{bytes, skipWhite, tag}
 use Rattle.table.specs.Cell.{AreColumns, Cell}
 use Rattle.table.specs.Outcome.{Refusal, at}
-use Rattle.table.specs.Result.{Fails, Holds, Result, _>>=_, bad, fails, gives, good, holds, refusedAs, refuses}
+use Rattle.table.specs.Result.{Fails, Holds, Result, _>>=_, bad, fails, gives, good, holds, refusedAs}
 use Rattle.table.specs.declared.Column.{Column}
 use Rattle.table.specs.declared.Rows.{Rows}
 use Rattle.table.specs.declared.Rows.the-variants.{Binary, Binary2, TableData}
@@ -269,10 +267,6 @@ not-empty (b ∷ s) h = refl
 
 is-more : (s : List ℕ) → isEmpty s ≡ false → s ≡ [] → ⊥
 is-more s h e = false≢true (sym h ∙ ap isEmpty e ∙ (unfold isEmpty in refl))
-
-white-only : (s : List ℕ) → skipWhite s ≡ [] → White s
-white-only s e =
-    subst⁻¹ White (skip-is s .whole ∙ ap (λ (x : List ℕ). skip-is s .taken ++ x) e ∙ append-nil (skip-is s .taken)) (skip-is s .spelled)
 
 pub more-at-read : {from : Rows} {s : List ℕ} → MoreAt s from → atEnd from s ≡ false
 unfolding atEnd

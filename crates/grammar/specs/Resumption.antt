@@ -1,11 +1,8 @@
 -- One input in two parts: what converting the second behind the first gives.
 use Prim.Native.Nat.{_+_, _-_, ℕ}
-use mathlib.Core.List.{List, _++_}
-use lib.ListN.{drop, length}
-use Rattle.demands.specs.Demands.{Converter, output}
-use Rattle.table.specs.Outcome.{Call, Outcome, accepted, refused, written}
-use Rattle.table.specs.declared.Answer.{Answer}
-use Rattle.table.specs.declared.Rows.{Rows}
+use mathlib.Core.List.{_++_}
+use lib.ListN.{length}
+use Rattle.table.specs.Outcome.{Outcome, accepted, refused, written}
 
 -- an outcome, and what was done behind it: rows and bytes are added, and a refusal is at its row behind the rows before. Nothing is done behind a
 -- refusal
