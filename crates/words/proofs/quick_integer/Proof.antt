@@ -30,12 +30,12 @@ behind : (c : tie.After-quick-digits) → let a = c .before .before .before .bef
 behind c = quick-minus _ _ _ (c .before .before .before .if1 .left) (sym (c .before .before .is-signed .ensures) ∙ not-false _ (c .before .if2 .left))
 
 returns-3 : tie.Need-returns-3
-returns-3 c = sym (behind (c .before) ∙ run-none _ _ _ _ (c .before .quick-digits .ensures) _ _ (c .if3 .taken))
+returns-3 c = sym (behind (c .before) ∙ run-none _ _ _ _ (c .before .quick-digits .ensures) _ _ (omega arith))
 
 returns-4 : tie.Need-returns-4
 returns-4 c =
     let at-run = c .before .before .before in
-    sym (behind at-run ∙ run-over _ _ _ _ (at-run .quick-digits .ensures) _ _ (c .before .before .if3 .left) (omega (arith, c .before .top-of .ensures)))
+    sym (behind at-run ∙ run-over _ _ _ _ (at-run .quick-digits .ensures) _ _ (λ e. omega (arith, e)) (omega (arith, c .before .top-of .ensures)))
 
 cast-t13 : tie.Need-cast-t13
 cast-t13 c = omega (arith, c .before .top-of .ensures, top-lt (c .before .before .before .before .before .before .before .before .before .args .kind))
@@ -52,7 +52,7 @@ returns-5 c =
     let at-run = c .before .before .before in let r = at-run .quick-digits in
     let small = top-lt (at-run .before .before .before .before .before .before .args .kind) in
     ap (λ (z : ℤ). Value z (r .result .next)) (negated w64 (r .result .number) (omega (arith, c .before .top-of .ensures, small)))
-    ∙ sym (behind at-run ∙ run-value _ _ _ _ (r .ensures) _ _ (c .before .before .if3 .left) (omega (arith, c .before .top-of .ensures)))
+    ∙ sym (behind at-run ∙ run-value _ _ _ _ (r .ensures) _ _ (λ e. omega (arith, e)) (omega (arith, c .before .top-of .ensures)))
 
 pub quick-integer-spec : {M : Type 1} → statement M
 quick-integer-spec =

@@ -13,10 +13,10 @@ use Rattle.words.proofs.quick_positive.Statement.{statement}
 use Rattle.words.proofs.quick_positive.Tie as tie
 
 returns : tie.Need-returns
-returns c = sym (run-none _ _ _ _ (c .before .quick-digits .ensures) _ _ (c .if1 .taken))
+returns c = sym (run-none _ _ _ _ (c .before .quick-digits .ensures) _ _ (omega arith))
 
 returns-2 : tie.Need-returns-2
-returns-2 c = let at-run = c .before .before .before in sym (run-over _ _ _ _ (at-run .quick-digits .ensures) _ _ (c .before .before .if1 .left) (omega (arith, c .before .top-of .ensures)))
+returns-2 c = let at-run = c .before .before .before in sym (run-over _ _ _ _ (at-run .quick-digits .ensures) _ _ (λ e. omega (arith, e)) (omega (arith, c .before .top-of .ensures)))
 
 cast-t9 : tie.Need-cast-t9
 cast-t9 c = omega (arith, c .before .top-of .ensures, top-lt (c .before .before .before .before .before .args .kind))
@@ -26,7 +26,7 @@ unfolding withSign
 returns-3 c =
     let at-run = c .before .before .before in let r = at-run .quick-digits in
     ap (λ (z : ℤ). Value z (r .result .next)) (toZ-pos w64 (omega (arith, c .before .top-of .ensures, top-lt (at-run .before .before .args .kind))))
-    ∙ sym (run-value _ _ _ _ (r .ensures) _ _ (c .before .before .if1 .left) (omega (arith, c .before .top-of .ensures)))
+    ∙ sym (run-value _ _ _ _ (r .ensures) _ _ (λ e. omega (arith, e)) (omega (arith, c .before .top-of .ensures)))
 
 pub quick-positive-spec : {M : Type 1} → statement M
 quick-positive-spec =
