@@ -9,7 +9,7 @@ use Rattle.base64.proofs.Laws.{Only, acceptance, decode-accepted, decode-only, 
 use Rattle.base64_coding.proofs.Turns.{sets-start}
 use Rattle.base64.specs.Base64.{decode, decodeCall, encode, encodeCall}
 use Rattle.base64_coding.specs.Contracts.{FitsAt, acceptanceOf, bufferWith, refusalOf, decodedSize}
-use Rattle.base64_coding.specs.declared.decoding.DecodedSize.the-variants.{Bad, Good}
+use Rattle.base64_coding.specs.declared.decoding.DecodedSize.the-variants.{Good, Refused}
 use Rattle.table.specs.Outcome.{Call, mostInput}
 use Rattle.table.specs.Result.{Result, bad, good}
 use Rattle.table.specs.declared.Answer.{Answer}
@@ -32,10 +32,10 @@ made-acceptance c b out new n a e l h r s =
 
 -- ---- what the first pass found
 
-pub found-bad : (r : Result ℕ (List ℕ)) → Only 7 r → Bad ≡ decodedSize 0 r → r ≡ bad 7
+found-bad : (r : Result ℕ (List ℕ)) (n : ℕ) → Only 7 r → Refused n ≡ decodedSize 0 r → (r ≡ bad 7) × (7 ≡ n)
 unfolding decodedSize
-found-bad (bad n) only e = refl
-found-bad (good b) o e = let z : _≡_ {A = ℕ} 0 1 = cc in absurd (omega arith)
+found-bad (bad m) n only e = (refl, cc)
+found-bad (good b) n o e = let z : _≡_ {A = ℕ} 0 1 = cc in absurd (omega arith)
 
 found : (r : Result ℕ (List ℕ)) (n : ℕ) → Good n ≡ decodedSize 0 r → (b : List ℕ) × (r ≡ good b) × (length b ≡ n)
 unfolding decodedSize
@@ -50,8 +50,9 @@ fits (good b) n room e h = let z : n ≡ 0 + length b = cc in omega arith
 -- ---- decoding
 
 module _ (input out : List ℕ) (h : length input ≤ mostInput) where
-  pub decode-bad : Bad ≡ decodedSize 0 (decode input) → decodeCall input out ≡ refusal 7 out
-  decode-bad e = decode-refused-7 input out h (found-bad (decode input) (decode-only input) e)
+  pub decode-bad : (n : ℕ) → Refused n ≡ decodedSize 0 (decode input) → decodeCall input out ≡ refusal n out
+  decode-bad n e =
+      let f = found-bad (decode input) n (decode-only input) e in decode-refused-7 input out h (f .0) ∙ ap (λ (m : ℕ). refusal m out) (f .1)
 
   pub decode-long : (n : ℕ) → Good n ≡ decodedSize 0 (decode input) → length out < n → decodeCall input out ≡ refusal 17 out
   decode-long n e k = let f = found (decode input) n e in let l = f .2 in decode-refused-17 input out (f .0) h (f .1) (omega arith)

@@ -100,9 +100,9 @@ pub record PlainIs (r : Bool) (s : List ℕ) (i : ℕ) (values : List ℕ) : Typ
 
 -- ---- a whole text
 
--- how many bytes, with n before them
+-- how many bytes, with n before them; or the refusal's number
 unfoldable pub decodedSize : ℕ → Result ℕ (List ℕ) → DecodedSize
-decodedSize n (bad e) = size.Bad
+decodedSize n (bad e) = size.Refused e
 decodedSize n (good b) = size.Good (n + length b)
 
 -- there are bytes, and they fit from n on

@@ -25,9 +25,9 @@ enum Four {
     Bytes(usize, u8, u8, u8, usize),
 }
 
-// How many bytes a text gives.
+// How many bytes a text gives, or the number that it is refused with.
 pub enum DecodedSize {
-    Bad,
+    Refused(u64),
     Good(usize),
 }
 
@@ -240,7 +240,7 @@ fn put_sextets(t: &[u8; 16], out: &mut [u8], n: usize)
 
 // ---- a whole text
 
-// The first pass: how many bytes the text gives.
+// The first pass: how many bytes the text gives, or its refusal.
 pub fn decoded_size(s: &[u8]) -> DecodedSize
     ensures { λ r. ⌜ r ≡ decodedSize 0 (decode (now (s .entry))) ⌝ }
 {
@@ -253,7 +253,7 @@ pub fn decoded_size(s: &[u8]) -> DecodedSize
             n += 12;
         } else {
             let Four::Bytes(count, _, _, _, next) = next_four(s, i) else {
-                return DecodedSize::Bad;
+                return DecodedSize::Refused(7);
             };
             i = next;
             n += count;

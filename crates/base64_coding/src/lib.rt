@@ -43,14 +43,16 @@ pub fn decode(input: &[u8], out: &mut [u8]) -> Answer
     if MOST_INPUT < input.len() {
         return refusal(6);
     }
-    let DecodedSize::Good(n) = decoding::decoded_size(input) else {
-        return refusal(7);
-    };
-    if out.len() < n {
-        return refusal(17);
+    match decoding::decoded_size(input) {
+        DecodedSize::Refused(number) => refusal(number),
+        DecodedSize::Good(n) => {
+            if out.len() < n {
+                return refusal(17);
+            }
+            decoding::write_bytes(input, out);
+            acceptance(n)
+        }
     }
-    decoding::write_bytes(input, out);
-    acceptance(n)
 }
 
 // Encodes the bytes `input` into `out`, without line breaks: 6 where they are over their size, 17 where there is too little room.

@@ -1,4 +1,5 @@
--- Runs of plain digits: one more, or the end; and what a run reads as, alone and after a minus.
+-- Runs of plain digits: one more, or the end; and what a run reads as, alone and after a minus. So where the quick way answers, it answers as
+-- the careful way does (quick-at), and what it answers is said by its run (run-none, run-over, run-value).
 use Prim.Native.Nat.{_*_, _+_, _-_, _<_, _^_, _≤_, suc, zero, zero-le, ℕ}
 use native.Mathlib.Nat.{le-trans, pow-le-pow-right, min-le-left}
 use native.Mathlib.Numerals.{add-one}
@@ -6,19 +7,22 @@ use native.Mathlib.Omega.{arith}
 use mathlib.Core.Bool.{Bool, false, true}
 use mathlib.Core.List.{List, [], _∷_}
 use mathlib.Core.Path.{_∙_, _≡_, ap, refl, sym}
-use lib.Dec.{lit<, lit≤}
-use lib.IntN.{negℤ, pos}
+use lib.Dec.{eqb, lit<, lit≤, ltb}
+use lib.IntN.{negℤ, pos, ℤ}
 use lib.ListN.{drop, drop-of-length-le, getD, length, length-drop, length-take, take}
 use lib.Seq.{drop-cons, getD-drop, length-take-le, take-suc}
+use borrow.Author.Tests.{eq-eqb, eqb-false, eqb-true, le-ltb, lt-ltb, ltb-false, ne-eqb}
 use Rattle.number.proofs.Laws.{IsDigit, digit-lt, numeral-append, plain-read, value-lt}
 use Rattle.words.proofs.WordLaws.{after-minus, decimal-parts, down-in, up-in}
 use Rattle.number.specs.Contracts.{isSigned, size}
-use Rattle.words.specs.Contracts.{IsPlain, QuickAt, DigitsAt, leadingDigits, top}
-use Rattle.number.specs.Number.{decimal, digit, numeral, ranged, readInteger, withSign}
+use Rattle.words.specs.Contracts.{DigitsAt, IsPlain, QuickAt, leadingDigits, quickNumber, quickRun, quickly, top}
+use Rattle.words.specs.declared.Quick.{Quick}
+use Rattle.words.specs.declared.Quick.the-variants.{Careful, Value}
+use Rattle.number.specs.Number.{Fault, decimal, digit, numeral, ranged, readInteger, withSign}
 use Rattle.table.proofs.Laws.{all-weaken, between-is, between-yes, cond-cases, holds-at}
 use Rattle.table.specs.All.{All}
 use Rattle.table.specs.Bytes.{between}
-use Rattle.table.specs.Result.{good}
+use Rattle.table.specs.Result.{Result, bad, good}
 use Rattle.table.specs.Shape.{inRange}
 use Rattle.number.specs.declared.Integer.{Integer}
 
@@ -153,3 +157,82 @@ module _ (s : List ℕ) (place number next : ℕ) (minus : place < length s) (is
             ∙ ap (λ (signed : Bool). decimal signed (size k) true ds) (sym g)
             ∙ leading-decimal s (place + 1) number next (omega arith) r some (isSigned k) (size k) true (minus-in k number g h));
       }
+
+-- ---- the quick way, by its run
+
+module _ (s : List ℕ) (place number next : ℕ) (r : DigitsAt s place number next) (k : Integer) (negative : Bool) where
+  run-is : quickRun k negative s place ≡ quickNumber k negative place (leadingDigits 18 (drop place s)) (good number)
+  unfolding quickRun
+  run-is = ap (quickNumber k negative place (leadingDigits 18 (drop place s))) (r .number-is)
+
+  pub run-none : next ≡ place → quickRun k negative s place ≡ Careful
+  run-none e = run-is ∙ rw (eq-eqb (leadingDigits 18 (drop place s)) 0 (omega (arith, r .next-is)))
+
+  module _ (some : next ≡ place → ⊥) where
+    pub run-over : top k < number → quickRun k negative s place ≡ Careful
+    run-over h = run-is ∙ rw (ne-eqb (leadingDigits 18 (drop place s)) 0 (λ e. some (omega (arith, r .next-is))), lt-ltb (top k) number h)
+
+    pub run-value : number ≤ top k → quickRun k negative s place ≡ Value (withSign negative number) next
+    run-value h =
+        run-is ∙ rw (ne-eqb (leadingDigits 18 (drop place s)) 0 (λ e. some (omega (arith, r .next-is))), le-ltb (top k) number h, r .next-is)
+
+-- which run it is: with no minus the one at the place, after a minus the one behind it, which only a kind with a sign has
+module _ (k : Integer) (s : List ℕ) (place : ℕ) where
+  pub quick-plain : (getD s place 0 ≡ 45 → ⊥) → quickly k s place ≡ quickRun k false s place
+  unfolding quickly
+  quick-plain h = rw (ne-eqb (getD s place 0) 45 h)
+
+  module _ (minus : getD s place 0 ≡ 45) where
+    pub quick-unsigned : isSigned k ≡ false → quickly k s place ≡ Careful
+    unfolding quickly
+    quick-unsigned g = rw (eq-eqb (getD s place 0) 45 minus, g)
+
+    pub quick-minus : isSigned k ≡ true → quickly k s place ≡ quickRun k true s (place + 1)
+    unfolding quickly
+    quick-minus g = rw (eq-eqb (getD s place 0) 45 minus, g)
+
+-- the run that an answer is of
+record RunAt (k : Integer) (negative : Bool) (s : List ℕ) (place : ℕ) (z : ℤ) (next : ℕ) : Type 0 where
+  number : ℕ
+  digits : DigitsAt s place number next
+  some : next ≡ place → ⊥
+  small : number ≤ top k
+  value : z ≡ withSign negative number
+
+run-at : (k : Integer) (negative : Bool) (s : List ℕ) (place : ℕ) (z : ℤ) (next : ℕ) → quickRun k negative s place ≡ Value z next → RunAt k negative s place z next
+unfolding quickRun
+run-at k negative s place z next = go (numeral digit 10 0 (take (leadingDigits 18 (drop place s)) (drop place s))) refl
+  where
+    count : ℕ
+    count = leadingDigits 18 (drop place s)
+
+    Says : Quick → Type 0
+    Says q = q ≡ Value z next → RunAt k negative s place z next
+
+    declined : Says Careful
+    declined e = let no : _≡_ {A = ℕ} 0 1 = cc in absurd (omega arith)
+
+    go : (r : Result Fault ℕ) → numeral digit 10 0 (take (leadingDigits 18 (drop place s)) (drop place s)) ≡ r → Says (quickNumber k negative place (leadingDigits 18 (drop place s)) r)
+    go (bad f) q = declined
+    go (good n) q =
+        cond-cases Says (eqb count 0) _ _ (λ _. declined) (λ filled. cond-cases Says (ltb (top k) n) _ _ (λ _. declined) (λ within e.
+        let at-end : next ≡ place + count = cc in record {
+          number = n;
+          digits = record { next-is = at-end; number-is = q };
+          some = λ none. eqb-false count 0 filled (omega arith);
+          small = ltb-false (top k) n within;
+          value = cc;
+        }))
+
+-- where the quick way answers, it answers as the careful way does
+pub quick-at : (k : Integer) (s : List ℕ) (place : ℕ) → place < length s → (z : ℤ) (next : ℕ) → quickly k s place ≡ Value z next → QuickAt k s place z next
+unfolding quickly withSign
+quick-at k s place inside z next = cond-cases Says (eqb (getD s place 0) 45) _ _
+    (λ minus. cond-cases Says (isSigned k) _ _ (λ signed e. let r = run-at k true s (place + 1) z next e in
+    rw (r .value) (quick-down s place (r .number) next inside (eqb-true (getD s place 0) 45 minus) (r .digits) (r .some) k signed (r .small)))
+    (λ _ e. let no : _≡_ {A = ℕ} 0 1 = cc in absurd (omega arith)))
+    (λ _ e. let r = run-at k false s place z next e in
+    rw (r .value) (quick-up s place (r .number) next (omega arith) (r .digits) (r .some) k (r .small)))
+  where
+    Says : Quick → Type 0
+    Says q = q ≡ Value z next → QuickAt k s place z next

@@ -1,13 +1,14 @@
 -- What the contracts of the code speak of beside the definitions: what its answers stand for, and words of plain digits.
 use Prim.Native.Nat.{_+_, _-_, _<_, _≤_, suc, zero, ℕ}
-use mathlib.Core.Bool.{cond}
+use mathlib.Core.Bool.{Bool, cond, false, true}
 use mathlib.Core.List.{List, [], _∷_}
 use mathlib.Core.Logic.{_⊎_}
 use mathlib.Core.Path.{_≡_}
+use lib.Dec.{eqb, ltb}
 use lib.IntN.{ℤ}
-use lib.ListN.{drop, length, take}
+use lib.ListN.{drop, getD, length, take}
 use Rattle.number.specs.Contracts.{isSigned, size}
-use Rattle.number.specs.Number.{Fault, Outside, Unwritten, digit, numeral, readInteger}
+use Rattle.number.specs.Number.{Fault, Outside, Unwritten, digit, numeral, readInteger, withSign}
 use Rattle.number.specs.declared.Integer.{Integer}
 use Rattle.number.specs.declared.Integer.the-variants.{Int, Long, Short, UnsignedByte}
 use Rattle.words.specs.declared.Quick.{Quick}
@@ -45,21 +46,33 @@ pub record DigitsAt (s : List ℕ) (place : ℕ) (number next : ℕ) : Type 0 wh
   pub next-is : next ≡ place + leadingDigits 18 (drop place s)
   pub number-is : numeral digit 10 0 (take (leadingDigits 18 (drop place s)) (drop place s)) ≡ good number
 
+-- a run of `count` digits from a place on, with its numeral's number, as an integer: not where it is empty, or the kind does not have the number
+abbrev pub quickNumber : Integer → Bool → ℕ → ℕ → Result Fault ℕ → Quick
+quickNumber kind negative place count (good n) =
+    cond (eqb count 0) Careful (cond (ltb (top kind) n) Careful (Quick.Value (withSign negative n) (place + count)))
+quickNumber kind negative place count (bad e) = Careful
+
+-- the run of digits from a place on, at most 18, with this sign before it
+unfoldable pub quickRun : Integer → Bool → List ℕ → ℕ → Quick
+quickRun kind negative s place =
+    let count = leadingDigits 18 (drop place s) in quickNumber kind negative place count (numeral digit 10 0 (take count (drop place s)))
+
+-- the quick way: digits, or of a kind that has a sign a minus and digits; every other word is for the careful way
+unfoldable pub quickly : Integer → List ℕ → ℕ → Quick
+quickly kind s place =
+    cond (eqb (getD s place 0) (byte "-")) (cond (isSigned kind) (quickRun kind true s (place + 1)) Careful) (quickRun kind false s place)
+
 -- digits and signs: characters of a text that stand for themselves
 abbrev pub IsPlain : ℕ → Type 0
 IsPlain b = (byte "+" ≤ b) × (b ≤ byte "9")
 
--- the word from a place up to `next` is a whole one of plain characters, and reads as z
+-- what the quick way answers is what the careful way would (proofs/QuickLaws.antt, quick-at): the word from a place up to `next` is a whole one of
+-- plain characters, and reads as z
 pub record QuickAt (kind : Integer) (s : List ℕ) (place : ℕ) (z : ℤ) (next : ℕ) : Type 0 where
   pub later : place < next
   pub within : next ≤ length s
   pub plain : All IsPlain (take (next - place) (drop place s))
   pub reads : readInteger (isSigned kind) (size kind) (take (next - place) (drop place s)) ≡ good z
-
--- where the quick way answers, it answers as the careful way does
-abbrev pub QuickIs : Integer → List ℕ → ℕ → Quick → Type 0
-QuickIs kind s place (Quick.Value z next) = QuickAt kind s place z next
-QuickIs kind s place Careful = Unit {0}
 
 -- the earlier of two places
 pub record Earlier (a b r : ℕ) : Type 0 where

@@ -5,7 +5,7 @@ ghost use mathlib.Core.Bool.{false, true};
 ghost use Prim.Native.Nat.{_*_, _<_, _≤_};
 ghost use lib.ListN.{length};
 ghost use Rattle.number.specs.Contracts.{isSigned, size};
-ghost use Rattle.words.specs.Contracts.{Earlier, QuickIs, DigitsAt, readingOf, top};
+ghost use Rattle.words.specs.Contracts.{DigitsAt, Earlier, quickRun, quickly, readingOf, top};
 ghost use Rattle.words.specs.Words.{brokenWord, capped, decimalNext, decimalReading, firstNext, fresh, hexadecimalNext, hexadecimalReading, reading, signedReading, nextWord, zeroNext};
 use number::Integer;
 
@@ -312,7 +312,7 @@ pub enum Quick {
 
 fn quick_positive(s: &[u8], at: usize, kind: Integer) -> Quick
     requires { ⌜ at ≤ length (now s) ⌝ }
-    ensures { λ r. ⌜ QuickIs kind (now (s .entry)) at r ⌝ }
+    ensures { λ r. ⌜ r ≡ quickRun kind false (now (s .entry)) at ⌝ }
 {
     let run = quick_digits(s, at);
     let number = run.number;
@@ -329,7 +329,7 @@ fn quick_positive(s: &[u8], at: usize, kind: Integer) -> Quick
 // The word of digits, or of a minus and digits, from `at` on, if its value is in the kind's range; the character after it is the caller's to look at.
 pub fn quick_integer(s: &[u8], at: usize, kind: Integer) -> Quick
     requires { ⌜ at < length (now s) ⌝ }
-    ensures { λ r. ⌜ QuickIs kind (now (s .entry)) at r ⌝ }
+    ensures { λ r. ⌜ r ≡ quickly kind (now (s .entry)) at ⌝ }
 {
     if s[at] != b'-' {
         return quick_positive(s, at, kind);

@@ -14,11 +14,11 @@ use Rattle.base64_coding.proofs.decode.Statement.{statement}
 use Rattle.base64_coding.proofs.decode.Tie as tie
 
 -- the input is within its size, and gives so many bytes
-small : (c : tie.After-known-told) → length (now (c .before .before .before .before .before .before .before .args .input)) ≤ mostInput
+small : (c : tie.After-known-told2) → length (now (c .before .before .before .before .before .before .before .args .input)) ≤ mostInput
 unfolding mostInput
 small c = c .before .before .before .before .if1 .left
 
-found : (c : tie.After-known-told) → Good (c .before .n .given .0 .0) ≡ decodedSize 0 (decode (now (c .before .before .before .before .before .before .before .args .input)))
+found : (c : tie.After-known-told2) → Good (c .before .n .given .0 .0) ≡ decodedSize 0 (decode (now (c .before .before .before .before .before .before .before .args .input)))
 found c = sym (c .before .n .given .1) ∙ c .before .before .before .decoded-size .ensures
 
 returns : tie.Need-returns
@@ -26,18 +26,20 @@ unfolding mostInput
 returns c = made-refusal _ 6 _ _ (decode-refused-6 _ _ (c .before .if1 .taken)) (c .refusal .ensures)
 
 returns-2 : tie.Need-returns-2
-unfolding mostInput
 returns-2 c =
-    let bad = sym (c .before .enum-told .given .1) ∙ c .before .before .before .decoded-size .ensures in
-    made-refusal _ 7 _ _ (decode-bad _ _ (c .before .before .before .before .if1 .left) bad) (c .refusal2 .ensures)
-
-returns-3 : tie.Need-returns-3
-returns-3 c =
     let at-n = c .before .before in
     made-refusal _ 17 _ _ (decode-long _ _ (small at-n) _ (found at-n) (c .before .if2 .taken)) (c .refusal3 .ensures)
 
 write-bytes-requires : tie.Need-write-bytes-requires
 write-bytes-requires c κs = fits _ _ _ (found (c .before .before)) (c .before .if2 .left)
+
+-- the number of the refusal is the one that the first pass found
+returns-3 : tie.Need-returns-3
+unfolding mostInput
+returns-3 c =
+    let at-size = c .before .before .before .before in
+    let bad = sym (c .before .before .number .given .1) ∙ at-size .decoded-size .ensures in
+    made-refusal _ _ _ _ (decode-bad _ _ (at-size .before .if1 .left) _ bad) (c .refusal2 .ensures)
 
 returns-4 : tie.Need-returns-4
 returns-4 c =
@@ -53,12 +55,12 @@ decode-spec =
     returns
     (λ c κs. search needs)
     (λ c. search needs)
+    (λ c κs. search needs)
     (λ c. search needs)
     (λ c κs. search needs)
     returns-2
-    (λ c κs. search needs)
-    returns-3
     write-bytes-requires
     (λ c κs. search needs)
+    returns-3
     (λ c. search needs)
     returns-4)

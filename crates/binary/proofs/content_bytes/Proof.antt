@@ -11,7 +11,7 @@ returns c = (rw (c .enum-told .given .1), omega arith)
 
 returns-2 : tie.Need-returns-2
 unfolding contentBytes bitBytes
-returns-2 c = (rw (c .enum-told2 .given .1), omega arith)
+returns-2 c = (rw (c .enum-told2 .given .1) (omega arith), omega arith)
 
 returns-3 : tie.Need-returns-3
 unfolding contentBytes bitBytes

@@ -1,6 +1,5 @@
 -- `element_reading::numerals::quick_word` meets its contract: plain digits, then a space or just the end.
 use Prim.Native.Nat.{_+_}
-use native.Mathlib.Omega.{arith}
 use mathlib.Core.Path.{_∙_, _≡_, subst, sym}
 use lib.IntN.{ℤ}
 use borrow.Author.Needs.{needs}
@@ -11,7 +10,8 @@ use Rattle.element_reading.proofs.numerals.Laws.{quick-cut, quick-last}
 use Rattle.element_reading.specs.Characters.{TextEnds}
 use Rattle.element_reading.specs.Words.{QuickWordIs}
 use Rattle.element_reading.specs.declared.numerals.QuickWord.{QuickWord}
-use Rattle.words.specs.Contracts.{QuickAt, QuickIs}
+use Rattle.words.proofs.QuickLaws.{quick-at}
+use Rattle.words.specs.Contracts.{QuickAt}
 use Rattle.element_reading.proofs.numerals.quick_word.Statement.{statement}
 use Rattle.element_reading.proofs.numerals.quick_word.Tie as tie
 
@@ -21,7 +21,8 @@ digits : (c : tie.After-known-told) →
     let a = at-start .args in let x = c .before .z .given .0 in QuickAt (a .kind) (now (a .s)) (a .from) (x .0) (x .1 .0)
 digits c =
     let at-quick-integer = c .before .before .before in let at-start = at-quick-integer .before .before .before in
-    let a = at-start .args in subst (QuickIs (a .kind) (now (a .s)) (a .from)) (c .before .z .given .1) (at-quick-integer .quick-integer .ensures)
+    let a = at-start .args in
+    quick-at (a .kind) (now (a .s)) (a .from) (at-quick-integer .before .if1 .left) _ _ (sym (at-quick-integer .quick-integer .ensures) ∙ c .before .z .given .1)
 
 integer : (c : tie.After-known-told) → let z = c .before .z .given .0 .0 in z ≡ toZ w64 (ofZ w64 z)
 integer c = let z = c .before .z .given .0 .0 in let e : toZ w64 (ofZ w64 z) ≡ z = search needs in sym e
