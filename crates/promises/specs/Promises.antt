@@ -62,25 +62,38 @@ pub record MeansWhatWasRead (decls input out : List ℕ) (c : Call) (from to : R
 
 -- ---- two calls
 
--- demand 3: "Two rows that show the same under the same declarations, in any two streams, get for the same target, if nothing earlier is
--- refused and there is room enough, the same bytes or the same refusal number and column, whatever stands around them."
-abbrev pub SameRows : (decls : List ℕ) (to first-from second-from : ℕ) (first first-out second second-out : List ℕ) (c d : Call) → Type 0
-SameRows decls to first-from second-from first first-out second second-out c d =
-    (target source other : Rows) → rowsOf to ≡ some target → rowsOf first-from ≡ some source → rowsOf second-from ≡ some other
-    → (cs : List Column) (xs : List Cell) → declare decls ≡ good cs → (j k : ℕ)
-    → (p : Comes target cs xs record { from = source; input = first; out = first-out; row = j })
-    → (q : Comes target cs xs record { from = other; input = second; out = second-out; row = k })
-    → SameFate target cs xs record { from = source; input = first; out = first-out; row = j } record { from = other; input = second; out = second-out; row = k }
-    (p .before) (q .before) c d
+-- a call as its caller has it: the number of the kind of rows, the input and the buffer at entry; the five numbers and the buffer at exit
+pub record Made : Type 0 where
+  pub from : ℕ
+  pub input : List ℕ
+  pub entry : List ℕ
+  pub numbers : List ℕ
+  pub exit : List ℕ
 
--- demand 3: "And if an accepted BINARY2 stream has changed only in bytes that show nothing (under a null flag, counts excepted, or after the
--- first NUL of a text), it is accepted again, for the same target and room, and written as the same bytes.": every number and every byte
--- is the same, and a refused stream is refused the same
-abbrev pub UnseenBytes : (decls : List ℕ) (first-from second-from : ℕ) (first first-out second second-out numbers exit other-numbers other-exit : List ℕ) → Type 0
-UnseenBytes decls first-from second-from first first-out second second-out numbers exit other-numbers other-exit =
-    first-from ≡ 2 → second-from ≡ 2 → second-out ≡ first-out → (cs : List Column) → declare decls ≡ good cs → length second ≡ length first
-    → ((i : ℕ) → i < length first → showsAt cs first i ≡ true → getD second i 0 ≡ getD first i 0)
-    → (other-numbers ≡ numbers) × (other-exit ≡ exit)
+abbrev pub made : ℕ → List ℕ → List ℕ → List ℕ → List ℕ → Made
+made from input entry numbers exit = record { from = from; input = input; entry = entry; numbers = numbers; exit = exit }
+
+-- its stream, and one of its rows
+abbrev pub rowOf : Rows → Made → ℕ → Stream
+rowOf source m row = record { from = source; input = m .input; out = m .entry; row = row }
+
+-- demand 3: "A row's output depends on the declarations, the target and what that row shows, and, room and earlier refusals apart, on nothing
+-- else."
+pub record NothingElse (decls : List ℕ) (to : ℕ) (first second : Made) : Type 0 where
+  -- "Two rows that show the same under the same declarations, in any two streams, get for the same target, if nothing earlier is refused and
+  -- there is room enough, the same bytes or the same refusal number and column, whatever stands around them."
+  pub same-rows : (target source other : Rows) → rowsOf to ≡ some target → rowsOf (first .from) ≡ some source → rowsOf (second .from) ≡ some other
+      → (cs : List Column) → declare decls ≡ good cs → (xs : List Cell) (j k : ℕ)
+      → (c : Comes target cs xs (rowOf source first j)) (d : Comes target cs xs (rowOf other second k))
+      → SameFate target cs xs (rowOf source first j) (rowOf other second k) (c .before) (d .before)
+      (callOf (first .numbers) (first .exit)) (callOf (second .numbers) (second .exit))
+  -- "And if an accepted BINARY2 stream has changed only in bytes that show nothing (under a null flag, counts excepted, or after the first NUL
+  -- of a text), it is accepted again, for the same target and room, and written as the same bytes.": every number and every byte is the
+  -- same, and a refused stream is refused the same
+  pub unseen-bytes : first .from ≡ 2 → second .from ≡ 2 → second .entry ≡ first .entry → (cs : List Column) → declare decls ≡ good cs
+      → length (second .input) ≡ length (first .input)
+      → ((i : ℕ) → i < length (first .input) → showsAt cs (first .input) i ≡ true → getD (second .input) i 0 ≡ getD (first .input) i 0)
+      → (second .numbers ≡ first .numbers) × (second .exit ≡ first .exit)
 
 -- ---- there and back
 

@@ -1,6 +1,6 @@
 // The demands, of the face itself: functions whose bodies are calls of the functions for C and no more, and whose contracts are the demands, over
 // the slices at entry and at exit. None has a `requires`: "Callers check nothing first."
-ghost use Rattle.promises.specs.Promises.{Between, MeansWhatWasRead, RowsOrRefusal, SameRows, ThereAndBack, Unnamed, UnseenBytes, callOf};
+ghost use Rattle.promises.specs.Promises.{Between, MeansWhatWasRead, NothingElse, RowsOrRefusal, ThereAndBack, Unnamed, callOf, made};
 
 // Demands 1 and 2: one call.
 pub fn once(decls: &[u8], from: u32, to: u32, input: &[u8], out: &mut [u8], answer: &mut [u64; 5])
@@ -9,4 +9,25 @@ pub fn once(decls: &[u8], from: u32, to: u32, input: &[u8], out: &mut [u8], answ
     ensures demand2 { λ _. ⌜ Between from to (MeansWhatWasRead (now (decls .entry)) (now (input .entry)) (now (out .entry)) (callOf (now (answer .exit)) (now (out .exit)))) ⌝ }
 {
     sailmortar::sailmortar_convert(decls, from, to, input, out, answer);
+}
+
+// Demand 3: two calls under the same declarations and for the same target.
+pub fn twice(
+    decls: &[u8],
+    to: u32,
+    from1: u32,
+    input1: &[u8],
+    out1: &mut [u8],
+    answer1: &mut [u64; 5],
+    from2: u32,
+    input2: &[u8],
+    out2: &mut [u8],
+    answer2: &mut [u64; 5],
+)
+    ensures demand3 { λ _. ⌜ NothingElse (now (decls .entry)) to
+        (made from1 (now (input1 .entry)) (now (out1 .entry)) (now (answer1 .exit)) (now (out1 .exit)))
+        (made from2 (now (input2 .entry)) (now (out2 .entry)) (now (answer2 .exit)) (now (out2 .exit))) ⌝ }
+{
+    sailmortar::sailmortar_convert(decls, from1, to, input1, out1, answer1);
+    sailmortar::sailmortar_convert(decls, from2, to, input2, out2, answer2);
 }
