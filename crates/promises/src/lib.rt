@@ -31,3 +31,20 @@ pub fn twice(
     sailmortar::sailmortar_convert(decls, from1, to, input1, out1, answer1);
     sailmortar::sailmortar_convert(decls, from2, to, input2, out2, answer2);
 }
+
+// Demand 2, the second sentence: TABLEDATA to BINARY2, and what was written back to TABLEDATA.
+pub fn there_and_back(
+    decls: &[u8],
+    input: &[u8],
+    binary: &mut [u8],
+    there: &mut [u64; 5],
+    text: &mut [u8],
+    back: &mut [u64; 5],
+)
+    ensures demand2 { λ _. ⌜ ThereAndBack (now (decls .entry)) (now (input .entry)) (now (binary .entry)) (now (text .entry))
+        (callOf (now (there .exit)) (now (binary .exit))) (callOf (now (back .exit)) (now (text .exit))) ⌝ }
+{
+    sailmortar::sailmortar_convert(decls, 0, 2, input, binary, there);
+    let n = there[4] as usize;
+    sailmortar::sailmortar_convert(decls, 2, 0, &binary[..n], text, back);
+}
