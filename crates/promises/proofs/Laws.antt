@@ -123,7 +123,7 @@ module _ (decls : List ℕ) (to : ℕ) (first second : Made) (h : MadeBy decls t
 -- ---- there and back
 
 -- the bytes that a call answers are within its buffer
-bytes-within : (o : Outcome) (out numbers exit : List ℕ) → Faces (faced (ending o out)) numbers exit → getD numbers 4 0 ≤ length exit
+pub bytes-within : (o : Outcome) (out numbers exit : List ℕ) → Faces (faced (ending o out)) numbers exit → getD numbers 4 0 ≤ length exit
 unfolding faced five ending bufferOf
 bytes-within o out numbers exit h =
     rw (ap (λ (ns : List ℕ). getD ns 4 0) (h .numbers-are), bytes-of o out, h .buffer-is, length-append) (omega arith)
@@ -142,7 +142,7 @@ unfolding rowsOf
 binary2-named = refl
 
 -- what a call wrote
-output-is : (n : ℕ) (body out : List ℕ) {c : Call} → c ≡ ending (accepted n body) out → output c ≡ body
+pub output-is : (n : ℕ) (body out : List ℕ) {c : Call} → c ≡ ending (accepted n body) out → output c ≡ body
 output-is n body out e = ap output e ∙ output-of (accepted n body) out ∙ unfold written in refl
 
 module _ (decls : List ℕ) (cs : List Column) (rows : List (List Cell)) (d : Declares decls cs) where

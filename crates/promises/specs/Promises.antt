@@ -1,5 +1,5 @@
 -- The demands of calls of the face: what holds between the slices and the numbers that a caller has in hand.
-use Prim.Native.Nat.{_<_, _≤_, ℕ}
+use Prim.Native.Nat.{_*_, _+_, _/_, _<_, _≤_, ℕ}
 use mathlib.Core.Bool.{true}
 use mathlib.Core.List.{List, [], _∷_}
 use mathlib.Core.Logic.{_↔_}
@@ -10,13 +10,15 @@ use Rattle.demands.specs.Demands.{Accepted, Comes, Ended, SameFate, Stream, out
 use Rattle.demands.specs.Places.{showsAt}
 use Rattle.demands.specs.Tables.{lines, upTo}
 use Rattle.fields.specs.Fields.{declare}
+use Rattle.grammar.specs.Base64Text.{Base64Text}
+use Rattle.grammar.specs.DeclarationRefusals.{NotDeclared}
 use Rattle.grammar.specs.Declarations.{Declares}
-use Rattle.grammar.specs.Exact.{InGrammar, tableOf}
+use Rattle.grammar.specs.Exact.{InGrammar, NotDecoded, tableOf}
 use Rattle.grammar.specs.Valid.{Spells}
 use Rattle.rows.specs.Stream.{read}
 use Rattle.sailmortar.specs.Face.{rowsOf}
 use Rattle.table.specs.Cell.{Cell}
-use Rattle.table.specs.Outcome.{Call, mostNumber}
+use Rattle.table.specs.Outcome.{Call, accepted, at, ending, mostNumber, refused}
 use Rattle.table.specs.Result.{good}
 use Rattle.table.specs.declared.Column.{Column}
 use Rattle.table.specs.declared.Rows.{Rows}
@@ -114,3 +116,48 @@ abbrev pub ThereAndBack : (decls input binary text : List ℕ) (there back : Cal
 ThereAndBack decls input binary text there back =
     (cs : List Column) (rows : List (List Cell)) → Declares decls cs → length input ≤ 1073741824 → Spells TableData cs input rows
     → RoomEnough cs rows binary text → Carried cs Binary2 rows there × Carried cs TableData rows back
+
+-- ---- base64
+
+-- demand 1: "Whatever bytes come in, .. as base64, the software ends with rows or with one numbered refusal": with all the bytes that the text
+-- spells, or with a number, and then nothing is touched
+pub data DecodedOrRefused (input out : List ℕ) : Call → Type 0 where
+  all-decoded : {b : List ℕ} → Base64Text input b → length b ≤ length out → DecodedOrRefused input out (ending (accepted 0 b) out)
+  not-decoded : {n : ℕ} → NotDecoded input (length out) n → DecodedOrRefused input out (ending (refused (at 0 n) 0 []) out)
+
+-- demand 2 of a decoding step: "It accepts exactly what .. 01 calls valid"
+pub record DecodesExactly (input out : List ℕ) (c : Call) : Type 0 where
+  pub ended : DecodedOrRefused input out c
+  -- accepted with these bytes exactly when the text spells them, within its size, and they have room
+  pub exactly : (b : List ℕ) → ((length input ≤ 1073741824) × Base64Text input b × (length b ≤ length out)) ↔ (c ≡ ending (accepted 0 b) out)
+  -- refused with this number exactly when the grammar says so
+  pub refused-exactly : (n : ℕ) → NotDecoded input (length out) n ↔ ((c ≡ ending (refused (at 0 n) 0 []) out) × (0 < n))
+
+-- both steps are accepted, the first writes a text that spells the input, and the second the input
+pub record ComesBack (input : List ℕ) (encoding decoding : Call) : Type 0 where
+  pub encoded : Accepted encoding
+  pub spelled : Base64Text (output encoding) input
+  pub decoded : Accepted decoding
+  pub same : output decoding ≡ input
+
+-- bytes to base64 and back: four letters for every three bytes, or what is left of three, are within the size of an input and have room
+abbrev pub EncodedAndDecoded : (input text bytes : List ℕ) (encoding decoding : Call) → Type 0
+EncodedAndDecoded input text bytes encoding decoding =
+    (length input + 2) / 3 * 4 ≤ 1073741824 → (length input + 2) / 3 * 4 ≤ length text → length input ≤ length bytes → ComesBack input encoding decoding
+
+-- ---- declarations
+
+-- demand 1: "Whatever bytes come in, as column declarations, .. the software ends .. with one numbered refusal and the .. column where it
+-- stopped", or with the number of columns
+pub data DeclaredOrRefused (decls : List ℕ) : List ℕ → Type 0 where
+  all-declared : {cs : List Column} → Declares decls cs → DeclaredOrRefused decls (0 ∷ 0 ∷ 0 ∷ length cs ∷ 0 ∷ [])
+  not-declared : {n place : ℕ} → NotDeclared decls n place → 0 < n → n ≤ mostNumber → DeclaredOrRefused decls (n ∷ 0 ∷ place ∷ 0 ∷ 0 ∷ [])
+
+-- demand 2 of declarations alone: "It accepts exactly what .. 01 calls valid"
+pub record DeclaresExactly (decls numbers : List ℕ) : Type 0 where
+  pub ended : DeclaredOrRefused decls numbers
+  -- accepted exactly when columns are declared
+  pub exactly : (getD numbers 0 0 ≡ 0) ↔ ((cs : List Column) × Declares decls cs)
+  pub columns : (cs : List Column) → Declares decls cs → numbers ≡ 0 ∷ 0 ∷ 0 ∷ length cs ∷ 0 ∷ []
+  -- refused with this number at this place exactly when the grammar says so
+  pub refused-exactly : (n place : ℕ) → NotDeclared decls n place ↔ (numbers ≡ n ∷ 0 ∷ place ∷ 0 ∷ 0 ∷ [])

@@ -1,6 +1,6 @@
 // The demands, of the face itself: functions whose bodies are calls of the functions for C and no more, and whose contracts are the demands, over
 // the slices at entry and at exit. None has a `requires`: "Callers check nothing first."
-ghost use Rattle.promises.specs.Promises.{Between, MeansWhatWasRead, NothingElse, RowsOrRefusal, ThereAndBack, Unnamed, callOf, made};
+ghost use Rattle.promises.specs.Promises.{Between, DeclaresExactly, DecodesExactly, EncodedAndDecoded, MeansWhatWasRead, NothingElse, RowsOrRefusal, ThereAndBack, Unnamed, callOf, made};
 
 // Demands 1 and 2: one call.
 pub fn once(decls: &[u8], from: u32, to: u32, input: &[u8], out: &mut [u8], answer: &mut [u64; 5])
@@ -47,4 +47,34 @@ pub fn there_and_back(
     sailmortar::sailmortar_convert(decls, 0, 2, input, binary, there);
     let n = there[4] as usize;
     sailmortar::sailmortar_convert(decls, 2, 0, &binary[..n], text, back);
+}
+
+// Demands 1 and 2 of base64: one decoding step.
+pub fn decoded(input: &[u8], out: &mut [u8], answer: &mut [u64; 5])
+    ensures { λ _. ⌜ DecodesExactly (now (input .entry)) (now (out .entry)) (callOf (now (answer .exit)) (now (out .exit))) ⌝ }
+{
+    sailmortar::sailmortar_base64_decode(input, out, answer);
+}
+
+// Bytes to base64, and what was written back to bytes.
+pub fn encoded_and_decoded(
+    input: &[u8],
+    text: &mut [u8],
+    encoding: &mut [u64; 5],
+    bytes: &mut [u8],
+    decoding: &mut [u64; 5],
+)
+    ensures { λ _. ⌜ EncodedAndDecoded (now (input .entry)) (now (text .entry)) (now (bytes .entry))
+        (callOf (now (encoding .exit)) (now (text .exit))) (callOf (now (decoding .exit)) (now (bytes .exit))) ⌝ }
+{
+    sailmortar::sailmortar_base64_encode(input, text, encoding);
+    let n = encoding[4] as usize;
+    sailmortar::sailmortar_base64_decode(&text[..n], bytes, decoding);
+}
+
+// Demands 1 and 2 of declarations alone.
+pub fn declared(decls: &[u8], answer: &mut [u64; 5])
+    ensures { λ _. ⌜ DeclaresExactly (now (decls .entry)) (now (answer .exit)) ⌝ }
+{
+    sailmortar::sailmortar_declare(decls, answer);
 }

@@ -1,8 +1,7 @@
 -- Two calls of `sailmortar_convert`, the second of what the first wrote: that this is a part of the buffer is a fact of every answer.
-use Prim.Native.Nat.{_≤_}
 use borrow.Author.Needs.{needs}
 use denote.Ref.{now}
-use lib.ListN.{getD, length, length-take}
+use lib.ListN.{length-take}
 use native.Mathlib.Omega.{arith}
 use Rattle.promises.proofs.Laws.{faces, there-and-back, there-within}
 use Rattle.row_reading.proofs.CellsFit.{bytes-of}
