@@ -1,6 +1,6 @@
 -- A call of the face for base64 is a step of base64, and the numbers of `sailmortar_declare` are those of `declare`: what the grammar says of these is
 -- carried along. All over plain lists.
-use Prim.Native.Nat.{_*_, _+_, _/_, _≤_, suc, zero, ℕ}
+use Prim.Native.Nat.{_≤_, suc, zero, ℕ}
 use native.Mathlib.Omega.{arith}
 use mathlib.Core.List.{List, [], _∷_}
 use mathlib.Core.Path.{_∙_, _≡_, ap, ap₂, refl, subst⁻¹, sym}
@@ -17,7 +17,7 @@ use Rattle.grammar.proofs.Exactly.{declares-one}
 use Rattle.grammar.specs.Declarations.{Declares}
 use Rattle.grammar.specs.Exact.{InBase64}
 use Rattle.promises.proofs.Laws.{Faces, bytes-within, call-is, output-is}
-use Rattle.promises.specs.Promises.{ComesBack, DeclaresExactly, DecodedOrRefused, DecodesExactly, EncodedAndDecoded, all-declared, all-decoded, callOf, not-declared, not-decoded}
+use Rattle.promises.specs.Promises.{DeclaresExactly, DecodedOrRefused, DecodesExactly, EncodedAndDecoded, all-declared, all-decoded, callOf, not-declared, not-decoded}
 use Rattle.sailmortar.specs.Face.{declareFace, declaredNumbers, decodeFace, encodeFace}
 use Rattle.table.specs.All.{AreBytes}
 use Rattle.table.proofs.Laws.{bad-good}

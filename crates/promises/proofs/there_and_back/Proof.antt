@@ -5,18 +5,19 @@ use lib.ListN.{length-take}
 use native.Mathlib.Omega.{arith}
 use Rattle.promises.proofs.Laws.{faces, there-and-back, there-within}
 use Rattle.row_reading.proofs.CellsFit.{bytes-of}
+use Rattle.sailmortar.specs.Face.{convertFace}
 use Rattle.promises.proofs.there_and_back.Statement.{statement}
 use Rattle.promises.proofs.there_and_back.Tie as tie
 
 slice-reshare-prefix-sailmortar-convert : tie.Need-slice-reshare-prefix-sailmortar-convert
 slice-reshare-prefix-sailmortar-convert c =
-    let there = c .before .before .before .sailmortar-convert .ensures in there-within _ _ _ (faces (there .0) (there .1))
+    let told = c .before .before .before .sailmortar-convert .ensures in there-within _ _ _ (faces {f = convertFace _ 0 2 _ _} (told .0) (told .1))
 
 slice-aggregate-sailmortar-convert : tie.Need-slice-aggregate-sailmortar-convert
 slice-aggregate-sailmortar-convert c =
-    let there = c .before .before .before .before .sailmortar-convert .ensures in
-    let h = there-within _ _ _ (faces (there .0) (there .1)) in
-    simp length-take (omega (arith, h))
+    let told = c .before .before .before .before .sailmortar-convert .ensures in
+    let within = there-within _ _ _ (faces {f = convertFace _ 0 2 _ _} (told .0) (told .1)) in
+    simp length-take (omega (arith, within))
 
 returns : tie.Need-returns
 returns c =
@@ -24,8 +25,9 @@ returns c =
     let there = at-there .sailmortar-convert .ensures in
     let back = c .before .before .sailmortar-convert2 .ensures in
     let at-known = at-there .before .before .before .before .before in
-    there-and-back _ _ _ (faces (there .0) (there .1)) (bytes-of (now (at-known .before .before .args .input)) (λ i h. at-known .shared-slice-known2 .given i .fits))
-    _ (faces (back .0) (back .1))
+    there-and-back _ _ _ (faces {f = convertFace _ 0 2 _ _} (there .0) (there .1))
+    (bytes-of (now (at-known .before .before .args .input)) (λ i h. at-known .shared-slice-known2 .given i .fits))
+    _ (faces {f = convertFace _ 2 0 _ _} (back .0) (back .1))
 
 pub there-and-back-spec : {M : Type 1} → statement M
 there-and-back-spec =
