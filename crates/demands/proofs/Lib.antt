@@ -10,4 +10,3 @@ pub mod Demand2
 pub mod Demand3
 pub mod Hidden
 pub mod Wrong
-pub mod OfTheCode

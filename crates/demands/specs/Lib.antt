@@ -2,4 +2,3 @@ pub mod Tables
 pub mod Demands
 pub mod Places
 pub mod Cases
-pub mod OfTheCode

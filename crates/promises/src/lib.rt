@@ -1,0 +1,80 @@
+// The demands, of the face itself: functions whose bodies are calls of the functions for C and no more, and whose contracts are the demands, over
+// the slices at entry and at exit. None has a `requires`: "Callers check nothing first."
+ghost use Rattle.promises.specs.Promises.{Between, DeclaresExactly, DecodesExactly, EncodedAndDecoded, MeansWhatWasRead, NothingElse, RowsOrRefusal, ThereAndBack, Unnamed, callOf, made};
+
+// Demands 1 and 2: one call.
+pub fn once(decls: &[u8], from: u32, to: u32, input: &[u8], out: &mut [u8], answer: &mut [u64; 5])
+    ensures unnamed { λ _. ⌜ Unnamed from to (now (out .entry)) (now (answer .exit)) (now (out .exit)) ⌝ }
+    ensures demand1 { λ _. ⌜ Between from to (RowsOrRefusal (now (decls .entry)) (now (input .entry)) (now (out .entry)) (callOf (now (answer .exit)) (now (out .exit)))) ⌝ }
+    ensures demand2 { λ _. ⌜ Between from to (MeansWhatWasRead (now (decls .entry)) (now (input .entry)) (now (out .entry)) (callOf (now (answer .exit)) (now (out .exit)))) ⌝ }
+{
+    sailmortar::sailmortar_convert(decls, from, to, input, out, answer);
+}
+
+// Demand 3: two calls under the same declarations and for the same target.
+pub fn twice(
+    decls: &[u8],
+    to: u32,
+    from1: u32,
+    input1: &[u8],
+    out1: &mut [u8],
+    answer1: &mut [u64; 5],
+    from2: u32,
+    input2: &[u8],
+    out2: &mut [u8],
+    answer2: &mut [u64; 5],
+)
+    ensures demand3 { λ _. ⌜ NothingElse (now (decls .entry)) to
+        (made from1 (now (input1 .entry)) (now (out1 .entry)) (now (answer1 .exit)) (now (out1 .exit)))
+        (made from2 (now (input2 .entry)) (now (out2 .entry)) (now (answer2 .exit)) (now (out2 .exit))) ⌝ }
+{
+    sailmortar::sailmortar_convert(decls, from1, to, input1, out1, answer1);
+    sailmortar::sailmortar_convert(decls, from2, to, input2, out2, answer2);
+}
+
+// Demand 2, the second sentence: TABLEDATA to BINARY2, and what was written back to TABLEDATA.
+pub fn there_and_back(
+    decls: &[u8],
+    input: &[u8],
+    binary: &mut [u8],
+    there: &mut [u64; 5],
+    text: &mut [u8],
+    back: &mut [u64; 5],
+)
+    ensures demand2 { λ _. ⌜ ThereAndBack (now (decls .entry)) (now (input .entry)) (now (binary .entry)) (now (text .entry))
+        (callOf (now (there .exit)) (now (binary .exit))) (callOf (now (back .exit)) (now (text .exit))) ⌝ }
+{
+    sailmortar::sailmortar_convert(decls, 0, 2, input, binary, there);
+    let n = there[4] as usize;
+    sailmortar::sailmortar_convert(decls, 2, 0, &binary[..n], text, back);
+}
+
+// Demands 1 and 2 of base64: one decoding step.
+pub fn decoded(input: &[u8], out: &mut [u8], answer: &mut [u64; 5])
+    ensures { λ _. ⌜ DecodesExactly (now (input .entry)) (now (out .entry)) (callOf (now (answer .exit)) (now (out .exit))) ⌝ }
+{
+    sailmortar::sailmortar_base64_decode(input, out, answer);
+}
+
+// Bytes to base64, and what was written back to bytes.
+pub fn encoded_and_decoded(
+    input: &[u8],
+    text: &mut [u8],
+    encoding: &mut [u64; 5],
+    bytes: &mut [u8],
+    decoding: &mut [u64; 5],
+)
+    ensures { λ _. ⌜ EncodedAndDecoded (now (input .entry)) (now (text .entry)) (now (bytes .entry))
+        (callOf (now (encoding .exit)) (now (text .exit))) (callOf (now (decoding .exit)) (now (bytes .exit))) ⌝ }
+{
+    sailmortar::sailmortar_base64_encode(input, text, encoding);
+    let n = encoding[4] as usize;
+    sailmortar::sailmortar_base64_decode(&text[..n], bytes, decoding);
+}
+
+// Demands 1 and 2 of declarations alone.
+pub fn declared(decls: &[u8], answer: &mut [u64; 5])
+    ensures { λ _. ⌜ DeclaresExactly (now (decls .entry)) (now (answer .exit)) ⌝ }
+{
+    sailmortar::sailmortar_declare(decls, answer);
+}
