@@ -7,7 +7,7 @@ use crate::generate::rows::{spelled, table};
 use crate::generate::Random;
 use crate::model::converter::{self, Rows, EVERY_KIND_OF_ROWS};
 use crate::model::{self, Column, Kind, Length};
-use sailmortar::{base64_decode_to_vec, base64_encode_to_vec, convert_pieces, convert_to_vec, Base64Writer};
+use sailmortar::{base64_decode_to_vec, base64_encode_to_vec, convert, convert_pieces, convert_to_vec, Base64Writer};
 use std::io::Write;
 
 /// A stream of a few rows, every other one damaged, with its columns.
@@ -68,6 +68,25 @@ fn pieces_are_the_whole() {
             assert_eq!(six(converted.map_err(refusal), input.len()), expected.six(), "{told}");
             assert_eq!(bytes, expected.written.bytes, "{told}");
         }
+    }
+}
+
+#[test]
+fn a_conversion_tells_what_the_archive_does_at_every_room() {
+    for seed in seeds(74_000_000, 6_000) {
+        let mut random = Random::new(seed);
+        let from = random.pick(&EVERY_KIND_OF_ROWS);
+        let (columns, input) = stream(&mut random, from, seed);
+        let text = declarations(&columns);
+        let to = random.pick(&EVERY_KIND_OF_ROWS);
+        let whole = converter::convert(&text, from, to, &input, usize::MAX).bytes.len();
+        let mut out = vec![0xEE; random.below(whole + 2)];
+        let mut expected = out.clone();
+        let model = converter::convert_piece(&text, from, to, &input, out.len());
+        expected[..model.written.bytes.len()].copy_from_slice(&model.written.bytes);
+        let answer = convert(&text, proved_rows(from), proved_rows(to), &input, &mut out);
+        let told = format!("seed {seed} from {from:?} to {to:?}: {}", input.escape_ascii());
+        assert_eq!((six(answer, input.len()), out), (model.six(), expected), "{told}");
     }
 }
 

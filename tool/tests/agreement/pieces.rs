@@ -6,6 +6,7 @@ use crate::generate::damage::damaged;
 use crate::generate::rows::{spelled, table};
 use crate::generate::Random;
 use crate::model::converter::{Piece, Rows, EVERY_KIND_OF_ROWS};
+use crate::model::text::is_white_space;
 use crate::model::{Length, Written};
 use Rows::{Binary, Binary2, TableData};
 
@@ -21,13 +22,12 @@ fn tells(fields: &str, from: Rows, to: Rows, input: &[u8], room: usize, six: [u6
 
 #[test]
 fn white_space_before_a_refused_row_belongs_to_it() {
-    for to in EVERY_KIND_OF_ROWS {
+    let refused = [("<TR><TD>x</TD></TR>", 11, 0), ("<td>", 10, 0), ("<TR><TD>7</TD>\n</TR", 10, 1), ("<TR>\n<TD>7 8</TD></TR>", 12, 0)];
+    for (to, bytes) in [(TableData, 20), (Binary, 2), (Binary2, 3)] {
         for (space, before) in [("", 0), (" \t", 2), ("\r\n\r\n ", 5)] {
-            for (row, number) in [("<TR><TD>x</TD></TR>", 11), ("<td>", 10), ("<TR><TD>7</TD>\n</TR", 10), ("<TR>\n<TD>7 8</TD></TR>", 12)] {
-                let column = u64::from(row.ends_with("</TR"));
+            for (row, number, column) in refused {
                 tells(SHORT, TableData, to, format!("{space}{row}").as_bytes(), 90, [number, 0, column, 0, 0, 0]);
                 let input = format!("{space}<TR><TD>7</TD></TR\n>{space}{row}{space}");
-                let bytes = [20, 2, 3][to.number() as usize];
                 tells(SHORT, TableData, to, input.as_bytes(), 90, [number, 1, column, 1, bytes, before + 20]);
             }
         }
@@ -141,7 +141,7 @@ fn small_nights(seed: u64, each: impl Fn(Case, Piece)) {
 
 #[test]
 fn new_room_of_any_size_goes_on_to_what_one_call_gives() {
-    for seed in seeds(80_000_000, 30) {
+    for seed in seeds(80_000_000, 20) {
         small_nights(seed, |case, whole| {
             let enough = whole.written.bytes.len();
             for room in 0..=enough {
@@ -153,13 +153,17 @@ fn new_room_of_any_size_goes_on_to_what_one_call_gives() {
 
 #[test]
 fn a_table_that_comes_in_two_parts_goes_on_to_what_one_call_gives() {
-    for seed in seeds(81_000_000, 60) {
+    for seed in seeds(81_000_000, 40) {
         small_nights(seed, |case, whole| {
             let enough = whole.written.bytes.len();
             for cut in 0..=case.input.len() {
                 let front = Case { input: &case.input[..cut], ..case }.agree_on_piece(enough);
                 let rest = Case { input: &case.input[front.place..], ..case }.agree_on_piece(enough - front.written.bytes.len());
-                assert_eq!(together(front, rest), whole, "seed {seed}, cut at {cut}: {}", case.input.escape_ascii());
+                let both = together(front, rest);
+                let told = format!("seed {seed}, cut at {cut}: {}", case.input.escape_ascii());
+                assert_eq!(both.written, whole.written, "{told}");
+                // A front that ends in white space is accepted with it, and the refused row behind it begins without.
+                assert!(case.input[whole.place..both.place].iter().all(|byte| is_white_space(*byte)), "{told}");
             }
         });
     }
