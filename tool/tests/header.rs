@@ -71,6 +71,7 @@ int main(void) {
                              TEXT("\n<TR><TD>9</TD></TR>\n"), out + 2, 6, answer);
     IS(SAILMORTAR_ACCEPTED, 0, 0, 1, 2);
     if (answer[SAILMORTAR_END] != 21 || out[1] != 8 || out[3] != 9 || out[4] != 0xEE) return __LINE__;
+    memset(out, 0xEE, sizeof out);
     sailmortar_base64_decode(TEXT("Zh=="), out, 8, answer);
     IS(SAILMORTAR_BASE64_NOT_VALID, 0, 0, 0, 0);
     sailmortar_base64_decode(TEXT("Zm9v"), out, 2, answer);
