@@ -1,5 +1,5 @@
 /*
- * The sample night from C: text to BINARY2, BINARY2 to base64, and a cut file.
+ * The sample night from C: text to BINARY2, BINARY2 to base64, and a night of which the end is still to come.
  *
  *     cc -I include examples/night.c target/library/libsailmortar.a -o night && ./night
  */
@@ -18,15 +18,16 @@ static const char night[] =
     "<TR><TD>7</TD><TD>a&amp;b</TD><TD>T</TD></TR>\n"
     "<TR><TD/><TD>dusk</TD><TD/></TR>\n";
 
-static void convert(uint32_t from, uint32_t to, const void *rows, size_t length, uint8_t *out, size_t room, uint64_t answer[5]) {
-    sailmortar_convert((const uint8_t *)fields, strlen(fields), from, to, rows, length, out, room, answer);
+static void convert(uint32_t from, uint32_t to, const void *rows, size_t length, uint8_t *out, size_t room, uint64_t answer[6]) {
+    sailmortar_convert_piece((const uint8_t *)fields, strlen(fields), from, to, rows, length, out, room, answer);
     printf("number %" PRIu64 ", row %" PRIu64 ", column %" PRIu64 ", rows %" PRIu64 ", bytes %" PRIu64 "\n", answer[SAILMORTAR_NUMBER],
            answer[SAILMORTAR_ROW], answer[SAILMORTAR_COLUMN], answer[SAILMORTAR_ROWS], answer[SAILMORTAR_BYTES]);
 }
 
 int main(void) {
     uint8_t binary2[64], letters[64], text[256];
-    uint64_t answer[5], encoded[5];
+    uint64_t answer[6], encoded[5];
+    size_t end;
 
     sailmortar_declare((const uint8_t *)fields, strlen(fields), answer);
     printf("columns %" PRIu64 "\n", answer[SAILMORTAR_COLUMNS]);
@@ -41,5 +42,10 @@ int main(void) {
     /* The last byte is missing: the first row stands, and the answer says where it went wrong. */
     convert(SAILMORTAR_BINARY2, SAILMORTAR_TABLEDATA, binary2, 15, text, sizeof text, answer);
     printf("%.*s", (int)answer[SAILMORTAR_BYTES], (const char *)text);
-    return answer[SAILMORTAR_NUMBER] == SAILMORTAR_STREAM_ENDS ? 0 : 1;
+
+    /* Once it is here, the night goes on where the rows done end. */
+    end = answer[SAILMORTAR_END];
+    convert(SAILMORTAR_BINARY2, SAILMORTAR_TABLEDATA, binary2 + end, 16 - end, text, sizeof text, answer);
+    printf("%.*s", (int)answer[SAILMORTAR_BYTES], (const char *)text);
+    return answer[SAILMORTAR_NUMBER] == SAILMORTAR_ACCEPTED ? 0 : 1;
 }

@@ -27,13 +27,12 @@ from __future__ import annotations
 
 import ctypes
 import enum
-import itertools
 import mmap
 import os
 import pathlib
 import re
 import struct
-from typing import TYPE_CHECKING, Callable, Dict, Iterable, List, NamedTuple, Optional, Tuple, Union
+from typing import TYPE_CHECKING, Callable, Dict, List, NamedTuple, Optional, Tuple, Union
 
 if TYPE_CHECKING:
     from typing_extensions import Buffer  # Type checkers know it without the package.
@@ -132,8 +131,8 @@ class Refused(ValueError):
         self.output = output
         """The rows before the refused one, converted."""
         self.offset = offset
-        """The byte of the input where the refused row begins, which is where the row before it ends; 0 where no row was read (1 to 7). It is
-        found by a walk over the rows before, which takes a second for some millions of rows."""
+        """The byte of the input where the refused row begins, which is where the row before it ends: white space before a row of TABLEDATA
+        belongs to that row. It is 0 where no row was read (1 to 7)."""
         self.name = name
         """The name of the refused column, where it has one and a cell of it is refused: no flags, and no start or end of a row."""
         super().__init__(self._words())
@@ -164,17 +163,20 @@ def convert(fields: Buffer, source: Union[Rows, str], target: Union[Rows, str], 
 
     `fields` is the text of the FIELD elements, `rows` the rows without the tags around them, base64 already decoded. A refusal is raised as
     Refused, with the rows before the bad one in its `output`. Where the system has no memory for the output it is a MemoryError.
+
+    `rows` may be a piece of a table, such as its front while the rest is still to come: a row that is cut is refused (8, of TABLEDATA 10),
+    and the next piece begins at the refusal's `offset`, with what has come since.
     """
     kinds = Rows.named(source), Rows.named(target)
     with _view("fields", fields) as text, _view("rows", rows) as given:
         declared = _columns(text)
 
-        def call(out: Optional[int], room: int, five: object) -> None:
-            _library.sailmortar_convert(_address(text), text.nbytes, *kinds, _address(given), given.nbytes, out, room, five)
+        def call(out: Optional[int], room: int, numbers: object) -> None:
+            _library.sailmortar_convert_piece(_address(text), text.nbytes, *kinds, _address(given), given.nbytes, out, room, numbers)
 
-        answer, output = _answered(call, 2 * given.nbytes + 4096, _room(declared, *kinds, given.nbytes))
+        answer, end, output = _answered(call, 2 * given.nbytes + 4096, _room(declared, *kinds, given.nbytes))
         if answer.number:
-            raise _refused(answer, output, declared, kinds[0], given)
+            raise Refused(answer, output, end, _refused_name(answer, end, declared, kinds[0], given))
         return output
 
 
@@ -203,16 +205,16 @@ def columns(fields: Buffer) -> List[Column]:
 
 
 def _base64_step(function: Callable[..., None], given: memoryview, enough: int) -> bytes:
-    answer, output = _answered(lambda out, room, five: function(_address(given), given.nbytes, out, room, five), enough, enough)
+    answer, _, output = _answered(lambda out, room, numbers: function(_address(given), given.nbytes, out, room, numbers), enough, enough)
     if answer.number:
         raise Refused(answer)
     return output
 
 
 def _declare(text: memoryview) -> int:
-    five = _Five()
-    _library.sailmortar_declare(_address(text), text.nbytes, five)
-    number, _, place, count, _ = five
+    numbers = _Numbers()
+    _library.sailmortar_declare(_address(text), text.nbytes, numbers)
+    number, _, place, count, *_ = numbers
     if number:
         raise Refused(Answer(number, 0, place, 0, 0))
     return count
@@ -278,7 +280,7 @@ def _address(view: memoryview) -> Optional[int]:
 
 # Room for what is written.
 
-_Five = ctypes.c_uint64 * 5
+_Numbers = ctypes.c_uint64 * 6  # The sixth is the place where the rows done end; a call without rows leaves it 0.
 _Call = Callable[[Optional[int], int, object], None]
 
 # Room takes no memory before it is written to. The system gives as much as it has memory, and not as much as a call could take at worst:
@@ -286,28 +288,30 @@ _Call = Callable[[Optional[int], int, object], None]
 _FRESH = mmap.MAP_PRIVATE | mmap.MAP_ANONYMOUS
 
 
-def _answered(call: _Call, less: int, enough: int) -> Tuple[Answer, bytes]:
-    """What a call answers and writes: in room enough or, where the system does not give so much, in `less` and then in more and more."""
+def _answered(call: _Call, less: int, enough: int) -> Tuple[Answer, int, bytes]:
+    """What a call answers, where the rows done end, and what it writes: in room enough or, where the system does not give so much, in `less`
+    and then in more and more."""
     room = enough if _is_given(enough) else min(less, enough)
-    answer, output = _called(call, room)
+    answer, end, output = _called(call, room)
     while answer.number == _NO_ROOM:
         room = 2 * room + 1
-        answer, output = _called(call, room)
-    return answer, output
+        answer, end, output = _called(call, room)
+    return answer, end, output
 
 
-def _called(call: _Call, room: int) -> Tuple[Answer, bytes]:
-    """What a call answers and writes in so much room."""
-    five = _Five()
+def _called(call: _Call, room: int) -> Tuple[Answer, int, bytes]:
+    """The same in so much room."""
+    numbers = _Numbers()
     with _mapping(room) as mapping:
         with memoryview(mapping) as out:
-            call(_address(out), room, five)
+            call(_address(out), room, numbers)
+        *five, end = numbers
         answer = Answer(*five)
         if answer.number == _NO_ROOM:
-            return answer, b""
+            return answer, end, b""
         # What is left over goes back first: where address space is short, the copy may need it.
         mapping.resize(max(answer.bytes, 1))
-        return answer, mapping[: answer.bytes]
+        return answer, end, mapping[: answer.bytes]
 
 
 def _mapping(room: int) -> mmap.mmap:
@@ -436,21 +440,17 @@ def _integer(kind: str, word: bytes) -> int:
     return value - patterns if kind != "unsignedByte" and value >= patterns // 2 else value
 
 
-# Where a refused row begins. The answer does not say it: it is where the rows before end, and those the converter accepted.
-
-_ROW_END = re.compile(rb"</TR" + _SPACE + b">")  # An accepted cell has no `<` in it.
-_COUNT = struct.Struct(">I")
-
-
-def _refused(answer: Answer, output: bytes, declared: List[Column], source: Rows, given: memoryview) -> Refused:
-    if answer.number < _FIRST_OF_ROWS:
-        return Refused(answer, output)
-    offset = _end_of_rows(declared, source, given, answer.rows)
-    is_cell = answer.column < len(declared) and (answer.column > 0 or _reaches_cells(answer.number, declared, source, given, offset))
-    return Refused(answer, output, offset, declared[answer.column].name if is_cell else None)
-
+# Whether a cell is refused, or what stands around the cells.
 
 _ROW_START = re.compile(_SPACE + b"<TR" + _SPACE + b">")
+
+
+def _refused_name(answer: Answer, offset: int, declared: List[Column], source: Rows, given: memoryview) -> Optional[str]:
+    """The name of the refused column, where a cell of it is refused."""
+    if answer.number < _FIRST_OF_ROWS or answer.column >= len(declared):
+        return None
+    is_cell = answer.column > 0 or _reaches_cells(answer.number, declared, source, given, offset)
+    return declared[answer.column].name if is_cell else None
 
 
 def _reaches_cells(number: int, declared: List[Column], source: Rows, given: memoryview, offset: int) -> bool:
@@ -463,39 +463,6 @@ def _reaches_cells(number: int, declared: List[Column], source: Rows, given: mem
         return False
     (flags,) = struct.unpack_from(f"{length}s", given, offset)
     return not int.from_bytes(flags, "big") & ((1 << -len(declared) % 8) - 1 if flags else 0)
-
-
-def _end_of_rows(declared: List[Column], source: Rows, given: memoryview, rows: int) -> int:
-    """Where so many accepted rows end."""
-    if rows == 0:
-        return 0
-    if source is Rows.TABLEDATA:
-        return next(itertools.islice(_ROW_END.finditer(given), rows - 1, None)).end()
-    start, steps = _steps(_around(source, declared), declared)
-    return _end_of_counted_rows(start, steps, given, rows) if steps else start * rows
-
-
-def _steps(flags: int, declared: List[Column]) -> Tuple[int, List[Tuple[int, int]]]:
-    """The bytes of a row before its first count; and for each counted column the bits of an element, and the bytes beside its content up to
-    the next count: its own count, the fixed cells behind it and, where it is the last, the next row up to its first count."""
-    start, steps = flags, []
-    for column in declared:
-        if _is_counted(column):
-            steps.append((_ELEMENTS[column.kind].bits, 4))
-        elif steps:
-            steps[-1] = steps[-1][0], steps[-1][1] + _fixed_bytes(column)
-        else:
-            start += _fixed_bytes(column)
-    if steps:
-        steps[-1] = steps[-1][0], steps[-1][1] + start
-    return start, steps
-
-
-def _end_of_counted_rows(start: int, steps: Iterable[Tuple[int, int]], given: memoryview, rows: int) -> int:
-    at, count_at = start, _COUNT.unpack_from
-    for bits, between in itertools.chain.from_iterable(itertools.repeat(steps, rows)):
-        at += (count_at(given, at)[0] * bits + 7) // 8 + between
-    return at - start
 
 
 # The library.
@@ -541,12 +508,12 @@ def _check_version(library: ctypes.CDLL, found: str) -> None:
 
 def _declare_types(library: ctypes.CDLL) -> None:
     part = [ctypes.c_void_p, ctypes.c_size_t]
-    five = [ctypes.POINTER(ctypes.c_uint64)]
-    library.sailmortar_convert.argtypes = part + [ctypes.c_uint32, ctypes.c_uint32] + part + part + five
-    library.sailmortar_base64_decode.argtypes = part + part + five
-    library.sailmortar_base64_encode.argtypes = part + part + five
-    library.sailmortar_declare.argtypes = part + five
-    for function in ("convert", "base64_decode", "base64_encode", "declare"):
+    numbers = [ctypes.POINTER(ctypes.c_uint64)]
+    library.sailmortar_convert_piece.argtypes = part + [ctypes.c_uint32, ctypes.c_uint32] + part + part + numbers
+    library.sailmortar_base64_decode.argtypes = part + part + numbers
+    library.sailmortar_base64_encode.argtypes = part + part + numbers
+    library.sailmortar_declare.argtypes = part + numbers
+    for function in ("convert_piece", "base64_decode", "base64_encode", "declare"):
         getattr(library, "sailmortar_" + function).restype = None
 
 

@@ -129,6 +129,20 @@ class Offset(unittest.TestCase):
         rows = b"\n <TR><TD>7</TD></TR\t>\r\n<TR><TD>x</TD></TR>"
         self.assertEqual(refusal(sailmortar.convert, SHORT, "tabledata", "binary", rows).offset, rows.index(b"\r"))
 
+    def test_a_table_that_comes_in_two_parts_goes_on_at_the_offset(self):
+        random.seed(20261118)
+        for turn in range(60):
+            columns, source = random_rows.any_columns(random.choice((1, 2, 3, 9))), Rows(turn % 3)
+            text = random_rows.fields(columns)
+            rows = b"".join(random_rows.spelled(columns, source, random.choice(random_rows.STYLES)) for _ in range(3))
+            whole = sailmortar.convert(text, source, Rows.BINARY2, rows)
+            for cut in range(0, len(rows), 1 + len(rows) // 97):
+                try:
+                    output, offset = sailmortar.convert(text, source, Rows.BINARY2, rows[:cut]), cut
+                except Refused as refused:
+                    output, offset = refused.output, refused.offset
+                self.assertEqual(output + sailmortar.convert(text, source, Rows.BINARY2, rows[offset:]), whole, (columns, source, cut))
+
     def test_where_the_rows_lie_in_several_pieces_the_offset_counts_their_bytes(self):
         rows = b"\0\0\0\1a\0\0\0\2"
         spread = memoryview(bytes(byte for byte in rows for _ in range(2)))[::2]

@@ -75,7 +75,8 @@ pub struct Refused {
     pub rows: u64,
     /// How many bytes they take; every byte of a lent buffer after them is as it was.
     pub bytes: u64,
-    /// Where in the input those rows end and the refused row begins. White space before a row of TABLEDATA belongs to that row.
+    /// Where in the input those rows end and the refused row begins. White space before a row of TABLEDATA belongs to that row. It is 0 where
+    /// no row was read (1 to 7).
     pub offset: usize,
 }
 

@@ -215,11 +215,7 @@ fn is_space(byte: u8) -> bool {
     matches!(byte, 9 | 10 | 13 | 32)
 }
 
-/// How many bytes of white space stand at the start of a text.
-pub(crate) fn leading_space(text: &[u8]) -> usize {
-    text.iter().take_while(|byte| is_space(**byte)).count()
-}
-
 fn without_space(text: &[u8]) -> &[u8] {
-    &text[leading_space(text)..]
+    let space = text.iter().take_while(|byte| is_space(**byte)).count();
+    &text[space..]
 }

@@ -32,7 +32,6 @@ mod numbers;
 mod pieces;
 mod proved;
 mod stream;
-mod walk;
 
 pub use answer::{Done, Error, Refused, Rows};
 pub use base64::{base64_decode_to_vec, base64_encode_to_vec, Base64Writer};

@@ -2,11 +2,11 @@
 
 use std::mem::MaybeUninit;
 
-use crate::walk::Walk;
 use crate::{Done, Refused, Rows};
 
+// `sailmortar_convert` is `sailmortar_convert_piece` without the place, which a refusal tells here.
 extern "C" {
-    fn sailmortar_convert(
+    fn sailmortar_convert_piece(
         decls: *const u8,
         decls_length: usize,
         from: u32,
@@ -15,7 +15,7 @@ extern "C" {
         input_length: usize,
         out: *mut u8,
         out_length: usize,
-        answer: *mut [u64; 5],
+        answer: *mut [u64; 6],
     );
     fn sailmortar_base64_decode(input: *const u8, input_length: usize, out: *mut u8, out_length: usize, answer: *mut [u64; 5]);
     fn sailmortar_base64_encode(input: *const u8, input_length: usize, out: *mut u8, out_length: usize, answer: *mut [u64; 5]);
@@ -39,24 +39,22 @@ fn behind(out: &mut Vec<u8>, call: impl FnOnce(&mut Room) -> Result<Done, Refuse
     answer
 }
 
-fn outcome(answer: [u64; 5]) -> Result<Done, Refused> {
-    match answer {
-        [0, _, _, rows, bytes] => Ok(Done { rows, bytes }),
-        [number, row, column, rows, bytes] => Err(Refused { number, row, column, rows, bytes, offset: 0 }),
+fn outcome([number, row, column, rows, bytes]: [u64; 5], offset: u64) -> Result<Done, Refused> {
+    match number {
+        0 => Ok(Done { rows, bytes }),
+        _ => Err(Refused { number, row, column, rows, bytes, offset: offset as usize }),
     }
 }
 
-/// The answer has no number for the place where the rows done end: it is found by a walk over them.
 fn convert_in(decls: &[u8], from: Rows, to: Rows, input: &[u8], out: &mut Room) -> Result<Done, Refused> {
-    let (from_number, to_number) = (from.number(), to.number());
-    let mut answer = [0; 5];
+    let mut answer = [0; 6];
     // SAFETY: each pointer and length is a slice's own, and `out` and `answer` are lent to this call alone.
     unsafe {
-        sailmortar_convert(
+        sailmortar_convert_piece(
             decls.as_ptr(),
             decls.len(),
-            from_number,
-            to_number,
+            from.number(),
+            to.number(),
             input.as_ptr(),
             input.len(),
             out.as_mut_ptr().cast(),
@@ -64,27 +62,31 @@ fn convert_in(decls: &[u8], from: Rows, to: Rows, input: &[u8], out: &mut Room) 
             &mut answer,
         );
     }
-    outcome(answer).map_err(|refused| Refused { offset: Walk::offset(decls, from, input, refused.rows), ..refused })
+    let [five @ .., offset] = answer;
+    outcome(five, offset)
 }
 
 fn decode_in(input: &[u8], out: &mut Room) -> Result<Done, Refused> {
     let mut answer = [0; 5];
     // SAFETY: as in `convert_in`.
     unsafe { sailmortar_base64_decode(input.as_ptr(), input.len(), out.as_mut_ptr().cast(), out.len(), &mut answer) };
-    outcome(answer)
+    outcome(answer, 0)
 }
 
 fn encode_in(input: &[u8], out: &mut Room) -> Result<Done, Refused> {
     let mut answer = [0; 5];
     // SAFETY: as in `convert_in`.
     unsafe { sailmortar_base64_encode(input.as_ptr(), input.len(), out.as_mut_ptr().cast(), out.len(), &mut answer) };
-    outcome(answer)
+    outcome(answer, 0)
 }
 
 /// Converts rows, from the kind `from` to the kind `to`, into `out`.
 ///
 /// `decls` is the text of the FIELD elements. Accepted or refused, the rows done stand whole in `out`, and every byte after them is as it
 /// was. A row that does not fit is refusal 17; [`convert_to_vec`](crate::convert_to_vec) makes the room itself.
+///
+/// The input may be a piece of a table, such as its front while the rest is still to come: a row that is cut is refused (8, of TABLEDATA
+/// 10), and the next piece begins at the refusal's `offset`, with what has come since.
 pub fn convert(decls: &[u8], from: Rows, to: Rows, input: &[u8], out: &mut [u8]) -> Result<Done, Refused> {
     convert_in(decls, from, to, input, room_of(out))
 }

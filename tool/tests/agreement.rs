@@ -9,11 +9,13 @@ mod generate;
 mod model;
 
 mod agreement {
+    mod archive;
     mod base64;
     mod cells;
     mod compare;
     mod declarations;
     mod library;
+    mod pieces;
     mod room;
     mod rows;
     mod rules;

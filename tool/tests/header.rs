@@ -33,7 +33,9 @@ fn the_example_runs() {
         <TR><TD>7</TD><TD>a&amp;b</TD><TD>T</TD></TR>\n\
         <TR><TD/><TD>dusk</TD><TD/></TR>\n\
         number 8, row 1, column 2, rows 1, bytes 46\n\
-        <TR><TD>7</TD><TD>a&amp;b</TD><TD>T</TD></TR>\n";
+        <TR><TD>7</TD><TD>a&amp;b</TD><TD>T</TD></TR>\n\
+        number 0, row 0, column 0, rows 1, bytes 33\n\
+        <TR><TD/><TD>dusk</TD><TD/></TR>\n";
     assert_eq!(String::from_utf8_lossy(&output.stdout), said);
     assert!(output.status.success());
 }
@@ -47,7 +49,7 @@ const CASES: &str = r#"
 #define TEXT(text) (const uint8_t *)(text), strlen(text)
 int main(void) {
     uint8_t out[8];
-    uint64_t answer[5];
+    uint64_t answer[6] = {0, 0, 0, 0, 0, 77};
     memset(out, 0xEE, sizeof out);
     sailmortar_convert(TEXT("<FIELD datatype='int'/>"), 3, SAILMORTAR_BINARY, TEXT(""), out, 8, answer);
     IS(SAILMORTAR_NO_SUCH_KIND, 0, 0, 0, 0);
@@ -57,6 +59,19 @@ int main(void) {
                        TEXT("<TR><TD>7</TD></TR><TR><TD/></TR>"), out, 8, answer);
     IS(SAILMORTAR_NULL_HAS_NO_FORM, 1, 0, 1, 2);
     if (out[0] != 0 || out[1] != 7 || out[2] != 0xEE || out[7] != 0xEE) return __LINE__;
+    if (answer[SAILMORTAR_END] != 77) return __LINE__;
+    sailmortar_convert_piece(TEXT(""), SAILMORTAR_BINARY2, 3, TEXT(""), out, 8, answer);
+    IS(255, 0, 0, 0, 0);
+    if (answer[SAILMORTAR_END] != 0) return __LINE__;
+    sailmortar_convert_piece(TEXT("<FIELD datatype='short'/>"), SAILMORTAR_TABLEDATA, SAILMORTAR_BINARY,
+                             TEXT("<TR><TD>8</TD></TR>\n<TR><TD>9</T"), out, 8, answer);
+    IS(SAILMORTAR_TABLEDATA_BROKEN, 1, 0, 1, 2);
+    if (answer[SAILMORTAR_END] != 19 || out[1] != 8 || out[2] != 0xEE) return __LINE__;
+    sailmortar_convert_piece(TEXT("<FIELD datatype='short'/>"), SAILMORTAR_TABLEDATA, SAILMORTAR_BINARY,
+                             TEXT("\n<TR><TD>9</TD></TR>\n"), out + 2, 6, answer);
+    IS(SAILMORTAR_ACCEPTED, 0, 0, 1, 2);
+    if (answer[SAILMORTAR_END] != 21 || out[1] != 8 || out[3] != 9 || out[4] != 0xEE) return __LINE__;
+    memset(out, 0xEE, sizeof out);
     sailmortar_base64_decode(TEXT("Zh=="), out, 8, answer);
     IS(SAILMORTAR_BASE64_NOT_VALID, 0, 0, 0, 0);
     sailmortar_base64_decode(TEXT("Zm9v"), out, 2, answer);
@@ -73,7 +88,7 @@ int main(void) {
     IS(SAILMORTAR_DATATYPE_NOT_CARRIED, 0, 1, 0, 0);
     if (answer[SAILMORTAR_PLACE] != 1 || answer[SAILMORTAR_COLUMNS] != 0) return __LINE__;
     if (SAILMORTAR_NUMBER != 0 || SAILMORTAR_ROW != 1 || SAILMORTAR_COLUMN != 2) return __LINE__;
-    if (SAILMORTAR_ROWS != 3 || SAILMORTAR_BYTES != 4) return __LINE__;
+    if (SAILMORTAR_ROWS != 3 || SAILMORTAR_BYTES != 4 || SAILMORTAR_END != 5) return __LINE__;
     if (SAILMORTAR_DECLARATIONS_BROKEN != 1 || SAILMORTAR_ARRAYSIZE_NOT_CARRIED != 3 || SAILMORTAR_NULL_NO_VALUE != 4) return __LINE__;
     if (SAILMORTAR_COLUMNS_OUT_OF_RANGE != 5 || SAILMORTAR_INPUT_OVER_SIZE != 6 || SAILMORTAR_STREAM_ENDS != 8) return __LINE__;
     if (SAILMORTAR_COUNT_OVER_BOUND != 9 || SAILMORTAR_TABLEDATA_BROKEN != 10 || SAILMORTAR_NO_VALUE != 11) return __LINE__;
@@ -144,23 +159,24 @@ static const uint8_t decls[] = "<FIELD datatype='short'/>";
 static const uint8_t row[3][20] = {"<TR><TD>7</TD></TR>", {0, 7}, {0, 0, 7}};
 static const size_t length[3] = {19, 2, 3};
 static uint8_t out[64] = {0xEE};
-static uint64_t answer[5];
-static int nulls_in_rows(uint32_t from, uint32_t to) {
-    sailmortar_convert(NULL, 0, from, to, row[from], length[from], out, sizeof out, answer);
+static uint64_t answer[6];
+typedef void conversion(const uint8_t *, size_t, uint32_t, uint32_t, const uint8_t *, size_t, uint8_t *, size_t, uint64_t *);
+static int nulls_in_rows(conversion *convert, uint32_t from, uint32_t to) {
+    convert(NULL, 0, from, to, row[from], length[from], out, sizeof out, answer);
     IS(SAILMORTAR_COLUMNS_OUT_OF_RANGE);
-    sailmortar_convert(decls, sizeof decls - 1, from, to, NULL, 0, out, sizeof out, answer);
+    convert(decls, sizeof decls - 1, from, to, NULL, 0, out, sizeof out, answer);
     IS(SAILMORTAR_ACCEPTED);
-    sailmortar_convert(decls, sizeof decls - 1, from, to, row[from], length[from], NULL, 0, answer);
+    convert(decls, sizeof decls - 1, from, to, row[from], length[from], NULL, 0, answer);
     IS(SAILMORTAR_NO_ROOM);
-    sailmortar_convert(decls, sizeof decls - 1, from, to, NULL, 0, NULL, 0, answer);
+    convert(decls, sizeof decls - 1, from, to, NULL, 0, NULL, 0, answer);
     IS(SAILMORTAR_ACCEPTED);
-    sailmortar_convert(NULL, 0, from, to, NULL, 0, NULL, 0, answer);
+    convert(NULL, 0, from, to, NULL, 0, NULL, 0, answer);
     IS(SAILMORTAR_COLUMNS_OUT_OF_RANGE);
+    convert(NULL, 0, 3, to, NULL, 0, NULL, 0, answer);
+    IS(SAILMORTAR_NO_SUCH_KIND);
     return 0;
 }
 static int nulls_elsewhere(void) {
-    sailmortar_convert(NULL, 0, 3, 3, NULL, 0, NULL, 0, answer);
-    IS(SAILMORTAR_NO_SUCH_KIND);
     sailmortar_base64_decode(NULL, 0, out, sizeof out, answer);
     IS(SAILMORTAR_ACCEPTED);
     sailmortar_base64_decode((const uint8_t *)"Zg==", 4, NULL, 0, answer);
@@ -179,7 +195,8 @@ static int nulls_elsewhere(void) {
 }
 int main(void) {
     int wrong = nulls_elsewhere();
-    for (uint32_t way = 0; way < 9 && wrong == 0; way++) wrong = nulls_in_rows(way / 3, way % 3);
+    for (uint32_t way = 0; way < 9 && wrong == 0; way++) wrong = nulls_in_rows(sailmortar_convert, way / 3, way % 3);
+    for (uint32_t way = 0; way < 9 && wrong == 0; way++) wrong = nulls_in_rows(sailmortar_convert_piece, way / 3, way % 3);
     return wrong;
 }
 "#;

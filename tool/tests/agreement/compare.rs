@@ -1,6 +1,7 @@
 //! One call of the proved code beside one of the model.
 
-use crate::model::converter::{self, Rows};
+use super::archive;
+use crate::model::converter::{self, Piece, Rows};
 use crate::model::{base64, Answer, Written};
 use std::fmt::Write;
 
@@ -32,23 +33,37 @@ impl Case<'_> {
         converter::convert(self.declarations, self.from, self.to, self.input, usize::MAX)
     }
 
-    /// Compares one call in each of two fillings of the room; hands out the answer.
+    /// Compares the archive's two calls; hands out the answer.
     pub fn agree(&self, room: usize) -> Answer {
-        let model = converter::convert(self.declarations, self.from, self.to, self.input, room);
-        let (from, to) = (proved_rows(self.from), proved_rows(self.to));
-        let call = |out: &mut [u8]| numbers(sailmortar::convert(self.declarations, from, to, self.input, out));
-        if let Err(difference) = compare(&model, room, call) {
-            let texts = [("declarations", self.declarations), ("input", self.input)];
-            let call = format!("convert from {:?} to {:?}, room {room}", self.from, self.to);
-            panic!("{}", report(&call, self.seed, &texts, &difference));
-        }
-        model.answer
+        self.agree_on_piece(room).written.answer
+    }
+
+    /// The same; hands out all that the model says.
+    pub fn agree_on_piece(&self, room: usize) -> Piece {
+        agree_by_numbers(self.declarations, self.from.number(), self.to.number(), self.input, room, self.seed)
     }
 
     /// Compares with exactly the room that is needed; hands out the answer.
     pub fn agree_with_room_enough(&self) -> Answer {
         self.agree(self.with_room_enough().bytes.len())
     }
+}
+
+/// Compares the archive's two calls between kinds of rows by their numbers, whether they are any's or not; hands out
+/// what the model says.
+pub fn agree_by_numbers(declarations: &[u8], from: u32, to: u32, input: &[u8], room: usize, seed: u64) -> Piece {
+    let model = converter::convert_numbered(declarations, from, to, input, room);
+    let (bytes, both) = (&model.written.bytes, &FILLINGS);
+    let of_six = compare(model.six(), bytes, room, both, |out| archive::convert_piece(declarations, from, to, input, out));
+    // It has the same loop: a byte that is written would have to be the one that stands there, each time, not to show.
+    let of_five = compare(model.written.answer, bytes, room, &both[..1], |out| archive::convert(declarations, from, to, input, out));
+    for (call, compared) in [("convert_piece", of_six), ("convert", of_five)] {
+        if let Err(difference) = compared {
+            let call = format!("{call} from {from} to {to}, room {room}");
+            panic!("{}", report(&call, seed, &[("declarations", declarations), ("input", input)], &difference));
+        }
+    }
+    model
 }
 
 /// Compares what `declare` and a conversion say of these declarations; hands out what `declare` does.
@@ -74,7 +89,7 @@ pub fn agree_on_declarations(declarations: &[u8], seed: u64) -> Answer {
 pub fn agree_on_decoding(input: &[u8], room: usize, seed: u64) -> Answer {
     let model = base64::decode(input, room);
     let call = |out: &mut [u8]| numbers(sailmortar::base64_decode(input, out));
-    if let Err(difference) = compare(&model, room, call) {
+    if let Err(difference) = compare(model.answer, &model.bytes, room, &FILLINGS, call) {
         let call = format!("base64_decode, room {room}");
         panic!("{}", report(&call, seed, &[("input", input)], &difference));
     }
@@ -84,7 +99,7 @@ pub fn agree_on_decoding(input: &[u8], room: usize, seed: u64) -> Answer {
 pub fn agree_on_encoding(input: &[u8], room: usize, seed: u64) -> Answer {
     let model = base64::encode(input, room);
     let call = |out: &mut [u8]| numbers(sailmortar::base64_encode(input, out));
-    if let Err(difference) = compare(&model, room, call) {
+    if let Err(difference) = compare(model.answer, &model.bytes, room, &FILLINGS, call) {
         let call = format!("base64_encode, room {room}");
         panic!("{}", report(&call, seed, &[("input", input)], &difference));
     }
@@ -106,24 +121,38 @@ pub fn numbers(answer: Result<sailmortar::Done, sailmortar::Refused>) -> Answer 
     }
 }
 
-/// The same of a call that makes its own room; the system says no to none of these.
-pub fn numbers_of(answer: Result<sailmortar::Done, sailmortar::Error>) -> Answer {
-    numbers(answer.map_err(|error| *error.refused().unwrap_or_else(|| panic!("{error}"))))
+/// The refusal of a call that makes its own room; the system says no to none of these.
+pub fn refusal(error: sailmortar::Error) -> sailmortar::Refused {
+    *error.refused().unwrap_or_else(|| panic!("{error}"))
+}
+
+/// The numbers of a conversion, and the place where the rows done end: a refusal's own, or the length of the input.
+pub fn six(answer: Result<sailmortar::Done, sailmortar::Refused>, length: usize) -> [u64; 6] {
+    let [number, row, column, rows, bytes] = numbers(answer);
+    [number, row, column, rows, bytes, answer.map_or_else(|refused| refused.offset, |_| length) as u64]
 }
 
 /// Two fillings that differ in every byte, so that a byte which is written shows in one of them.
+const FILLINGS: [u8; 2] = [0x5a, 0xa5];
+
 fn filled(size: usize, filling: u8) -> Vec<u8> {
     (0..size).map(|place| (place.wrapping_mul(37) >> 1) as u8 ^ filling).collect()
 }
 
-fn compare(model: &Written, room: usize, call: impl Fn(&mut [u8]) -> Answer) -> Result<(), String> {
-    for filling in [0x5a, 0xa5] {
-        let mut proved = filled(room + 2 * FENCE, filling);
+fn compare<const N: usize>(
+    model: [u64; N],
+    bytes: &[u8],
+    room: usize,
+    fillings: &[u8],
+    call: impl Fn(&mut [u8]) -> [u64; N],
+) -> Result<(), String> {
+    for filling in fillings {
+        let mut proved = filled(room + 2 * FENCE, *filling);
         let mut expected = proved.clone();
-        expected[FENCE..FENCE + model.bytes.len()].copy_from_slice(&model.bytes);
+        expected[FENCE..FENCE + bytes.len()].copy_from_slice(bytes);
         let answer = call(&mut proved[FENCE..FENCE + room]);
-        if answer != model.answer {
-            return Err(format!("answer: proved {answer:?}, model {:?}", model.answer));
+        if answer != model {
+            return Err(format!("answer: proved {answer:?}, model {model:?}"));
         }
         if proved != expected {
             let at = proved.iter().zip(&expected).position(|(one, other)| one != other).unwrap_or(0);

@@ -1,6 +1,6 @@
 //! The layer over the proved functions, which is not proved: growing rooms, pieces, and the columns it reads off.
 
-use super::compare::{numbers_of, proved_rows, seeds};
+use super::compare::{numbers, proved_rows, refusal, seeds, six};
 use crate::generate::columns::{declarations, some, spelled_declarations};
 use crate::generate::damage::damaged;
 use crate::generate::rows::{spelled, table};
@@ -41,7 +41,7 @@ fn room_that_grows_is_room_enough() {
             let mut bytes = vec![0xEE; random.below(3)];
             let before = bytes.len();
             let answer = convert_to_vec(&text, proved_rows(from), proved_rows(to), &input, &mut bytes);
-            assert_eq!(numbers_of(answer), expected.answer, "seed {seed}");
+            assert_eq!(numbers(answer.map_err(refusal)), expected.answer, "seed {seed}");
             assert_eq!(bytes.split_at(before), (&[0xEE; 2][..before], &expected.bytes[..]), "seed {seed}");
         }
     }
@@ -55,7 +55,7 @@ fn pieces_are_the_whole() {
         let (columns, input) = stream(&mut random, from, seed);
         let text = declarations(&columns);
         for to in EVERY_KIND_OF_ROWS {
-            let expected = converter::convert(&text, from, to, &input, usize::MAX);
+            let expected = converter::convert_piece(&text, from, to, &input, usize::MAX);
             let room = random.pick(&[0, 1, 7, 30, 100, 1_000]);
             let mut bytes: Vec<u8> = Vec::new();
             let converted = convert_pieces(&text, proved_rows(from), proved_rows(to), &input, room, |piece| {
@@ -64,32 +64,29 @@ fn pieces_are_the_whole() {
                 assert!(piece.read == input.len() || piece.read == end_of_rows(&columns, from, &input, piece.rows), "seed {seed}");
                 Ok(())
             });
-            let rows = expected.answer[3];
             let told = format!("seed {seed} from {from:?} to {to:?}: {}", input.escape_ascii());
-            if let Err(error) = &converted {
-                let refused = error.refused().unwrap_or_else(|| panic!("{error}"));
-                assert_eq!(refused.offset, end_of_rows(&columns, from, &input, rows), "{told}");
-            }
-            assert_eq!(numbers_of(converted), expected.answer, "{told}");
-            assert_eq!(bytes, expected.bytes, "{told}");
+            assert_eq!(six(converted.map_err(refusal), input.len()), expected.six(), "{told}");
+            assert_eq!(bytes, expected.written.bytes, "{told}");
         }
     }
 }
 
 #[test]
-fn a_refusal_tells_where_its_row_begins_at_every_room() {
-    for seed in seeds(74_000_000, 3_000) {
+fn a_conversion_tells_what_the_archive_does_at_every_room() {
+    for seed in seeds(74_000_000, 6_000) {
         let mut random = Random::new(seed);
         let from = random.pick(&EVERY_KIND_OF_ROWS);
         let (columns, input) = stream(&mut random, from, seed);
         let text = declarations(&columns);
         let to = random.pick(&EVERY_KIND_OF_ROWS);
         let whole = converter::convert(&text, from, to, &input, usize::MAX).bytes.len();
-        let mut out = vec![0; random.below(whole + 2)];
-        if let Err(refused) = convert(&text, proved_rows(from), proved_rows(to), &input, &mut out) {
-            let told = format!("seed {seed} from {from:?} to {to:?}: {}", input.escape_ascii());
-            assert_eq!(refused.offset, end_of_rows(&columns, from, &input, refused.rows), "{told}");
-        }
+        let mut out = vec![0xEE; random.below(whole + 2)];
+        let mut expected = out.clone();
+        let model = converter::convert_piece(&text, from, to, &input, out.len());
+        expected[..model.written.bytes.len()].copy_from_slice(&model.written.bytes);
+        let answer = convert(&text, proved_rows(from), proved_rows(to), &input, &mut out);
+        let told = format!("seed {seed} from {from:?} to {to:?}: {}", input.escape_ascii());
+        assert_eq!((six(answer, input.len()), out), (model.six(), expected), "{told}");
     }
 }
 
@@ -146,7 +143,7 @@ fn base64_of_any_size_and_in_pieces() {
         let expected = model::base64::encode(&plain, usize::MAX);
         let mut letters = Vec::new();
         let answer = base64_encode_to_vec(&plain, &mut letters);
-        assert_eq!((numbers_of(answer), &letters), (expected.answer, &expected.bytes), "seed {seed}");
+        assert_eq!((numbers(answer.map_err(refusal)), &letters), (expected.answer, &expected.bytes), "seed {seed}");
         let mut pieces = Base64Writer::new(Vec::new(), 0).expect("memory");
         let step = random.between(1, 9);
         plain.chunks(step).for_each(|piece| pieces.write_all(piece).expect("a Vec takes all"));
@@ -155,6 +152,6 @@ fn base64_of_any_size_and_in_pieces() {
         let expected = model::base64::decode(&letters, usize::MAX);
         let mut bytes = Vec::new();
         let answer = base64_decode_to_vec(&letters, &mut bytes);
-        assert_eq!((numbers_of(answer), bytes), (expected.answer, expected.bytes), "seed {seed}");
+        assert_eq!((numbers(answer.map_err(refusal)), bytes), (expected.answer, expected.bytes), "seed {seed}");
     }
 }

@@ -1,11 +1,12 @@
 //! Tables of several megabytes, and the greatest input there may be.
 
+use super::archive;
 use super::compare::{agree_on_decoding, agree_on_encoding, numbers, seeds, Case};
 use crate::generate::columns::{declarations, some};
 use crate::generate::rows::{spelled, table};
 use crate::generate::Random;
 use crate::model::converter::{Rows, EVERY_KIND_OF_ROWS};
-use crate::model::{Answer, Column, MOST_INPUT};
+use crate::model::{Column, MOST_INPUT};
 
 /// Twenty columns whose cells have a form everywhere, so that every way goes through to the end.
 fn wide(random: &mut Random) -> Vec<Column> {
@@ -56,9 +57,9 @@ fn zeros(size: usize) -> Vec<u8> {
 }
 
 /// Calls with a small room; what is not written must stay.
-fn in_room(room: usize, call: impl Fn(&mut [u8]) -> Result<sailmortar::Done, sailmortar::Refused>) -> (Answer, Vec<u8>) {
+fn in_room<const N: usize>(room: usize, call: impl Fn(&mut [u8]) -> [u64; N]) -> ([u64; N], Vec<u8>) {
     let mut out = vec![0xab; room];
-    let answer = numbers(call(&mut out));
+    let answer = call(&mut out);
     let written = answer[4] as usize;
     assert!(out[written..].iter().all(|byte| *byte == 0xab));
     out.truncate(written);
@@ -70,16 +71,17 @@ fn one_byte_over_the_greatest_input_is_refused() {
     let input = zeros(MOST_INPUT + 1);
     let six = ([6, 0, 0, 0, 0], Vec::new());
     let field = b"<FIELD datatype='char' arraysize='4096'/>";
-    for from in [sailmortar::Rows::TableData, sailmortar::Rows::Binary, sailmortar::Rows::Binary2] {
-        for to in [sailmortar::Rows::TableData, sailmortar::Rows::Binary, sailmortar::Rows::Binary2] {
-            assert_eq!(in_room(9_000, |out| sailmortar::convert(field, from, to, &input, out)), six);
+    for from in 0..3 {
+        for to in 0..3 {
+            assert_eq!(in_room(9_000, |out| archive::convert(field, from, to, &input, out)), six);
+            assert_eq!(in_room(9_000, |out| archive::convert_piece(field, from, to, &input, out)), ([6, 0, 0, 0, 0, 0], Vec::new()));
             // The declarations are judged first, whatever the input.
-            let place_one = in_room(9, |out| sailmortar::convert(b"<FIELD", from, to, &input, out));
-            assert_eq!(place_one, ([1, 0, 0, 0, 0], Vec::new()));
+            assert_eq!(in_room(9, |out| archive::convert(b"<FIELD", from, to, &input, out)), ([1, 0, 0, 0, 0], Vec::new()));
+            assert_eq!(in_room(9, |out| archive::convert_piece(b"<FIELD", from, to, &input, out)), ([1, 0, 0, 0, 0, 0], Vec::new()));
         }
     }
-    assert_eq!(in_room(100, |out| sailmortar::base64_encode(&input, out)), six);
-    assert_eq!(in_room(100, |out| sailmortar::base64_decode(&input, out)), six);
+    assert_eq!(in_room(100, |out| numbers(sailmortar::base64_encode(&input, out))), six);
+    assert_eq!(in_room(100, |out| numbers(sailmortar::base64_decode(&input, out))), six);
 }
 
 #[test]
@@ -89,12 +91,12 @@ fn the_greatest_input_is_taken() {
     let field = b"<FIELD datatype='char' arraysize='4096'/>";
     let rows = MOST_INPUT / 4096;
     let line = b"<TR><TD/></TR>\n";
-    let call = |out: &mut [u8]| sailmortar::convert(field, sailmortar::Rows::Binary, sailmortar::Rows::TableData, &input, out);
+    let call = |out: &mut [u8]| archive::convert_piece(field, 1, 0, &input, out);
     let (answer, out) = in_room(rows * line.len() + 3, call);
-    assert_eq!(answer, [0, 0, 0, rows as u64, (rows * line.len()) as u64]);
+    assert_eq!(answer, [0, 0, 0, rows as u64, (rows * line.len()) as u64, MOST_INPUT as u64]);
     assert!(out == line.repeat(rows));
     let (answer, _) = in_room(10 * line.len() + 3, call);
-    assert_eq!(answer, [17, 10, 0, 10, 150]);
-    assert_eq!(in_room(100, |out| sailmortar::base64_encode(&input, out)).0, [17, 0, 0, 0, 0]);
-    assert_eq!(in_room(100, |out| sailmortar::base64_decode(&input, out)).0, [7, 0, 0, 0, 0]);
+    assert_eq!(answer, [17, 10, 0, 10, 150, 40_960]);
+    assert_eq!(in_room(100, |out| numbers(sailmortar::base64_encode(&input, out))).0, [17, 0, 0, 0, 0]);
+    assert_eq!(in_room(100, |out| numbers(sailmortar::base64_decode(&input, out))).0, [7, 0, 0, 0, 0]);
 }

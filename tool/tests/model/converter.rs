@@ -13,28 +13,72 @@ pub enum Rows {
 
 pub const EVERY_KIND_OF_ROWS: [Rows; 3] = [Rows::TableData, Rows::Binary, Rows::Binary2];
 
+impl Rows {
+    pub fn number(self) -> u32 {
+        match self {
+            Rows::TableData => 0,
+            Rows::Binary => 1,
+            Rows::Binary2 => 2,
+        }
+    }
+}
+
+/// A conversion, and the place in its input where the rows done end: where the refused row begins, the white space
+/// before a row of TABLEDATA belonging to that row; the length of the input where all is accepted; 0 where the refusal
+/// stands before any row.
+#[derive(Clone, Debug, PartialEq, Eq)]
+pub struct Piece {
+    pub written: Written,
+    pub place: usize,
+}
+
+impl Piece {
+    fn before_any_row(answer: Answer) -> Piece {
+        Piece { written: Written::nothing(answer), place: 0 }
+    }
+
+    /// The five numbers of the answer, and sixth the place.
+    pub fn six(&self) -> [u64; 6] {
+        let [number, row, column, rows, bytes] = self.written.answer;
+        [number, row, column, rows, bytes, self.place as u64]
+    }
+}
+
 /// Converts into room for so many bytes.
 pub fn convert(declarations: &[u8], from: Rows, to: Rows, input: &[u8], room: usize) -> Written {
+    convert_piece(declarations, from, to, input, room).written
+}
+
+/// The same between kinds of rows by their numbers: one that is no kind's is 255, before anything else is judged.
+pub fn convert_numbered(declarations: &[u8], from: u32, to: u32, input: &[u8], room: usize) -> Piece {
+    let of = |number| EVERY_KIND_OF_ROWS.into_iter().find(|rows| rows.number() == number);
+    match (of(from), of(to)) {
+        (Some(from), Some(to)) => convert_piece(declarations, from, to, input, room),
+        _ => Piece::before_any_row([255, 0, 0, 0, 0]),
+    }
+}
+
+pub fn convert_piece(declarations: &[u8], from: Rows, to: Rows, input: &[u8], room: usize) -> Piece {
     let columns = match declarations::read(declarations) {
         Ok(columns) => columns,
-        Err((number, place)) => return Written::nothing([number, 0, place as u64, 0, 0]),
+        Err((number, place)) => return Piece::before_any_row([number, 0, place as u64, 0, 0]),
     };
     if input.len() > MOST_INPUT {
-        return Written::nothing([6, 0, 0, 0, 0]);
+        return Piece::before_any_row([6, 0, 0, 0, 0]);
     }
     let (mut rows, mut at, mut bytes) = (0, 0, Vec::new());
-    let (number, row, column) = loop {
+    let (number, row, column, place) = loop {
         match convert_row(&columns, from, to, input, at, room - bytes.len()) {
             Ok(Some((written, end))) => {
                 bytes.extend(written);
                 at = end;
                 rows += 1;
             }
-            Ok(None) => break (0, 0, 0),
-            Err(Refused { number, column }) => break (number, rows, column as u64),
+            Ok(None) => break (0, 0, 0, input.len()),
+            Err(Refused { number, column }) => break (number, rows, column as u64, at),
         }
     };
-    Written { answer: [number, row, column, rows, bytes.len() as u64], bytes }
+    Piece { written: Written { answer: [number, row, column, rows, bytes.len() as u64], bytes }, place }
 }
 
 /// Number, 0, place, columns, 0.
