@@ -52,23 +52,32 @@ call-is c h = ap₂ callOf (h .numbers-are) (h .buffer-is) ∙ call-of-five c
 
 -- ---- one call
 
+abbrev converted : List ℕ → List ℕ → List ℕ → Rows → Rows → Faced
+converted decls input out source target = faced (convert decls source target input out)
+
 module _ (decls : List ℕ) (from to : ℕ) (input out : List ℕ) {numbers exit : List ℕ} (h : Faces (convertFace decls from to input out) numbers exit) where
   faces-convert : (source target : Rows) → rowsOf from ≡ some source → rowsOf to ≡ some target → Faces (faced (convert decls source target input out)) numbers exit
-  faces-convert source target e f = subst (λ (x : Faced). Faces x numbers exit) (known decls from to input out source e target f) h
+  unfolding convertFace
+  faces-convert source target e f = subst (λ (x : Faced). Faces x numbers exit) (known from to (noSuchKind 4 out) (converted decls input out) source e target f) h
 
   is-convert : (source target : Rows) → rowsOf from ≡ some source → rowsOf to ≡ some target → callOf numbers exit ≡ convert decls source target input out
   is-convert source target e f = call-is _ (faces-convert source target e f)
 
-  nothing : convertFace decls from to input out ≡ noSuchKind out → (numbers ≡ 255 ∷ 0 ∷ 0 ∷ 0 ∷ 0 ∷ []) × (exit ≡ out)
+  nothing : convertFace decls from to input out ≡ noSuchKind 4 out → (numbers ≡ 255 ∷ 0 ∷ 0 ∷ 0 ∷ 0 ∷ []) × (exit ≡ out)
   unfolding noSuchKind
   nothing e = let n = subst (λ (x : Faced). Faces x numbers exit) e h in (n .numbers-are, n .buffer-is)
 
   pub unnamed : Unnamed from to out numbers exit
-  unnamed = record { no-source = λ e. nothing (no-source decls from to input out e); no-target = λ f. nothing (either (rowsOf from) refl f) }
+  unfolding convertFace
+  unnamed =
+      record {
+        no-source = λ e. nothing (no-source from to (noSuchKind 4 out) (converted decls input out) e);
+        no-target = λ f. nothing (either (rowsOf from) refl f);
+      }
     where
-      either : (o : Option Rows) → rowsOf from ≡ o → rowsOf to ≡ none → convertFace decls from to input out ≡ noSuchKind out
-      either none e f = no-source decls from to input out e
-      either (some source) e f = no-target decls from to input out source e f
+      either : (o : Option Rows) → rowsOf from ≡ o → rowsOf to ≡ none → betweenKinds (rowsOf from) (rowsOf to) (noSuchKind 4 out) (converted decls input out) ≡ noSuchKind 4 out
+      either none e f = no-source from to (noSuchKind 4 out) (converted decls input out) e
+      either (some source) e f = no-target from to (noSuchKind 4 out) (converted decls input out) source e f
 
   pub rows-or-refusal : Between from to (RowsOrRefusal decls input out (callOf numbers exit))
   rows-or-refusal source target e f =
@@ -104,7 +113,9 @@ module _ (decls : List ℕ) (to : ℕ) (first second : Made) (h : MadeBy decls t
   unfolding convertFace rowsOf
   same-unseen e f g cs q l unseen = rw (e, f, g) (by-target (rowsOf to))
     where
-      by-target : (o : Option Rows) → betweenKinds decls (some Binary2) o (second .input) (first .entry) ≡ betweenKinds decls (some Binary2) o (first .input) (first .entry)
+      by-target : (o : Option Rows)
+          → betweenKinds (some Binary2) o (noSuchKind 4 (first .entry)) (converted decls (second .input) (first .entry))
+          ≡ betweenKinds (some Binary2) o (noSuchKind 4 (first .entry)) (converted decls (first .input) (first .entry))
       by-target none = unfold betweenKinds in refl
       by-target (some target) = unfold betweenKinds in ap faced (demand3 .unseen-bytes decls target cs (first .input) (second .input) (first .entry) q l unseen)
 
