@@ -190,9 +190,9 @@ not-decoded-read input out (no-base64 h none) = (decode-refused-7 input out h (n
 not-decoded-read input out (no-room-for-bytes {b = b} h t l) = (decode-refused-17 input out b h (base64-read t) l, lit< tt)
 
 -- a decoding step is refused with a number exactly when the grammar says so; then the answer is the number and zeros, and the buffer as it was
-pub refuses-exactly : (input out : List ℕ) (n : ℕ) → NotDecoded input (length out) n ↔ ((decodeCall input out ≡ ending (refused (at 0 n) 0 []) out) × (0 < n))
+pub undecoded-exactly : (input out : List ℕ) (n : ℕ) → NotDecoded input (length out) n ↔ ((decodeCall input out ≡ ending (refused (at 0 n) 0 []) out) × (0 < n))
 unfolding ending answerOf at
-refuses-exactly input out n = (not-decoded-read input out, is-refused)
+undecoded-exactly input out n = (not-decoded-read input out, is-refused)
   where
     is-refused : (decodeCall input out ≡ ending (refused (at 0 n) 0 []) out) × (0 < n) → NotDecoded input (length out) n
     is-refused r =

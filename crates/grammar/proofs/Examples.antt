@@ -10,7 +10,7 @@ use lib.ListN.{length}
 use Rattle.demands.proofs.Everything.{everything}
 use Rattle.demands.proofs.Night.{firstRow, night-declared, nightColumns, nightDecls, room, secondRow, small-bytes}
 use Rattle.demands.specs.Cases.{nightBinary, nightBinary2, nightText}
-use Rattle.grammar.proofs.Base64Read.{refuses-exactly}
+use Rattle.grammar.proofs.Base64Read.{undecoded-exactly}
 use Rattle.grammar.proofs.ColumnsRead.{datatype-read, declares-is}
 use Rattle.grammar.proofs.DeclarationsRefused.{not-declared-exactly}
 use Rattle.grammar.proofs.Exactly.{accepts-exactly, declares-columns, spells-is}
@@ -93,7 +93,7 @@ int-refused = not-declared-exactly (bytes "<FIELD datatype=\" int\"/>") 2 0 .1 r
 -- "`Zh==` 7", whatever the room
 pub zh-refused : (out : List ℕ) → NotDecoded (bytes "Zh==") (length out) 7
 unfolding everything
-zh-refused out = refuses-exactly (bytes "Zh==") out 7 .1 (refl, lit< tt)
+zh-refused out = undecoded-exactly (bytes "Zh==") out 7 .1 (refl, lit< tt)
 
 -- a digit that is its own value
 digit : (n : ℕ) → Itself n n

@@ -26,7 +26,7 @@ use Rattle.grammar.proofs.FormsWritten.{unwritten-is, unwritten-read}
 use Rattle.grammar.proofs.Resumption.{andThen}
 use Rattle.grammar.proofs.RowsRefused.{row-at-is, row-at-read, rows-at-is, rows-at-read, stops-exactly}
 use Rattle.grammar.proofs.Streams.{first-row}
-use Rattle.grammar.specs.Exact.{Refuses, RowsDone, refuses-declarations, refuses-reading, refuses-room, refuses-size, refuses-writing, tableOf}
+use Rattle.grammar.specs.Exact.{Answers, Refuses, RowsDone, refuses-declarations, refuses-reading, refuses-room, refuses-size, refuses-writing, tableOf}
 use Rattle.grammar.specs.RowRefusals.{RowAt, RowsAt}
 use Rattle.rows.proofs.Calls.{converts}
 use Rattle.rows.proofs.Sequences.{Stops}
@@ -39,7 +39,6 @@ use Rattle.table.specs.All.{AreBytes}
 use Rattle.table.specs.Cell.{AreColumns, Cell}
 use Rattle.table.specs.Outcome.{Call, Outcome, Refusal, answerOf, at, ending, mostInput, refused}
 use Rattle.table.specs.Result.{Result, _>>=_, bad, good}
-use Rattle.table.specs.declared.Answer.{Answer}
 use Rattle.table.specs.declared.Column.{Column}
 use Rattle.table.specs.declared.Rows.{Rows}
 
@@ -98,10 +97,6 @@ stops-behind P [] e h = h
 stops-behind P (xs ∷ rows) e h = stops-behind P rows e h
 
 -- ---- from the grammar to the answer
-
--- a refusal at this row, with this number and column
-abbrev pub Answers : Answer → ℕ → ℕ → ℕ → Type 0
-Answers a n r k = (a .number ≡ n) × (a .row ≡ r) × (a .column ≡ k)
 
 module _ (decls : List ℕ) (from to : Rows) (input out : List ℕ) where
   at-front : (e : Refusal) → front decls (length input) ≡ bad e → Answers (convert decls from to input out .answer) (e .number) 0 (e .column)
@@ -224,9 +219,9 @@ module _ (decls : List ℕ) (from to : Rows) (input out : List ℕ) where
       go (good cs) q = sized cs q (ltb mostInput (length input)) refl
 
 -- THE THEOREM, both ways: number n at row r and column k is answered exactly when the grammar says so
-pub refuses-exactly-there : (decls : List ℕ) (from to : Rows) (input out : List ℕ) (n r k : ℕ) → AreBytes input
+pub refuses-exactly : (decls : List ℕ) (from to : Rows) (input out : List ℕ) (n r k : ℕ) → AreBytes input
     → Refuses decls from to input (length out) n r k ↔ (Answers (convert decls from to input out .answer) n r k × (0 < n))
-refuses-exactly-there decls from to input out n r k a = (
+refuses-exactly decls from to input out n r k a = (
   (λ h. (refuses-answers decls from to input out a h, above decls from to input out a h)),
   (λ p. rw (← p .0 .0, ← p .0 .1, ← p .0 .2) (answers-refuses decls from to input out a (rw (p .0 .0) (p .1)))),
 )

@@ -15,6 +15,7 @@ use Rattle.rows.specs.Sequence.{finished, row}
 use Rattle.table.specs.Cell.{Cell}
 use Rattle.table.specs.Outcome.{Call, accepted, ending}
 use Rattle.table.specs.Result.{good}
+use Rattle.table.specs.declared.Answer.{Answer}
 use Rattle.table.specs.declared.Column.{Column}
 use Rattle.table.specs.declared.Rows.{Rows}
 use Rattle.table.specs.declared.Rows.the-variants.{Binary, Binary2, TableData}
@@ -92,6 +93,10 @@ pub data Refuses (decls : List ℕ) (from to : Rows) (input : List ℕ) (room : 
   refuses-room : {cs : List Column} {rows : List (List Cell)} {body b rest more : List ℕ} {xs : List Cell} → RowsDone decls to input room cs rows body
       → RowsAt from cs input rows rest → RowAt cs from rest xs more → writeRow to cs xs ≡ good b → room < length body + length b
       → Refuses decls from to input room 17 (length rows) 0
+
+-- what a call answers: this number, row and column
+abbrev pub Answers : Answer → ℕ → ℕ → ℕ → Type 0
+Answers a n r k = (a .number ≡ n) × (a .row ≡ r) × (a .column ≡ k)
 
 -- ---- a valid input that was cut
 

@@ -15,6 +15,9 @@ use Rattle.demands.specs.Places.{showsAt}
 use Rattle.demands.specs.Tables.{lines, upTo}
 use Rattle.fields.specs.Fields.{declare}
 use Rattle.grammar.proofs.ColumnsRead.{declares-read}
+use Rattle.grammar.proofs.Cut.{cut-file}
+use Rattle.grammar.proofs.Refused.{refuses-exactly}
+use Rattle.table.proofs.Laws.{all-append}
 use Rattle.grammar.proofs.Exactly.{accepts-exactly, accepts-rows, both-ways, declares-columns, spells-read, writes-spelled}
 use Rattle.grammar.specs.Declarations.{Declares}
 use Rattle.grammar.specs.Exact.{BothWays, tableOf}
@@ -79,10 +82,15 @@ module _ (decls : List ℕ) (from to : ℕ) (input out : List ℕ) {numbers exit
       either none e f = no-source from to (noSuchKind 4 out) (converted decls input out) e
       either (some source) e f = no-target from to (noSuchKind 4 out) (converted decls input out) source e f
 
-  pub rows-or-refusal : Between from to (RowsOrRefusal decls input out (callOf numbers exit))
-  rows-or-refusal source target e f =
+  pub rows-or-refusal : AreBytes input → Between from to (RowsOrRefusal decls input out (callOf numbers exit))
+  rows-or-refusal a source target e f =
       subst⁻¹ (λ (c : Call). RowsOrRefusal decls input out c source target) (is-convert source target e f)
-      record { numbered = demand1 .numbered decls source target input out; ended = demand1 .ended decls source target input out }
+      record {
+        numbered = demand1 .numbered decls source target input out;
+        ended = demand1 .ended decls source target input out;
+        refused-exactly = λ n row column. refuses-exactly decls source target input out n row column a;
+        cut = λ more b. cut-file decls source target input more out (all-append (λ (x : ℕ). x < 256) input more a b);
+      }
 
   pub means-what-was-read : AreBytes input → Between from to (MeansWhatWasRead decls input out (callOf numbers exit))
   means-what-was-read a source target e f =

@@ -10,7 +10,7 @@ use Rattle.base64.specs.Base64.{decode, decodeCall, encode, encodeCall}
 use Rattle.demands.specs.Demands.{output}
 use Rattle.fields.proofs.Refusals.{AtPlace, declare-fails}
 use Rattle.fields.specs.Fields.{declare}
-use Rattle.grammar.proofs.Base64Read.{base64-is, decodes-exactly, refuses-exactly, writes-exactly}
+use Rattle.grammar.proofs.Base64Read.{base64-is, decodes-exactly, undecoded-exactly, writes-exactly}
 use Rattle.grammar.proofs.ColumnsRead.{declares-is, declares-read}
 use Rattle.grammar.proofs.DeclarationsRefused.{not-declared-exactly, not-declared-read}
 use Rattle.grammar.proofs.Exactly.{declares-one}
@@ -38,10 +38,10 @@ step-ends input out = go (decodeCall input out .answer .number) refl
     go (suc n) z =
         let e : decodeCall input out ≡ ending (refused (at 0 (suc n)) 0 []) out =
         decode-answers input out .as-refusal (λ q. absurd (omega (arith, q, z))) ∙ ap (λ (m : ℕ). refusal m out) z ∙ unfold refusal ending answerOf bufferOf written at in refl in
-        subst⁻¹ (DecodedOrRefused input out) e (not-decoded (refuses-exactly input out (suc n) .1 (e, omega arith)))
+        subst⁻¹ (DecodedOrRefused input out) e (not-decoded (undecoded-exactly input out (suc n) .1 (e, omega arith)))
 
 step-exactly : (input out : List ℕ) → DecodesExactly input out (decodeCall input out)
-step-exactly input out = record { ended = step-ends input out; exactly = writes-exactly input out; refused-exactly = refuses-exactly input out }
+step-exactly input out = record { ended = step-ends input out; exactly = writes-exactly input out; refused-exactly = undecoded-exactly input out }
 
 module _ (input out : List ℕ) {numbers exit : List ℕ} (h : Faces (decodeFace input out) numbers exit) where
   is-decode : callOf numbers exit ≡ decodeCall input out

@@ -1,7 +1,7 @@
 -- The demands of calls of the face: what holds between the slices and the numbers that a caller has in hand.
 use Prim.Native.Nat.{_*_, _+_, _/_, _<_, _≤_, ℕ}
 use mathlib.Core.Bool.{true}
-use mathlib.Core.List.{List, [], _∷_}
+use mathlib.Core.List.{List, [], _++_, _∷_}
 use mathlib.Core.Logic.{_↔_}
 use mathlib.Core.Option.{none, some}
 use mathlib.Core.Path.{_≡_}
@@ -13,10 +13,11 @@ use Rattle.fields.specs.Fields.{declare}
 use Rattle.grammar.specs.Base64Text.{Base64Text}
 use Rattle.grammar.specs.DeclarationRefusals.{NotDeclared}
 use Rattle.grammar.specs.Declarations.{Declares}
-use Rattle.grammar.specs.Exact.{InGrammar, NotDecoded, tableOf}
+use Rattle.grammar.specs.Exact.{Answers, CutFile, InGrammar, NotDecoded, Refuses, tableOf}
 use Rattle.grammar.specs.Valid.{Spells}
 use Rattle.rows.specs.Stream.{read}
 use Rattle.sailmortar.specs.Face.{rowsOf}
+use Rattle.table.specs.All.{AreBytes}
 use Rattle.table.specs.Cell.{Cell}
 use Rattle.table.specs.Outcome.{Call, accepted, at, ending, mostNumber, refused}
 use Rattle.table.specs.Result.{good}
@@ -50,6 +51,10 @@ pub record RowsOrRefusal (decls input out : List ℕ) (c : Call) (from to : Rows
   pub numbered : c .answer .number ≤ mostNumber
   -- which rows stand, and why it ended there
   pub ended : Ended (declare decls) from to input out c
+  -- "the row and column where it stopped": this number there, exactly when the grammar says so
+  pub refused-exactly : (n row column : ℕ) → Refuses decls from to input (length out) n row column ↔ (Answers (c .answer) n row column × (0 < n))
+  -- "a cut file at that hour has no one awake to mend it. I need the good rows and the spot where it went wrong.": whatever bytes were cut off
+  pub cut : (more : List ℕ) → AreBytes more → (g : InGrammar decls from to (input ++ more) (length out)) → CutFile from to (g .columns) input (g .rows) c
 
 -- demand 2: "It accepts exactly what VOTable 1.4, as narrowed in document 01, calls valid, 01's writing refusals apart, and each row it writes
 -- means what the row it read means, cell by cell, nulls included."

@@ -13,7 +13,7 @@ returns c =
     let told = c .before .before .sailmortar-convert .ensures in
     let face = faces {f = convertFace (now (args .decls)) (args .from) (args .to) (now (args .input)) (now (args .out))} (told .0) (told .1) in
     let bytes = bytes-of (now (args .input)) (λ i h. c .before .before .before .before .before .before .shared-slice-known2 .given i .fits) in
-    (unnamed _ _ _ _ _ face, (rows-or-refusal _ _ _ _ _ face, means-what-was-read _ _ _ _ _ face bytes))
+    (unnamed _ _ _ _ _ face, (rows-or-refusal _ _ _ _ _ face bytes, means-what-was-read _ _ _ _ _ face bytes))
 
 pub once-spec : {M : Type 1} → statement M
 once-spec = tie.close (tie.spec (λ c κs. search needs) (λ c. search needs) returns)
