@@ -63,7 +63,7 @@ module _ (decls : List ℕ) (from to : ℕ) (input out : List ℕ) {numbers exit
   unfolding convertFace
   faces-convert source target e f = subst (λ (x : Faced). Faces x numbers exit) (known from to (noSuchKind 4 out) (converted decls input out) source e target f) h
 
-  is-convert : (source target : Rows) → rowsOf from ≡ some source → rowsOf to ≡ some target → callOf numbers exit ≡ convert decls source target input out
+  pub is-convert : (source target : Rows) → rowsOf from ≡ some source → rowsOf to ≡ some target → callOf numbers exit ≡ convert decls source target input out
   is-convert source target e f = call-is _ (faces-convert source target e f)
 
   nothing : convertFace decls from to input out ≡ noSuchKind 4 out → (numbers ≡ 255 ∷ 0 ∷ 0 ∷ 0 ∷ 0 ∷ []) × (exit ≡ out)

@@ -1,2 +1,3 @@
 pub mod Laws
+pub mod Pieces
 pub mod Steps

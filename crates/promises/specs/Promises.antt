@@ -1,11 +1,12 @@
 -- The demands of calls of the face: what holds between the slices and the numbers that a caller has in hand.
 use Prim.Native.Nat.{_*_, _+_, _/_, _<_, _≤_, ℕ}
-use mathlib.Core.Bool.{true}
+use mathlib.Core.Bool.{cond, true}
 use mathlib.Core.List.{List, [], _++_, _∷_}
 use mathlib.Core.Logic.{_↔_}
 use mathlib.Core.Option.{none, some}
 use mathlib.Core.Path.{_≡_}
-use lib.ListN.{getD, length}
+use lib.Dec.{eqb}
+use lib.ListN.{drop, getD, length}
 use Rattle.demands.specs.Demands.{Accepted, Comes, Ended, SameFate, Stream, output}
 use Rattle.demands.specs.Places.{showsAt}
 use Rattle.demands.specs.Tables.{lines, upTo}
@@ -21,6 +22,7 @@ use Rattle.table.specs.All.{AreBytes}
 use Rattle.table.specs.Cell.{Cell}
 use Rattle.table.specs.Outcome.{Call, accepted, at, ending, mostNumber, refused}
 use Rattle.table.specs.Result.{good}
+use Rattle.table.specs.declared.Answer.{Answer}
 use Rattle.table.specs.declared.Column.{Column}
 use Rattle.table.specs.declared.Rows.{Rows}
 use Rattle.table.specs.declared.Rows.the-variants.{Binary2, TableData}
@@ -166,3 +168,27 @@ pub record DeclaresExactly (decls numbers : List ℕ) : Type 0 where
   pub columns : (cs : List Column) → Declares decls cs → numbers ≡ 0 ∷ 0 ∷ 0 ∷ length cs ∷ 0 ∷ []
   -- refused with this number at this place exactly when the grammar says so
   pub refused-exactly : (n place : ℕ) → NotDeclared decls n place ↔ (numbers ≡ n ∷ 0 ∷ place ∷ 0 ∷ 0 ∷ [])
+
+-- ---- in pieces
+
+-- one answer from two: rows and bytes are added, and a refusal is at the second's row behind the first's rows
+unfoldable pub joinedAnswer : Answer → Answer → Answer
+joinedAnswer a b =
+    record {
+      number = b .number;
+      row = cond (eqb (b .number) 0) 0 (a .rows + b .row);
+      column = b .column;
+      rows = a .rows + b .rows;
+      bytes = a .bytes + b .bytes;
+    }
+
+-- a call, and behind it another into the same buffer
+unfoldable pub joinedCall : Call → Call → List ℕ → Call
+joinedCall c d out =
+    record { answer = joinedAnswer (c .answer) (d .answer); buffer = (output c ++ output d) ++ drop (length (output c ++ output d)) out }
+
+-- demand 3: "whatever stands around them": a piece, and then what stands behind the place that it answers, are together one call on the whole, in a
+-- buffer that has the room of both
+abbrev pub OneByTwo : (decls input : List ℕ) (first : Call) (rest : List ℕ) (second : Call) (out : List ℕ) (whole : Call) → Rows → Rows → Type 0
+OneByTwo decls input first rest second out whole from to =
+    (cs : List Column) → Declares decls cs → length input ≤ 1073741824 → length out ≡ first .answer .bytes + length rest → whole ≡ joinedCall first second out

@@ -1,6 +1,6 @@
 // The demands, of the face itself: functions whose bodies are calls of the functions for C and no more, and whose contracts are the demands, over
 // the slices at entry and at exit. None has a `requires`: "Callers check nothing first."
-ghost use Rattle.promises.specs.Promises.{Between, DeclaresExactly, DecodesExactly, EncodedAndDecoded, MeansWhatWasRead, NothingElse, RowsOrRefusal, ThereAndBack, Unnamed, callOf, made};
+ghost use Rattle.promises.specs.Promises.{Between, DeclaresExactly, DecodesExactly, EncodedAndDecoded, MeansWhatWasRead, NothingElse, OneByTwo, RowsOrRefusal, ThereAndBack, Unnamed, callOf, made};
 
 // Demands 1 and 2: one call.
 pub fn once(decls: &[u8], from: u32, to: u32, input: &[u8], out: &mut [u8], answer: &mut [u64; 5])
@@ -47,6 +47,28 @@ pub fn there_and_back(
     sailmortar::sailmortar_convert(decls, 0, 2, input, binary, there);
     let n = there[4] as usize;
     sailmortar::sailmortar_convert(decls, 2, 0, &binary[..n], text, back);
+}
+
+// A piece, what stands behind the place that it answers, and the whole.
+pub fn in_pieces(
+    decls: &[u8],
+    from: u32,
+    to: u32,
+    input: &[u8],
+    out1: &mut [u8],
+    answer1: &mut [u64; 6],
+    out2: &mut [u8],
+    answer2: &mut [u64; 5],
+    out: &mut [u8],
+    answer: &mut [u64; 5],
+)
+    ensures { λ _. ⌜ Between from to (OneByTwo (now (decls .entry)) (now (input .entry)) (callOf (now (answer1 .exit)) (now (out1 .exit))) (now (out2 .entry))
+        (callOf (now (answer2 .exit)) (now (out2 .exit))) (now (out .entry)) (callOf (now (answer .exit)) (now (out .exit)))) ⌝ }
+{
+    sailmortar::sailmortar_convert_piece(decls, from, to, input, out1, answer1);
+    let place = answer1[5] as usize;
+    sailmortar::sailmortar_convert(decls, from, to, &input[place..], out2, answer2);
+    sailmortar::sailmortar_convert(decls, from, to, input, out, answer);
 }
 
 // Demands 1 and 2 of base64: one decoding step.

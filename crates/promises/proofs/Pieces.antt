@@ -1,0 +1,130 @@
+-- A piece and what stands behind its place are one call on the whole: `goes-on-behind` of the definitions, carried to the numbers and the buffers.
+use Prim.Native.Nat.{_+_, _-_, _<_, _≤_, zero-le, ℕ}
+use native.Mathlib.Nat.{le-refl}
+use native.Mathlib.Omega.{arith}
+use mathlib.Core.List.{List}
+use mathlib.Core.Option.{Option, none, some}
+use mathlib.Core.Path.{_∙_, _≡_, ap, ap₂, refl, subst, sym}
+use lib.ListN.{drop, getD, length, length-append, length-drop, take}
+use borrow.Author.Tests.{ne-eqb}
+use borrow.Rule.Slice.PartAt.{part-to-end}
+use Rattle.demands.proofs.Demand1.{output-of, run-done}
+use Rattle.demands.proofs.Writing.{EndsAt}
+use Rattle.demands.proofs.Demand2.{stands}
+use Rattle.demands.specs.Demands.{output}
+use Rattle.fields.specs.Fields.{declare}
+use Rattle.fields.specs.Front.{front}
+use Rattle.grammar.proofs.ColumnsRead.{declares-read}
+use Rattle.grammar.proofs.Pieces.{goes-on-behind}
+use Rattle.grammar.specs.Resumption.{followedBy}
+use Rattle.promises.proofs.Laws.{Faces, is-convert}
+use Rattle.promises.specs.Promises.{Between, OneByTwo, callOf, joinedAnswer, joinedCall}
+use Rattle.rows.proofs.Calls.{converts}
+use Rattle.rows.specs.Convert.{convert}
+use Rattle.rows.specs.Pieces.{convertPiece, placeOf, placeUnder}
+use Rattle.rows.specs.Stream.{read, run}
+use Rattle.sailmortar.proofs.Numbers.{known}
+use Rattle.sailmortar.specs.Face.{Faced, betweenKinds, convertFace, five, noSuchKind, pieceFace, pieceFaced, rowsOf, six}
+use Rattle.table.specs.Outcome.{Call, Outcome, Refusal, accepted, answerOf, bufferOf, ending, mostInput, refused, written}
+use Rattle.table.specs.Result.{Result, bad, good}
+use Rattle.table.specs.declared.Answer.{Answer}
+use Rattle.table.specs.declared.Column.{Column}
+use Rattle.table.specs.declared.Rows.{Rows}
+
+-- ---- the place is within the input
+
+place-at : (from to : Rows) (input out : List ℕ) (r : Result Refusal (List Column)) → placeUnder r (λ cs. placeOf from cs input (run from to cs (length out) input)) ≤ length input
+unfolding placeUnder
+place-at from to input out (good cs) = of-outcome (run from to cs (length out) input)
+  where
+    of-outcome : (o : Outcome) → placeOf from cs input o ≤ length input
+    of-outcome (accepted r w) = unfold placeOf in le-refl (length input)
+    of-outcome (refused e r w) = unfold placeOf in omega arith
+place-at from to input out (bad e) = zero-le
+
+sixth : (decls : List ℕ) (input out : List ℕ) (from to : Option Rows)
+    → getD (betweenKinds from to (noSuchKind 5 out) (λ source target. pieceFaced (convertPiece decls source target input out)) .numbers) 5 0 ≤ length input
+unfolding betweenKinds noSuchKind pieceFaced six five convertPiece
+sixth decls input out none to = zero-le
+sixth decls input out (some from) none = zero-le
+sixth decls input out (some from) (some to) = place-at from to input out (front decls (length input))
+
+pub place-within : (decls : List ℕ) (from to : ℕ) (input out numbers : List ℕ) → numbers ≡ pieceFace decls from to input out .numbers → getD numbers 5 0 ≤ length input
+unfolding pieceFace
+place-within decls from to input out numbers e = rw e (sixth decls input out (rowsOf from) (rowsOf to))
+
+-- ---- two outcomes, as one call has them
+
+-- a refusal has a number
+abbrev Numbered : Outcome → Type 0
+Numbered (accepted r w) = Unit {0}
+Numbered (refused e r w) = 0 < e .number
+
+run-numbered : (from to : Rows) (cs : List Column) (room : ℕ) (input : List ℕ) → Numbered (run from to cs room input)
+run-numbered from to cs room input = let d = run-done from to cs room input in go (run from to cs room input) (d .done) (d .ended)
+  where
+    go : (o : Outcome) (done : ℕ) → EndsAt to cs room (read from cs input) done o → Numbered o
+    go (accepted r w) done e = tt
+    go (refused x r w) done e = omega (arith, e .0 .0 .0)
+
+same-call : (a b : Answer) (u v : List ℕ) → a ≡ b → u ≡ v → _≡_ {A = Call} (record { answer = a; buffer = u }) (record { answer = b; buffer = v })
+same-call a b u v p q = ap₂ (λ (x : Answer) (y : List ℕ). record { answer = x; buffer = y }) p q
+
+joined-ending : (r : ℕ) (w : List ℕ) (o : Outcome) → Numbered o → (c : Call) → c .answer .rows ≡ r → c .answer .bytes ≡ length w → output c ≡ w → (rest out : List ℕ)
+    → ending (followedBy (accepted r w) o) out ≡ joinedCall c (ending o rest) out
+unfolding followedBy joinedCall joinedAnswer
+joined-ending r w (accepted m v) n c p q e rest out =
+    rw (e, output-of (accepted m v) rest)
+    (unfold ending answerOf bufferOf written in same-call _ _ _ _ (rw (p, q, length-append w v)) refl)
+joined-ending r w (refused x m v) n c p q e rest out =
+    rw (e, output-of (refused x m v) rest)
+    (unfold ending answerOf bufferOf written in same-call _ _ _ _ (rw (p, q, length-append w v, ne-eqb (x .number) 0 (λ z. omega (arith, z, n)))) refl)
+
+-- ---- the two and the whole
+
+call-of-six : (c : Call) (place : ℕ) → callOf (six (c .answer) place) (c .buffer) ≡ c
+unfolding callOf six five
+call-of-six c place = refl
+
+sixth-of : (c : Call) (place : ℕ) → getD (six (c .answer) place) 5 0 ≡ place
+unfolding six five
+sixth-of c place = refl
+
+module _ (decls : List ℕ) (from to : ℕ) (input first : List ℕ) {numbers exit : List ℕ} (h : Faces (pieceFace decls from to input first) numbers exit)
+    (source target : Rows) (e : rowsOf from ≡ some source) (f : rowsOf to ≡ some target) where
+  faces-piece : Faces (pieceFaced (convertPiece decls source target input first)) numbers exit
+  unfolding pieceFace
+  faces-piece =
+      subst (λ (x : Faced). Faces x numbers exit)
+      (known from to (noSuchKind 5 first) (λ source target. pieceFaced (convertPiece decls source target input first)) source e target f) h
+
+  piece-is : callOf numbers exit ≡ convert decls source target input first
+  unfolding pieceFaced convertPiece
+  piece-is = ap₂ callOf (faces-piece .numbers-are) (faces-piece .buffer-is) ∙ call-of-six (convert decls source target input first) _
+
+  piece-place : getD numbers 5 0 ≡ convertPiece decls source target input first .place
+  unfolding pieceFaced
+  piece-place = ap (λ (ns : List ℕ). getD ns 5 0) (faces-piece .numbers-are) ∙ sixth-of (convertPiece decls source target input first .call) _
+
+pub one-by-two : (decls : List ℕ) (from to : ℕ) (input first rest out : List ℕ) {numbers exit numbers2 exit2 numbers3 exit3 : List ℕ}
+    → Faces (pieceFace decls from to input first) numbers exit
+    → Faces (convertFace decls from to (take (length input - getD numbers 5 0) (drop (getD numbers 5 0) input)) rest) numbers2 exit2
+    → Faces (convertFace decls from to input out) numbers3 exit3
+    → Between from to (OneByTwo decls input (callOf numbers exit) rest (callOf numbers2 exit2) out (callOf numbers3 exit3))
+unfolding mostInput
+one-by-two decls from to input first rest out {numbers} {numbers2 = numbers2} {exit2 = exit2} h k l source target e f cs d sized room =
+    let q : declare decls ≡ good cs = declares-read d in
+    let c : Call = convert decls source target input first in
+    let left : List ℕ = drop (getD numbers 5 0) input in
+    let o : Outcome = run source target cs (length rest) left in
+    let one : callOf numbers _ ≡ c = piece-is decls from to input first h source target e f in
+    let short : length left ≤ mostInput = omega (arith, sized, length-drop (getD numbers 5 0) input) in
+    let two = is-convert decls from to left rest (subst (λ (x : List ℕ). Faces (convertFace decls from to x rest) numbers2 exit2) (part-to-end input (getD numbers 5 0)) k) source target e f ∙ converts decls source target left rest cs q short in
+    let bytes : length out ≡ c .answer .bytes + length rest = room ∙ ap (λ (x : Call). x .answer .bytes + length rest) one in
+    let whole = is-convert decls from to input out l source target e f ∙ converts decls source target input out cs q sized
+    ∙ ap (λ (x : Outcome). ending x out) (goes-on-behind decls source target input first cs q sized (length out) (omega (arith, bytes))) in
+    whole
+    ∙ ap (λ (x : Outcome). ending (followedBy (accepted (c .answer .rows) (output c)) x) out)
+    (ap₂ (λ (n : ℕ) (x : List ℕ). run source target cs n x) (omega (arith, bytes)) (ap (λ (n : ℕ). drop n input) (sym (piece-place decls from to input first h source target e f))))
+    ∙ joined-ending (c .answer .rows) (output c) o (run-numbered source target cs (length rest) left) c refl (stands decls source target input first cs q sized .bytes-are) refl rest out
+    ∙ sym (ap₂ (λ (x y : Call). joinedCall x y out) one two)
