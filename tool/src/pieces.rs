@@ -1,8 +1,8 @@
 //! Conversion that makes its own room: to the end of a Vec, or in pieces, so that memory holds the input and one piece of the output.
 //!
 //! The proved converter stops with refusal 17 where the room is full, with the rows before it written whole, and says where they end. It is
-//! then called again on the input behind them. That the parts together are what one call would answer and write is the law `resumes`
-//! (crates/grammar/proofs/Resumption.antt): rows and bytes are added, a refusal stands at its row plus the rows before. The adding up, in
+//! then called again on the input behind them. That the parts together are what one call would answer and write is proved of the archive's
+//! functions (`in_pieces`, crates/promises): rows and bytes are added, a refusal stands at its row plus the rows before. The adding up, in
 //! `Course`, is all that is not proved.
 
 use std::io;

@@ -75,6 +75,7 @@ module _ (input text : List ℕ) {numbers exit : List ℕ} (h : Faces (encodeFac
       ∙ decode-accepted (encode input) bytes input (omega (arith, long, size)) (decode-encode input a) fits in
       record {
         encoded = ap (λ (c : Call). c .answer .number) there;
+        letters-alone = ap (λ (c : Call). c .answer .bytes) there ∙ long;
         spelled = base64-is part input (ap decode same ∙ decode-encode input a);
         decoded = ap (λ (c : Call). c .answer .number) back;
         same = output-is 0 input bytes back;

@@ -143,6 +143,8 @@ pub record DecodesExactly (input out : List ℕ) (c : Call) : Type 0 where
 -- both steps are accepted, the first writes a text that spells the input, and the second the input
 pub record ComesBack (input : List ℕ) (encoding decoding : Call) : Type 0 where
   pub encoded : Accepted encoding
+  -- "Written without line breaks.": the letters alone, so that no white space has a place among them
+  pub letters-alone : encoding .answer .bytes ≡ (length input + 2) / 3 * 4
   pub spelled : Base64Text (output encoding) input
   pub decoded : Accepted decoding
   pub same : output decoding ≡ input
