@@ -36,17 +36,6 @@ impl Kind {
         Kind::ALL.into_iter().find(|kind| kind.name().as_bytes() == datatype)
     }
 
-    /// The bytes that so many elements take in BINARY and BINARY2.
-    pub fn bytes(self, elements: usize) -> usize {
-        match self {
-            Kind::Bit => elements.div_ceil(8),
-            Kind::Boolean | Kind::UnsignedByte | Kind::Char => elements,
-            Kind::Short => 2 * elements,
-            Kind::Int => 4 * elements,
-            Kind::Long => 8 * elements,
-        }
-    }
-
     /// An integer of this kind from its text, which the converter has accepted as one.
     fn integer(self, text: &[u8]) -> Option<i64> {
         let text = std::str::from_utf8(text).ok()?.trim_matches([' ', '\t', '\n', '\r']);

@@ -10,6 +10,17 @@ use crate::shown::{counted, hexadigits, number, plain, quoted};
 /// The bytes of a count.
 const COUNT: usize = 4;
 
+/// The bytes that so many elements take. Only messages rest on it: what is refused, and where its row begins, the converter says.
+pub fn content_bytes(kind: Kind, elements: usize) -> usize {
+    match kind {
+        Kind::Bit => elements.div_ceil(8),
+        Kind::Short => 2 * elements,
+        Kind::Int => 4 * elements,
+        Kind::Long => 8 * elements,
+        _ => elements,
+    }
+}
+
 pub fn standing<'a>(stream: &Stream<'a>, refused: &Refused) -> Option<Standing<'a>> {
     let row = stream.input.get(refused.offset..)?;
     let flags = if stream.from == Rows::Binary2 { stream.columns.len().div_ceil(8) } else { 0 };
@@ -73,13 +84,13 @@ impl<'a> Cell<'a> {
             },
         };
         let rest = &row[counted.len()..];
-        let wanted = elements.map_or(0, |elements| column.kind.bytes(elements));
+        let wanted = elements.map_or(0, |elements| content_bytes(column.kind, elements));
         Cell { column, counted, elements, content: &rest[..rest.len().min(wanted)] }
     }
 
     /// The bytes of its content, whether they are there or not.
     fn wanted(&self) -> Option<usize> {
-        self.elements.map(|elements| self.column.kind.bytes(elements))
+        self.elements.map(|elements| content_bytes(self.column.kind, elements))
     }
 
     fn words(&self, stream: &Stream, number: u64) -> (String, String) {

@@ -2,6 +2,8 @@
 
 use sailmortar::{convert, Kind, Rows};
 
+use crate::binary::content_bytes;
+
 /// The most parts of a cell that are asked about, and the most bytes of a text that is counted: a message is not worth more.
 const MOST_PARTS: usize = 4096;
 const MOST_TEXT: usize = 1 << 20;
@@ -60,7 +62,7 @@ pub fn elements(kind: Kind, text: &[u8]) -> Option<Count> {
         return None;
     }
     let field = format!("<FIELD datatype='{}' arraysize='*'/>", kind.name());
-    let mut out = vec![0; COUNT + kind.bytes(MOST_ELEMENTS)];
+    let mut out = vec![0; COUNT + content_bytes(kind, MOST_ELEMENTS)];
     match convert(field.as_bytes(), Rows::TableData, Rows::Binary, &row_of(text), &mut out) {
         Ok(_) => out.first_chunk::<COUNT>().map(|count| Count::Is(u64::from(u32::from_be_bytes(*count)))),
         Err(refused) if refused.number == 12 => Some(Count::Over(MOST_ELEMENTS as u64)),
