@@ -5,7 +5,7 @@ use native.Mathlib.Omega.{arith}
 use mathlib.Core.List.{List, [], _∷_}
 use mathlib.Core.Path.{_∙_, _≡_, ap, ap₂, refl, subst⁻¹, sym}
 use lib.ListN.{getD, length, take}
-use Rattle.base64.proofs.Laws.{acceptance, decode-accepted, decode-answers, decode-encode, encode-accepted, length-encode, refusal}
+use Rattle.base64.proofs.Laws.{Encodes, acceptance, decode-accepted, decode-answers, decode-encode, encode-0, encode-17, encode-6, encode-accepted, encode-call, length-encode, refusal}
 use Rattle.base64.specs.Base64.{decode, decodeCall, encode, encodeCall}
 use Rattle.demands.specs.Demands.{output}
 use Rattle.fields.proofs.Refusals.{AtPlace, declare-fails}
@@ -17,7 +17,7 @@ use Rattle.grammar.proofs.Exactly.{declares-one}
 use Rattle.grammar.specs.Declarations.{Declares}
 use Rattle.grammar.specs.Exact.{InBase64}
 use Rattle.promises.proofs.Laws.{Faces, bytes-within, call-is, output-is}
-use Rattle.promises.specs.Promises.{DeclaresExactly, DecodedOrRefused, DecodesExactly, EncodedAndDecoded, all-declared, all-decoded, callOf, not-declared, not-decoded}
+use Rattle.promises.specs.Promises.{DeclaresExactly, DecodedOrRefused, DecodesExactly, EncodedAndDecoded, EncodedOrRefused, all-declared, all-decoded, all-encoded, bytes-too-long, callOf, no-room-for-letters, not-declared, not-decoded}
 use Rattle.sailmortar.specs.Face.{declareFace, declaredNumbers, decodeFace, encodeFace}
 use Rattle.table.specs.All.{AreBytes}
 use Rattle.table.proofs.Laws.{bad-good}
@@ -51,10 +51,20 @@ module _ (input out : List ℕ) {numbers exit : List ℕ} (h : Faces (decodeFace
   pub decodes : DecodesExactly input out (callOf numbers exit)
   decodes = subst⁻¹ (DecodesExactly input out) is-decode (step-exactly input out)
 
+-- by the ways that an encoding step ends
+encoded-or : {input out : List ℕ} (c : Call) → Encodes input out c → AreBytes input → EncodedOrRefused input out c
+unfolding refusal acceptance ending answerOf bufferOf written at mostInput
+encoded-or c (encode-6 h) a = bytes-too-long h
+encoded-or {input} c (encode-17 h k) a = no-room-for-letters h (omega (arith, k, length-encode input))
+encoded-or {input} c (encode-0 h k) a = all-encoded (base64-is (encode input) input (decode-encode input a)) (length-encode input) k
+
 module _ (input text : List ℕ) {numbers exit : List ℕ} (h : Faces (encodeFace input text) numbers exit) where
   is-encode : callOf numbers exit ≡ encodeCall input text
   unfolding encodeFace
   is-encode = call-is (encodeCall input text) h
+
+  pub encodes : AreBytes input → EncodedOrRefused input text (callOf numbers exit)
+  encodes a = subst⁻¹ (EncodedOrRefused input text) is-encode (encoded-or (encodeCall input text) (encode-call input text) a)
 
   -- the part that was written is a part of the buffer
   pub encoded-within : getD numbers 4 0 ≤ length exit
@@ -75,7 +85,6 @@ module _ (input text : List ℕ) {numbers exit : List ℕ} (h : Faces (encodeFac
       ∙ decode-accepted (encode input) bytes input (omega (arith, long, size)) (decode-encode input a) fits in
       record {
         encoded = ap (λ (c : Call). c .answer .number) there;
-        letters-alone = ap (λ (c : Call). c .answer .bytes) there ∙ long;
         spelled = base64-is part input (ap decode same ∙ decode-encode input a);
         decoded = ap (λ (c : Call). c .answer .number) back;
         same = output-is 0 input bytes back;

@@ -140,11 +140,18 @@ pub record DecodesExactly (input out : List ℕ) (c : Call) : Type 0 where
   -- refused with this number exactly when the grammar says so
   pub refused-exactly : (n : ℕ) → NotDecoded input (length out) n ↔ ((c ≡ ending (refused (at 0 n) 0 []) out) × (0 < n))
 
+-- and so of encoding: with all the letters of the bytes and nothing among them, or with a number, and then nothing is touched
+pub data EncodedOrRefused (input out : List ℕ) : Call → Type 0 where
+  -- "Written without line breaks.": four letters for every three bytes, or what is left of three
+  all-encoded : {b : List ℕ} → Base64Text b input → length b ≡ (length input + 2) / 3 * 4 → length b ≤ length out → EncodedOrRefused input out (ending (accepted 0 b) out)
+  -- 6: "an input over its size"
+  bytes-too-long : 1073741824 < length input → EncodedOrRefused input out (ending (refused (at 0 6) 0 []) out)
+  -- 17: "the base64 result is longer than the room left"
+  no-room-for-letters : length input ≤ 1073741824 → length out < (length input + 2) / 3 * 4 → EncodedOrRefused input out (ending (refused (at 0 17) 0 []) out)
+
 -- both steps are accepted, the first writes a text that spells the input, and the second the input
 pub record ComesBack (input : List ℕ) (encoding decoding : Call) : Type 0 where
   pub encoded : Accepted encoding
-  -- "Written without line breaks.": the letters alone, so that no white space has a place among them
-  pub letters-alone : encoding .answer .bytes ≡ (length input + 2) / 3 * 4
   pub spelled : Base64Text (output encoding) input
   pub decoded : Accepted decoding
   pub same : output decoding ≡ input

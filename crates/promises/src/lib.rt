@@ -1,6 +1,6 @@
 // The demands, of the face itself: functions whose bodies are calls of the functions for C and no more, and whose contracts are the demands, over
 // the slices at entry and at exit. None has a `requires`: "Callers check nothing first."
-ghost use Rattle.promises.specs.Promises.{Between, DeclaresExactly, DecodesExactly, EncodedAndDecoded, MeansWhatWasRead, NothingElse, OneByTwo, RowsOrRefusal, ThereAndBack, Unnamed, callOf, made};
+ghost use Rattle.promises.specs.Promises.{Between, DeclaresExactly, DecodesExactly, EncodedAndDecoded, EncodedOrRefused, MeansWhatWasRead, NothingElse, OneByTwo, RowsOrRefusal, ThereAndBack, Unnamed, callOf, made};
 
 // Demands 1 and 2: one call.
 pub fn once(decls: &[u8], from: u32, to: u32, input: &[u8], out: &mut [u8], answer: &mut [u64; 5])
@@ -86,7 +86,8 @@ pub fn encoded_and_decoded(
     bytes: &mut [u8],
     decoding: &mut [u64; 5],
 )
-    ensures { λ _. ⌜ EncodedAndDecoded (now (input .entry)) (now (text .entry)) (now (bytes .entry))
+    ensures ended { λ _. ⌜ EncodedOrRefused (now (input .entry)) (now (text .entry)) (callOf (now (encoding .exit)) (now (text .exit))) ⌝ }
+    ensures back { λ _. ⌜ EncodedAndDecoded (now (input .entry)) (now (text .entry)) (now (bytes .entry))
         (callOf (now (encoding .exit)) (now (text .exit))) (callOf (now (decoding .exit)) (now (bytes .exit))) ⌝ }
 {
     sailmortar::sailmortar_base64_encode(input, text, encoding);

@@ -5,7 +5,7 @@ use denote.Ref.{now}
 use lib.ListN.{length-take}
 use native.Mathlib.Omega.{arith}
 use Rattle.promises.proofs.Laws.{faces}
-use Rattle.promises.proofs.Steps.{comes-back, encoded-within}
+use Rattle.promises.proofs.Steps.{comes-back, encoded-within, encodes}
 use Rattle.row_reading.proofs.CellsFit.{bytes-of}
 use Rattle.promises.proofs.encoded_and_decoded.Statement.{statement}
 use Rattle.promises.proofs.encoded_and_decoded.Tie as tie
@@ -26,8 +26,8 @@ returns c =
     let there = at-there .sailmortar-base64-encode .ensures in
     let back = c .before .before .sailmortar-base64-decode .ensures in
     let at-known = at-there .before .before .before .before .before in
-    comes-back _ _ (faces (there .0) (there .1)) (bytes-of (now (at-known .before .args .input)) (λ i h. at-known .shared-slice-known .given i .fits))
-    _ (faces (back .0) (back .1))
+    let bytes = bytes-of (now (at-known .before .args .input)) (λ i h. at-known .shared-slice-known .given i .fits) in
+    (encodes _ _ (faces (there .0) (there .1)) bytes, comes-back _ _ (faces (there .0) (there .1)) bytes _ (faces (back .0) (back .1)))
 
 pub encoded-and-decoded-spec : {M : Type 1} → statement M
 encoded-and-decoded-spec =
