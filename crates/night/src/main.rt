@@ -1,8 +1,8 @@
 // The sample night in all nine ways and the cases that 01 marks 'run only', through the public face.
 // The cases stand in `stdin`, each a title, a way, the declarations and an input in base64, with `|` behind each. A way is a letter, the two
-// kinds of rows and the room: `c` is one call, `p` a call for every prefix of the input, `r` one for every room up to the one given, `d` the
-// declarations alone, `e` the input encoded. A line has the five numbers of the answer, a sum over every byte of the buffer, which held 238
-// before the call, and the first bytes written.
+// kinds of rows and the room: `c` is one call, `w` one that tells where the rows done end, `p` a call for every prefix of the input, `r` one for
+// every room up to the one given, `d` the declarations alone, `e` the input encoded. A line has the numbers of the answer, a sum over every byte
+// of the buffer, which held 238 before the call, and the first bytes written.
 ghost use Prim.Native.Nat.{_<_, _≤_};
 ghost use lib.ListN.{length};
 ghost use Rattle.night.specs.Places.{Behind};
@@ -97,6 +97,21 @@ fn convert_rooms(decls: &[u8], from: u32, to: u32, input: &[u8], out: &mut [u8])
     }
 }
 
+// One call, and sixth the place where the rows done end.
+fn convert_piece(decls: &[u8], from: u32, to: u32, input: &[u8], out: &mut [u8]) {
+    fill(out);
+    let mut answer = [9u64; 6];
+    sailmortar::sailmortar_convert_piece(decls, from, to, input, out, &mut answer);
+    say_number(answer[0]);
+    say_number(answer[1]);
+    say_number(answer[2]);
+    say_number(answer[3]);
+    say_number(answer[4]);
+    say_number(answer[5]);
+    say_sum(out);
+    say_bytes(out, answer[4] as usize);
+}
+
 fn declare(decls: &[u8]) {
     let mut answer = [9u64; 5];
     sailmortar::sailmortar_declare(decls, &mut answer);
@@ -116,6 +131,7 @@ fn call(letter: u8, decls: &[u8], from: u32, to: u32, input: &[u8], out: &mut [u
     match letter {
         b'p' => convert_prefixes(decls, from, to, input, out),
         b'r' => convert_rooms(decls, from, to, input, out),
+        b'w' => convert_piece(decls, from, to, input, out),
         b'd' => declare(decls),
         b'e' => encode(input, out),
         _ => convert(decls, from, to, input, out),
