@@ -9,12 +9,11 @@ use mathlib.Core.Option.{Option·none-ne-some, some}
 use mathlib.Core.Path.{_∙_, _≡_, ap, refl, subst, sym}
 use lib.Dec.{ltb}
 use lib.ListN.{getD, length, length-append}
-use borrow.Author.Tests.{le-ltb}
 use Rattle.demands.proofs.Demand1.{output-of}
 use Rattle.rows.proofs.Calls.{converts}
 use Rattle.demands.proofs.Demand2.{declared-columns}
 use Rattle.demands.proofs.Unseen.{unseen}
-use Rattle.demands.proofs.Writing.{Writes, all-written, goes-on, lines-read, next-row, no-room, unread, unwritten, writes}
+use Rattle.demands.proofs.Writing.{FirstLine, Writes, all-written, first-line, form-stops, goes-on, lines-read, next-row, no-room, unread, unwritten, writes}
 use Rattle.demands.specs.Demands.{Comes, Demand3, RefusedAt, SameFate, Stands, Stream, both-refused, both-written, called}
 use Rattle.demands.specs.Places.{showsAt}
 use Rattle.demands.specs.Tables.{lines, rowAt, upTo}
@@ -23,13 +22,13 @@ use Rattle.fields.specs.Front.{front}
 use Rattle.rows.proofs.Sequences.{AllRows}
 use Rattle.rows.proofs.Laws.{FitsAll, Placed, newline, newline-read, read-fits, read-nothing, read-row, row-back, write-row-fails}
 use Rattle.rows.specs.Convert.{convert, converting, underColumns}
-use Rattle.rows.specs.Stream.{Table, fitted, read, run, write, writeRow, wroteThen}
+use Rattle.rows.specs.Stream.{Table, read, run, write, writeRow}
 use Rattle.rows.specs.Sequence.{finished, row, stopped}
-use Rattle.table.proofs.Laws.{bind-good, fails-at, holds-at}
+use Rattle.table.proofs.Laws.{fails-at, holds-at}
 use Rattle.table.specs.All.{AreBytes}
 use Rattle.table.specs.Cell.{AreColumns, Cell}
 use Rattle.table.specs.Outcome.{Call, Outcome, Refusal, answerOf, at, ending, mostInput, refused, written}
-use Rattle.table.specs.Result.{Result, _>>=_, bad, good}
+use Rattle.table.specs.Result.{Result, bad, good}
 use Rattle.table.specs.declared.Column.{Column}
 use Rattle.table.specs.declared.Rows.{Rows}
 use Rattle.table.specs.declared.Rows.the-variants.{Binary2}
@@ -56,11 +55,10 @@ more-written to cs room r out t = go (writes to cs room r out t)
 
 here : (to : Rows) (cs : List Column) (room r : ℕ) (out : List ℕ) (xs : List Cell) (t : Table) (w : Result Refusal (List ℕ)) → writeRow to cs xs ≡ w → Roomy room out w
     → Gets out w r (write to cs room r out (row xs t))
-unfolding write fitted wroteThen
-here to cs room r out xs t (bad e) q h = rw q
+here to cs room r out xs t (bad e) q h = form-stops to cs room r out xs t e q
 here to cs room r out xs t (good b) q h =
     let m = more-written to cs room (r + 1) (out ++ b) t in
-    rw (q, le-ltb room (length (out ++ b)) h) (m .0, m .1 ∙ append-assoc out b (m .0))
+    (m .0, ap written (goes-on to cs room r out b xs t q h) ∙ m .1 ∙ append-assoc out b (m .0))
 
 gets : (to : Rows) (cs : List Column) (room : ℕ) (t : Table) (r : ℕ) (out before : List ℕ) (j : ℕ) (xs : List Cell) → rowAt j t ≡ some xs
     → lines to cs (upTo j t) ≡ good before → length (out ++ before) ≤ room → Roomy room (out ++ before) (writeRow to cs xs)
@@ -76,16 +74,14 @@ gets to cs room (row ys t) r out before zero xs q l f h =
     = here to cs room r out xs t (writeRow to cs xs) refl (subst (λ (b : List ℕ). Roomy room b (writeRow to cs xs)) o h) in
     rw (o, e, add-zero r) k
 gets to cs room (row ys t) r out before (suc j) xs q l f h =
-    let w : (b : List ℕ) × (writeRow to cs ys ≡ good b) × ((lines to cs (upTo j t) >>= λ r. good (b ++ r)) ≡ good before) = bind-good (writeRow to cs ys) _ before l in
-    let m : (b : List ℕ) × (lines to cs (upTo j t) ≡ good b) × (good (w .0 ++ b) ≡ good before) = bind-good (lines to cs (upTo j t)) _ before (w .2) in
-    let e : w .0 ++ m .0 ≡ before = cc (m .2) in
-    let o : out ++ before ≡ (out ++ w .0) ++ m .0 = ap (λ (b : List ℕ). out ++ b) (sym e) ∙ sym (append-assoc out (w .0) (m .0)) in
-    let g : length ((out ++ w .0) ++ m .0) ≤ room = rw (← o) f in
-    let k : Gets ((out ++ w .0) ++ m .0) (writeRow to cs xs) (r + 1 + j) (write to cs room (r + 1) (out ++ w .0) t)
-    = gets to cs room t (r + 1) (out ++ w .0) (m .0) j xs q (m .1) g (subst (λ (b : List ℕ). Roomy room b (writeRow to cs xs)) o h) in
-    let n : write to cs room r out (row ys t) ≡ write to cs room (r + 1) (out ++ w .0) t
-    = goes-on to cs room r out (w .0) ys t (w .1) (omega (arith, g, length-append (out ++ w .0) (m .0))) in
-    rw (o, n, add-suc r j) (subst (λ (i : ℕ). Gets ((out ++ w .0) ++ m .0) (writeRow to cs xs) i (write to cs room (r + 1) (out ++ w .0) t)) (omega arith) k)
+    let w : FirstLine to cs ys (upTo j t) before = first-line to cs ys (upTo j t) before l in
+    let o : out ++ before ≡ (out ++ w .first) ++ w .others = ap (λ (b : List ℕ). out ++ b) (sym (w .whole)) ∙ sym (append-assoc out (w .first) (w .others)) in
+    let g : length ((out ++ w .first) ++ w .others) ≤ room = rw (← o) f in
+    let k : Gets ((out ++ w .first) ++ w .others) (writeRow to cs xs) (r + 1 + j) (write to cs room (r + 1) (out ++ w .first) t)
+    = gets to cs room t (r + 1) (out ++ w .first) (w .others) j xs q (w .have-forms) g (subst (λ (b : List ℕ). Roomy room b (writeRow to cs xs)) o h) in
+    let n : write to cs room r out (row ys t) ≡ write to cs room (r + 1) (out ++ w .first) t
+    = goes-on to cs room r out (w .first) ys t (w .has-form) (omega (arith, g, length-append (out ++ w .first) (w .others))) in
+    rw (o, n, add-suc r j) (subst (λ (i : ℕ). Gets ((out ++ w .first) ++ w .others) (writeRow to cs xs) i (write to cs room (r + 1) (out ++ w .first) t)) (omega arith) k)
 
 -- ---- a row of a call
 

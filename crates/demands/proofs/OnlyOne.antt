@@ -10,19 +10,17 @@ use mathlib.Core.Option.{Option·none-ne-some}
 use mathlib.Core.Path.{_∙_, _≡_, ap, ap₂, refl, subst, subst⁻¹, sym}
 use lib.Dec.{ltb}
 use lib.ListN.{drop, length, length-append}
-use borrow.Author.Tests.{lt-ltb}
 use Rattle.demands.proofs.Demand1.{demand1}
-use Rattle.demands.proofs.Writing.{Stopped, goes-on, no-form, not-read, too-long}
+use Rattle.demands.proofs.Writing.{FirstLine, Stopped, first-line, form-stops, goes-on, no-form, not-read, room-stops, too-long}
 use Rattle.demands.specs.Demands.{Converter, Demand1, Ended, NoRows, RowsStand, Sized, Why, all-rows, in-reading, in-writing, no-space, output}
 use Rattle.demands.specs.Tables.{Ends, count, lines, rowAt, stopAt, upTo}
 use Rattle.fields.specs.Fields.{declare}
 use Rattle.rows.specs.Convert.{convert}
 use Rattle.rows.specs.Sequence.{finished, row, stopped}
-use Rattle.rows.specs.Stream.{Table, fitted, read, run, write, writeRow, wroteThen}
-use Rattle.table.proofs.Laws.{bind-good}
+use Rattle.rows.specs.Stream.{Table, read, run, write, writeRow}
 use Rattle.table.specs.Cell.{Cell}
 use Rattle.table.specs.Outcome.{Call, Outcome, Refusal, accepted, answerOf, at, bufferOf, ending, mostInput, refused, written}
-use Rattle.table.specs.Result.{Result, _>>=_, bad, good}
+use Rattle.table.specs.Result.{Result, bad, good}
 use Rattle.table.specs.declared.Answer.{Answer}
 use Rattle.table.specs.declared.Column.{Column}
 use Rattle.table.specs.declared.Rows.{Rows}
@@ -36,11 +34,11 @@ module _ (to : Rows) (cs : List Column) (room : ℕ) where
   -- a row that cannot be done is where it stops
   stops-here : (xs : List Cell) (t : Table) (r : ℕ) (out : List ℕ) (e : Refusal) → Stopped to cs room (row xs t) 0 (length out) e
       → write to cs room r out (row xs t) ≡ refused e r out
-  unfolding write fitted wroteThen stopAt rowAt
+  unfolding stopAt rowAt
   stops-here xs t r out e (not-read q) = absurd (Option·none-ne-some e q)
-  stops-here xs t r out e (no-form {xs = ys} q w) = let k : xs ≡ ys = cc in rw (k, w)
+  stops-here xs t r out e (no-form {xs = ys} q w) = let k : ys ≡ xs = cc in form-stops to cs room r out xs t e (subst (λ (x : List Cell). writeRow to cs x ≡ bad e) k w)
   stops-here xs t r out e (too-long {xs = ys} {b = b} q w h) =
-      let k : xs ≡ ys = cc in rw (k, w, lt-ltb room (length (out ++ b)) (omega (arith, h, length-append out b)))
+      let k : ys ≡ xs = cc in room-stops to cs room r out xs t b (subst (λ (x : List Cell). writeRow to cs x ≡ good b) k w) h
 
   sooner : (xs : List Cell) (t : Table) (done size : ℕ) (e : Refusal) → Stopped to cs room (row xs t) (suc done) size e → Stopped to cs room t done size e
   unfolding stopAt rowAt
@@ -76,14 +74,13 @@ module _ (to : Rows) (cs : List Column) (room : ℕ) where
       let n : out ++ body ≡ out = ap (λ (b : List ℕ). out ++ b) (cc l) ∙ append-nil out in
       rw (n, add-zero r) (stops-here xs t r out e (subst (λ (b : List ℕ). Stopped to cs room (row xs t) 0 (length b) e) n s))
   one-outcome (row xs t) (suc done) r out body o h l f e =
-      let w : (b : List ℕ) × (writeRow to cs xs ≡ good b) × ((lines to cs (upTo done t) >>= λ r. good (b ++ r)) ≡ good body) = bind-good (writeRow to cs xs) _ body l in
-      let m : (b : List ℕ) × (lines to cs (upTo done t) ≡ good b) × (good (w .0 ++ b) ≡ good body) = bind-good (lines to cs (upTo done t)) _ body (w .2) in
-      let q : w .0 ++ m .0 ≡ body = cc (m .2) in
-      let n : out ++ body ≡ (out ++ w .0) ++ m .0 = ap (λ (b : List ℕ). out ++ b) (sym q) ∙ sym (append-assoc out (w .0) (m .0)) in
-      let g : length ((out ++ w .0) ++ m .0) ≤ room = rw (← n) f in
-      goes-on to cs room r out (w .0) xs t (w .1) (omega (arith, g, length-append (out ++ w .0) (m .0)))
-      ∙ one-outcome t done (r + 1) (out ++ w .0) (m .0) o (omega (arith, h)) (m .1) g
-      (subst (λ (b : List ℕ). Ending to cs room t done (length b) (r + 1 + done) b o) n (tail xs t done (length (out ++ body)) (r + suc done) (out ++ body) (r + 1 + done) o (omega arith) e))
+      let w : FirstLine to cs xs (upTo done t) body = first-line to cs xs (upTo done t) body l in
+      let n : out ++ body ≡ (out ++ w .first) ++ w .others = ap (λ (b : List ℕ). out ++ b) (sym (w .whole)) ∙ sym (append-assoc out (w .first) (w .others)) in
+      let g : length ((out ++ w .first) ++ w .others) ≤ room = rw (← n) f in
+      goes-on to cs room r out (w .first) xs t (w .has-form) (omega (arith, g, length-append (out ++ w .first) (w .others)))
+      ∙ one-outcome t done (r + 1) (out ++ w .first) (w .others) o (omega (arith, h)) (w .have-forms) g
+      (subst (λ (b : List ℕ). Ending to cs room t done (length b) (r + 1 + done) b o) n
+      (tail xs t done (length (out ++ body)) (r + suc done) (out ++ body) (r + 1 + done) o (omega arith) e))
 
 -- ---- of a call
 

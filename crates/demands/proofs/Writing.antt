@@ -7,7 +7,7 @@ use mathlib.Core.Option.{some}
 use mathlib.Core.Path.{_∙_, _≡_, ap, ap₂, refl, sym}
 use lib.Dec.{lit≤, ltb}
 use lib.ListN.{length, length-append}
-use borrow.Author.Tests.{le-ltb, ltb-false, ltb-true}
+use borrow.Author.Tests.{le-ltb, lt-ltb, ltb-false, ltb-true}
 use Rattle.demands.specs.Tables.{Ends, count, lines, rowAt, stopAt, upTo}
 use Rattle.rows.proofs.Sequences.{AllRows, Stops}
 use Rattle.rows.proofs.Laws.{FitsAll, Placed, newline, newline-read, read-nothing, read-row, row-back, write-row-fails}
@@ -42,6 +42,34 @@ writes to cs room r out (row xs t) = go (writeRow to cs xs) refl (λ b. writes t
         cond-cases (λ (x : Result Refusal (List ℕ)). Writes to cs room r out (row xs t) (wroteThen r out x (λ b. write to cs room (r + 1) b t)))
         (ltb room (length (out ++ b))) (bad (at 0 17)) (good (out ++ b))
         (λ h. no-room q (ltb-true room (length (out ++ b)) h)) (λ h. next-row q (ltb-false room (length (out ++ b)) h) (ih b))
+
+-- ---- a row's turn
+
+module _ (to : Rows) (cs : List Column) (room r : ℕ) (out : List ℕ) (xs : List Cell) (t : Table) where
+  -- a row that has no form
+  pub form-stops : (e : Refusal) → writeRow to cs xs ≡ bad e → write to cs room r out (row xs t) ≡ refused e r out
+  unfolding write fitted wroteThen
+  form-stops e q = rw q
+
+  -- one that has a form, but for which there is no room
+  pub room-stops : (b : List ℕ) → writeRow to cs xs ≡ good b → room < length out + length b → write to cs room r out (row xs t) ≡ refused (at 0 17) r out
+  unfolding write fitted wroteThen
+  room-stops b q h = rw (q, lt-ltb room (length (out ++ b)) (omega (arith, h, length-append out b)))
+
+-- the lines of a row and of those after it
+pub record FirstLine (to : Rows) (cs : List Column) (xs : List Cell) (t : Table) (body : List ℕ) : Type 0 where
+  pub first : List ℕ
+  pub others : List ℕ
+  pub has-form : writeRow to cs xs ≡ good first
+  pub have-forms : lines to cs t ≡ good others
+  pub whole : first ++ others ≡ body
+
+pub first-line : (to : Rows) (cs : List Column) (xs : List Cell) (t : Table) (body : List ℕ) → lines to cs (row xs t) ≡ good body → FirstLine to cs xs t body
+unfolding lines
+first-line to cs xs t body l =
+    let w : (b : List ℕ) × (writeRow to cs xs ≡ good b) × ((lines to cs t >>= λ r. good (b ++ r)) ≡ good body) = bind-good (writeRow to cs xs) _ body l in
+    let m : (b : List ℕ) × (lines to cs t ≡ good b) × (good (w .0 ++ b) ≡ good body) = bind-good (lines to cs t) _ body (w .2) in
+    record { first = w .0; others = m .0; has-form = w .1; have-forms = m .1; whole = cc (m .2) }
 
 -- a row that has a form, for which there is room
 pub goes-on : (to : Rows) (cs : List Column) (room r : ℕ) (out b : List ℕ) (xs : List Cell) (t : Table) → writeRow to cs xs ≡ good b → length (out ++ b) ≤ room
@@ -121,12 +149,11 @@ unfolding lines write count wroteThen fitted
 accepts to cs finished room r out body e l h = ap₂ accepted (sym (add-zero r)) (cc (append-nil out))
 accepts to cs (stopped n) room r out body e l h = absurd e
 accepts to cs (row xs t) room r out body e l h =
-    let w : (b : List ℕ) × (writeRow to cs xs ≡ good b) × ((lines to cs t >>= λ r. good (b ++ r)) ≡ good body) = bind-good (writeRow to cs xs) _ body l in
-    let m : (b : List ℕ) × (lines to cs t ≡ good b) × (good (w .0 ++ b) ≡ good body) = bind-good (lines to cs t) _ body (w .2) in
-    let q : w .0 ++ m .0 ≡ body = cc (m .2) in
-    let k : length ((out ++ w .0) ++ m .0) ≤ room = rw (append-assoc, q) h in
-    rw (w .1, le-ltb room (length (out ++ w .0)) (omega (arith, length-append (out ++ w .0) (m .0))))
-    (accepts to cs t room (r + 1) (out ++ w .0) (m .0) e (m .1) k ∙ ap₂ accepted (omega arith) (append-assoc out (w .0) (m .0) ∙ ap (λ (b : List ℕ). out ++ b) q))
+    let f : FirstLine to cs xs t body = first-line to cs xs t body l in
+    let k : length ((out ++ f .first) ++ f .others) ≤ room = rw (append-assoc, f .whole) h in
+    rw (f .has-form, le-ltb room (length (out ++ f .first)) (omega (arith, length-append (out ++ f .first) (f .others))))
+    (accepts to cs t room (r + 1) (out ++ f .first) (f .others) e (f .have-forms) k
+    ∙ ap₂ accepted (omega arith) (append-assoc out (f .first) (f .others) ∙ ap (λ (b : List ℕ). out ++ b) (f .whole)))
 
 -- all rows of a table that ends are all of it
 pub up-to-all : (t : Table) → Ends t → upTo (count t) t ≡ t
@@ -147,12 +174,10 @@ lines-read to cs i zero t f body l = nothing-read to cs body l
 lines-read to cs i (suc m) finished f body l = nothing-read to cs body l
 lines-read to cs i (suc m) (stopped n) f body l = nothing-read to cs body l
 lines-read to cs i (suc m) (row xs t) f body l =
-    let w : (b : List ℕ) × (writeRow to cs xs ≡ good b) × ((lines to cs (upTo m t) >>= λ r. good (b ++ r)) ≡ good body) = bind-good (writeRow to cs xs) _ body l in
-    let r : (b : List ℕ) × (lines to cs (upTo m t) ≡ good b) × (good (w .0 ++ b) ≡ good body) = bind-good (lines to cs (upTo m t)) _ body (w .2) in
-    let q : w .0 ++ r .0 ≡ body = cc (r .2) in
-    ap (read to cs) (sym q)
-    ∙ read-row to cs i (w .0 ++ r .0) xs (newline to ++ r .0) (holds-at (row-back to cs xs (i .each) (f .0)) (w .1) (r .0))
-    ∙ ap (row xs) (newline-read to cs i (r .0) ∙ lines-read to cs i m t (f .1) (r .0) (r .1))
+    let w : FirstLine to cs xs (upTo m t) body = first-line to cs xs (upTo m t) body l in
+    ap (read to cs) (sym (w .whole))
+    ∙ read-row to cs i (w .first ++ w .others) xs (newline to ++ w .others) (holds-at (row-back to cs xs (i .each) (f .0)) (w .has-form) (w .others))
+    ∙ ap (row xs) (newline-read to cs i (w .others) ∙ lines-read to cs i m t (f .1) (w .others) (w .have-forms))
 
 -- ---- where every cell has a form, every row has one
 

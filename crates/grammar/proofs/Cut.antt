@@ -11,7 +11,7 @@ use mathlib.Core.Path.{_∙_, _≡_, ap, refl, subst, subst⁻¹, sym}
 use lib.ListN.{length, length-append}
 use Rattle.demands.proofs.Demand1.{rows-of}
 use Rattle.demands.proofs.Demand2.{declared-columns, demand2}
-use Rattle.demands.proofs.Writing.{lines-good}
+use Rattle.demands.proofs.Writing.{FirstLine, first-line, lines-good}
 use Rattle.demands.specs.Tables.{Ends, lines, upTo}
 use Rattle.fields.specs.Fields.{declare}
 use Rattle.grammar.proofs.BinariesRead.{parts-bytes}
@@ -33,7 +33,7 @@ use Rattle.rows.proofs.Laws.{read-row}
 use Rattle.rows.specs.Convert.{convert}
 use Rattle.rows.specs.Sequence.{finished, row, stopped}
 use Rattle.rows.specs.Stream.{Table, read, run, write, writeRow}
-use Rattle.table.proofs.Laws.{bind-good, fails-at, the}
+use Rattle.table.proofs.Laws.{fails-at, the}
 use Rattle.table.specs.All.{AreBytes}
 use Rattle.table.specs.Cell.{AreColumns, Cell}
 use Rattle.table.specs.Outcome.{Call, Outcome, Refusal, answerOf, at, ending, mostInput, rowsDone}
@@ -141,11 +141,12 @@ lines-front : (to : Rows) (cs : List Column) (done left : List (List Cell)) (bod
 unfolding lines tableOf
 lines-front to cs [] left body l = ([], refl, zero-le)
 lines-front to cs (xs ∷ done) left body l =
-    let w : (b : List ℕ) × (writeRow to cs xs ≡ good b) × ((lines to cs (tableOf (done ++ left)) >>= λ r. good (b ++ r)) ≡ good body) = bind-good (writeRow to cs xs) _ body l in
-    let m : (b : List ℕ) × (lines to cs (tableOf (done ++ left)) ≡ good b) × (good (w .0 ++ b) ≡ good body) = bind-good (lines to cs (tableOf (done ++ left))) _ body (w .2) in
-    let q : w .0 ++ m .0 ≡ body = cc (m .2) in
-    let f = lines-front to cs done left (m .0) (m .1) in
-    (w .0 ++ f .0, front-good (writeRow to cs xs) (lines to cs (tableOf done)) (w .0) (f .0) (w .1) (f .1), omega (arith, f .2, length-append (w .0) (f .0), length-append (w .0) (m .0), ap length q))
+    let w : FirstLine to cs xs (tableOf (done ++ left)) body = first-line to cs xs (tableOf (done ++ left)) body l in
+    let f = lines-front to cs done left (w .others) (w .have-forms) in (
+      w .first ++ f .0,
+      front-good (writeRow to cs xs) (lines to cs (tableOf done)) (w .first) (f .0) (w .has-form) (f .1),
+      omega (arith, f .2, length-append (w .first) (f .0), length-append (w .first) (w .others), ap length (w .whole)),
+    )
   where
     front-good : (x y : Result Refusal (List ℕ)) (b r : List ℕ) → x ≡ good b → y ≡ good r → (x >>= λ b. y >>= λ r. good (b ++ r)) ≡ good (b ++ r)
     front-good x y b r e f = rw (e, f)

@@ -11,9 +11,9 @@ use mathlib.Core.Option.{Option·none-ne-some, some}
 use mathlib.Core.Path.{_∙_, _≡_, ap, refl, subst, subst⁻¹, sym}
 use lib.Dec.{lit<, ltb}
 use lib.ListN.{length, length-append}
-use borrow.Author.Tests.{lt-ltb, ltb-false, ltb-true}
+use borrow.Author.Tests.{ltb-false, ltb-true}
 use Rattle.demands.proofs.Demand2.{declared-columns, stands}
-use Rattle.demands.proofs.Writing.{goes-on}
+use Rattle.demands.proofs.Writing.{FirstLine, first-line, form-stops, goes-on, room-stops}
 use Rattle.demands.specs.Demands.{RowsStand, Why, all-rows, in-reading, in-writing, no-space, output}
 use Rattle.demands.specs.Tables.{lines, rowAt, stopAt, upTo}
 use Rattle.fields.proofs.Front.{front-oversized, front-undeclared}
@@ -33,12 +33,12 @@ use Rattle.rows.proofs.Sequences.{Stops}
 use Rattle.rows.proofs.Laws.{Placed, read-row, read-stops, write-row-fails}
 use Rattle.rows.specs.Convert.{convert, converting, underColumns}
 use Rattle.rows.specs.Sequence.{finished, row, stopped}
-use Rattle.rows.specs.Stream.{Table, fitted, read, run, write, writeRow, wroteThen}
-use Rattle.table.proofs.Laws.{bind-good, fails-at, holds-at}
+use Rattle.rows.specs.Stream.{Table, read, run, write}
+use Rattle.table.proofs.Laws.{fails-at, holds-at}
 use Rattle.table.specs.All.{AreBytes}
 use Rattle.table.specs.Cell.{AreColumns, Cell}
 use Rattle.table.specs.Outcome.{Call, Outcome, Refusal, answerOf, at, ending, mostInput, refused}
-use Rattle.table.specs.Result.{Result, _>>=_, bad, good}
+use Rattle.table.specs.Result.{Result, bad, good}
 use Rattle.table.specs.declared.Column.{Column}
 use Rattle.table.specs.declared.Rows.{Rows}
 
@@ -52,22 +52,12 @@ module _ (to : Rows) (cs : List Column) (room : ℕ) where
       let e : out ≡ out ++ body = sym (append-nil out) ∙ ap (λ (b : List ℕ). out ++ b) (cc l) in
       ap (λ (b : List ℕ). write to cs room r b u) e ∙ ap (λ (n : ℕ). write to cs room n (out ++ body) u) (sym (add-zero r))
   rows-go-on (xs ∷ rows) u r out body l h =
-      let w : (b : List ℕ) × (writeRow to cs xs ≡ good b) × ((lines to cs (tableOf rows) >>= λ r. good (b ++ r)) ≡ good body) = bind-good (writeRow to cs xs) _ body l in
-      let m : (b : List ℕ) × (lines to cs (tableOf rows) ≡ good b) × (good (w .0 ++ b) ≡ good body) = bind-good (lines to cs (tableOf rows)) _ body (w .2) in
-      let q : w .0 ++ m .0 ≡ body = cc (m .2) in
-      let n : (out ++ w .0) ++ m .0 ≡ out ++ body = append-assoc out (w .0) (m .0) ∙ ap (λ (b : List ℕ). out ++ b) q in
-      let g : length ((out ++ w .0) ++ m .0) ≤ room = rw n h in
-      goes-on to cs room r out (w .0) xs (andThen (tableOf rows) u) (w .1) (omega (arith, g, length-append (out ++ w .0) (m .0)))
-      ∙ rows-go-on rows u (r + 1) (out ++ w .0) (m .0) (m .1) g
+      let w : FirstLine to cs xs (tableOf rows) body = first-line to cs xs (tableOf rows) body l in
+      let n : (out ++ w .first) ++ w .others ≡ out ++ body = append-assoc out (w .first) (w .others) ∙ ap (λ (b : List ℕ). out ++ b) (w .whole) in
+      let g : length ((out ++ w .first) ++ w .others) ≤ room = rw n h in
+      goes-on to cs room r out (w .first) xs (andThen (tableOf rows) u) (w .has-form) (omega (arith, g, length-append (out ++ w .first) (w .others)))
+      ∙ rows-go-on rows u (r + 1) (out ++ w .first) (w .others) (w .have-forms) g
       ∙ ap (λ (b : List ℕ). write to cs room (r + 1 + length rows) b u) n ∙ ap (λ (k : ℕ). write to cs room k (out ++ body) u) (omega arith)
-
-  no-form : (xs : List Cell) (t : Table) (r : ℕ) (out : List ℕ) (e : Refusal) → writeRow to cs xs ≡ bad e → write to cs room r out (row xs t) ≡ refused e r out
-  unfolding write fitted wroteThen
-  no-form xs t r out e q = rw q
-
-  no-room : (xs : List Cell) (t : Table) (r : ℕ) (out b : List ℕ) → writeRow to cs xs ≡ good b → room < length out + length b → write to cs room r out (row xs t) ≡ refused (at 0 17) r out
-  unfolding write fitted wroteThen
-  no-room xs t r out b q h = rw (q, lt-ltb room (length (out ++ b)) (omega (arith, h, length-append out b)))
 
 -- ---- a table, up to a row
 
@@ -133,9 +123,9 @@ module _ (decls : List ℕ) (from to : Rows) (input out : List ℕ) where
   refuses-answers a (refuses-reading {cs = cs} {rows = rows} {body = body} {n = n} {k = k} d s) =
       behind d (stopped (at k n)) (at k n) (stops-exactly from cs (columns d) rows input n k a .0 s) (unfold write in refl)
   refuses-answers a (refuses-writing {cs = cs} {rows = rows} {body = body} {rest = rest} {more = more} {xs = xs} {n = n} {k = k} d p q w) =
-      behind d (row xs (read from cs more)) (at k n) (next d p q) (no-form to cs (length out) xs (read from cs more) (length rows) body (at k n) (unwritten-read w))
+      behind d (row xs (read from cs more)) (at k n) (next d p q) (form-stops to cs (length out) (length rows) body xs (read from cs more) (at k n) (unwritten-read w))
   refuses-answers a (refuses-room {cs = cs} {rows = rows} {body = body} {b = b} {rest = rest} {more = more} {xs = xs} d p q w h) =
-      behind d (row xs (read from cs more)) (at 0 17) (next d p q) (no-room to cs (length out) xs (read from cs more) (length rows) body b w h)
+      behind d (row xs (read from cs more)) (at 0 17) (next d p q) (room-stops to cs (length out) (length rows) body xs (read from cs more) b w h)
 
   -- a refusal's number is above 0
   above : {n r k : ℕ} → AreBytes input → Refuses decls from to input (length out) n r k → 0 < n
