@@ -119,7 +119,9 @@ one-by-two decls from to input first rest out {numbers} {numbers2 = numbers2} {e
     let o : Outcome = run source target cs (length rest) left in
     let one : callOf numbers _ ≡ c = piece-is decls from to input first h source target e f in
     let short : length left ≤ mostInput = omega (arith, sized, length-drop (getD numbers 5 0) input) in
-    let two = is-convert decls from to left rest (subst (λ (x : List ℕ). Faces (convertFace decls from to x rest) numbers2 exit2) (part-to-end input (getD numbers 5 0)) k) source target e f ∙ converts decls source target left rest cs q short in
+    let behind : Faces (convertFace decls from to left rest) numbers2 exit2
+    = subst (λ (x : List ℕ). Faces (convertFace decls from to x rest) numbers2 exit2) (part-to-end input (getD numbers 5 0)) k in
+    let two = is-convert decls from to left rest behind source target e f ∙ converts decls source target left rest cs q short in
     let bytes : length out ≡ c .answer .bytes + length rest = room ∙ ap (λ (x : Call). x .answer .bytes + length rest) one in
     let whole = is-convert decls from to input out l source target e f ∙ converts decls source target input out cs q sized
     ∙ ap (λ (x : Outcome). ending x out) (goes-on-behind decls source target input first cs q sized (length out) (omega (arith, bytes))) in

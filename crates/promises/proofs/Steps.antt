@@ -17,7 +17,8 @@ use Rattle.grammar.proofs.Exactly.{declares-one}
 use Rattle.grammar.specs.Declarations.{Declares}
 use Rattle.grammar.specs.Exact.{InBase64}
 use Rattle.promises.proofs.Laws.{Faces, bytes-within, call-is, output-is}
-use Rattle.promises.specs.Promises.{DeclaresExactly, DecodedOrRefused, DecodesExactly, EncodedAndDecoded, EncodedOrRefused, all-declared, all-decoded, all-encoded, bytes-too-long, callOf, no-room-for-letters, not-declared, not-decoded}
+use Rattle.promises.specs.Promises.{DeclaresExactly, DecodedOrRefused, DecodesExactly, EncodedAndDecoded, EncodedOrRefused, all-declared}
+use Rattle.promises.specs.Promises.{all-decoded, all-encoded, bytes-too-long, callOf, no-room-for-letters, not-declared, not-decoded}
 use Rattle.sailmortar.specs.Face.{declareFace, declaredNumbers, decodeFace, encodeFace}
 use Rattle.table.specs.All.{AreBytes}
 use Rattle.table.proofs.Laws.{bad-good}
