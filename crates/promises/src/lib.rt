@@ -59,16 +59,16 @@ pub fn in_pieces(
     answer1: &mut [u64; 6],
     out2: &mut [u8],
     answer2: &mut [u64; 5],
-    out: &mut [u8],
-    answer: &mut [u64; 5],
+    out3: &mut [u8],
+    answer3: &mut [u64; 5],
 )
     ensures { λ _. ⌜ Between from to (OneByTwo (now (decls .entry)) (now (input .entry)) (callOf (now (answer1 .exit)) (now (out1 .exit))) (now (out2 .entry))
-        (callOf (now (answer2 .exit)) (now (out2 .exit))) (now (out .entry)) (callOf (now (answer .exit)) (now (out .exit)))) ⌝ }
+        (callOf (now (answer2 .exit)) (now (out2 .exit))) (now (out3 .entry)) (callOf (now (answer3 .exit)) (now (out3 .exit)))) ⌝ }
 {
     sailmortar::sailmortar_convert_piece(decls, from, to, input, out1, answer1);
     let place = answer1[5] as usize;
     sailmortar::sailmortar_convert(decls, from, to, &input[place..], out2, answer2);
-    sailmortar::sailmortar_convert(decls, from, to, input, out, answer);
+    sailmortar::sailmortar_convert(decls, from, to, input, out3, answer3);
 }
 
 // Demands 1 and 2 of base64: one decoding step.

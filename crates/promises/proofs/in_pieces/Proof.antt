@@ -27,7 +27,7 @@ returns c =
     one-by-two _ _ _ _ _ _ _
     (faces {f = pieceFace (now (args .decls)) (args .from) (args .to) (now (args .input)) (now (args .out1))} (piece .0) (piece .1))
     (faces {f = convertFace (now (args .decls)) (args .from) (args .to) _ (now (args .out2))} (second .0) (second .1))
-    (faces {f = convertFace (now (args .decls)) (args .from) (args .to) (now (args .input)) (now (args .out))} (whole .0) (whole .1))
+    (faces {f = convertFace (now (args .decls)) (args .from) (args .to) (now (args .input)) (now (args .out3))} (whole .0) (whole .1))
 
 pub in-pieces-spec : {M : Type 1} → statement M
 in-pieces-spec =
