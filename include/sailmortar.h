@@ -83,9 +83,10 @@ void sailmortar_convert(const uint8_t *decls, size_t decls_length, uint32_t from
                         uint8_t *out, size_t out_length, uint64_t answer[5]);
 
 /*
- * The same for a piece of a table, such as its front while the rest is still to come. Sixth in the answer is the place in `input` where the
- * rows done end: where the refused row begins, white space before a row of TABLEDATA included; the length of `input` on acceptance; 0 where a
- * refusal stands before any row. The next piece begins there, with what has come since.
+ * The same for a piece of a table, such as its front while the rest is still to come. Sixth in the answer is the place in `input` right behind
+ * the last row done, and the next piece begins there, with what has come since. White space between two rows of TABLEDATA stands behind that
+ * place: it goes with the row that follows. On acceptance the place is the length of `input`; where declarations, kinds or the size of `input`
+ * are refused it is 0.
  */
 void sailmortar_convert_piece(const uint8_t *decls, size_t decls_length, uint32_t from, uint32_t to, const uint8_t *input, size_t input_length,
                               uint8_t *out, size_t out_length, uint64_t answer[6]);

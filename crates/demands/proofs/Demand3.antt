@@ -1,5 +1,6 @@
 -- Demand 3 of the converter. What a row gets is what the target has for its cells, `writeRow`, and that sees nothing else: so two rows that
--- show the same get the same. Bytes that show nothing: Unseen.
+-- show the same get the same. Bytes that show nothing: Unseen. What a buffer held: a call is `ending` of an outcome, and the outcome sees its
+-- room alone.
 use Prim.Native.Nat.{_+_, _<_, _≤_, suc, zero, ℕ}
 use native.Mathlib.Nat.{add-suc, add-zero, zero-add}
 use native.Mathlib.Omega.{arith}
@@ -14,7 +15,7 @@ use Rattle.rows.proofs.Calls.{converts}
 use Rattle.demands.proofs.Demand2.{declared-columns}
 use Rattle.demands.proofs.Unseen.{unseen}
 use Rattle.demands.proofs.Writing.{FirstLine, Writes, all-written, first-line, form-stops, goes-on, lines-read, next-row, no-room, unread, unwritten, writes}
-use Rattle.demands.specs.Demands.{Comes, Demand3, RefusedAt, SameFate, Stands, Stream, both-refused, both-written, called}
+use Rattle.demands.specs.Demands.{Comes, Demand3, RefusedAt, SameFate, SameOutput, Stands, Stream, both-refused, both-written, called}
 use Rattle.demands.specs.Places.{showsAt}
 use Rattle.demands.specs.Tables.{lines, rowAt, upTo}
 use Rattle.fields.specs.Fields.{declare}
@@ -155,13 +156,24 @@ unfolding underColumns run
 same-run true to cs room s t e = refl
 same-run false to cs room s t e = rw e
 
-unseen-of : (decls : List ℕ) (to : Rows) (cs : List Column) (s t out : List ℕ) → declare decls ≡ good cs → length t ≡ length s
+unseen-of : (decls : List ℕ) (to : Rows) (cs : List Column) (s t : List ℕ) (room : ℕ) → declare decls ≡ good cs → length t ≡ length s
     → ((i : ℕ) → i < length s → showsAt cs s i ≡ true → getD t i 0 ≡ getD s i 0)
-    → convert decls Binary2 to t out ≡ convert decls Binary2 to s out
-unfolding convert converting front
-unseen-of decls to cs s t out q l h =
-    rw (q, l)
-    (ap (λ (o : Outcome). ending o out) (same-run (ltb mostInput (length s)) to cs (length out) s t (unseen cs s t (declared-columns decls cs q) l h)))
+    → converting decls Binary2 to t room ≡ converting decls Binary2 to s room
+unfolding converting front
+unseen-of decls to cs s t room q l h = rw (q, l) (same-run (ltb mostInput (length s)) to cs room s t (unseen cs s t (declared-columns decls cs q) l h))
+
+-- two calls that come to one outcome: what their buffers held is not seen
+same-ending : (o w : Outcome) (p q : List ℕ) → w ≡ o → SameOutput (ending o p) (ending w q)
+same-ending o w p q e =
+    record { same-answer = unfold ending in rw e; same-bytes = output-of w q ∙ ap written e ∙ sym (output-of o p) }
+
+same-room : (decls : List ℕ) (to : Rows) (cs : List Column) (s t p q : List ℕ) → declare decls ≡ good cs → length t ≡ length s → length q ≡ length p
+    → ((i : ℕ) → i < length s → showsAt cs s i ≡ true → getD t i 0 ≡ getD s i 0)
+    → SameOutput (convert decls Binary2 to s p) (convert decls Binary2 to t q)
+unfolding convert
+same-room decls to cs s t p q d l r h =
+    same-ending (converting decls Binary2 to s (length p)) (converting decls Binary2 to t (length q)) p q
+    (ap (converting decls Binary2 to t) r ∙ unseen-of decls to cs s t (length p) d l h)
 
 pub demand3 : Demand3 convert
 demand3 =
@@ -169,5 +181,5 @@ demand3 =
       same-rows = λ decls to cs xs s t q a b k l.
           same-fate to cs xs s t (k .before) (l .before) (called convert decls to s) (called convert decls to t) (writeRow to cs xs) refl
           (fate decls to cs xs s q a k) (fate decls to cs xs t q b l);
-      unseen-bytes = unseen-of;
+      unseen-bytes = same-room;
     }

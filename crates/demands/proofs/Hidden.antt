@@ -12,6 +12,7 @@ use Rattle.binary.specs.Binary.{contentBytes, countIn}
 use Rattle.demands.proofs.Demand3.{demand3}
 use Rattle.demands.proofs.Everything.{everything}
 use Rattle.demands.proofs.Night.{night-declared, nightColumns, nightDecls}
+use Rattle.demands.specs.Demands.{SameOutput}
 use Rattle.demands.specs.Places.{cellsShow, contentShows, showsAt, streamShows, throughNul}
 use Rattle.rows.specs.Convert.{convert}
 use Rattle.rows.specs.Sequence.{finished, row}
@@ -88,10 +89,11 @@ same-places (true ∷ ms) (x ∷ s) (y ∷ t) h (suc i) m = same-places ms s t (
 same-places (false ∷ ms) (x ∷ s) (y ∷ t) h zero m = absurd (false≢true m)
 same-places (false ∷ ms) (x ∷ s) (y ∷ t) h (suc i) m = same-places ms s t h i m
 
--- whatever stands in these five bytes, for every target and every buffer the call is the same
-pub night-hides : (p q u v w : ℕ) (to : Rows) (out : List ℕ) → convert nightDecls Binary2 to (nightOf p q u v w) out ≡ convert nightDecls Binary2 to (nightOf 0 0 0 0 0) out
-night-hides p q u v w to out =
-    demand3 .unseen-bytes nightDecls to nightColumns (nightOf 0 0 0 0 0) (nightOf p q u v w) out night-declared refl
+-- whatever stands in these five bytes, for every target and any two buffers of one room, the answer and what is written are the same
+pub night-hides : (p q u v w : ℕ) (to : Rows) (before after : List ℕ) → length after ≡ length before
+    → SameOutput (convert nightDecls Binary2 to (nightOf 0 0 0 0 0) before) (convert nightDecls Binary2 to (nightOf p q u v w) after)
+night-hides p q u v w to before after room =
+    demand3 .unseen-bytes nightDecls to nightColumns (nightOf 0 0 0 0 0) (nightOf p q u v w) before after night-declared refl room
     (λ i h m. same-places marks (nightOf 0 0 0 0 0) (nightOf p q u v w)
     (refl, (refl, (refl, (refl, (refl, (refl, (refl, (refl, (refl, (refl, (refl, refl))))))))))) i (places i ∙ m))
   where

@@ -168,6 +168,11 @@ pub data SameFate (to : Rows) (cs : List Column) (xs : List Cell) (s t : Stream)
 abbrev pub called : Converter → List ℕ → Rows → Stream → Call
 called convert decls to s = convert decls (s .from) to (s .input) (s .out)
 
+-- "accepted again, .. and written as the same bytes": all five numbers of the answer, and what was written
+pub record SameOutput (c d : Call) : Type 0 where
+  pub same-answer : d .answer ≡ c .answer
+  pub same-bytes : output d ≡ output c
+
 pub record Demand3 (convert : Converter) : Type 0 where
   -- "Two rows that show the same under the same declarations, in any two streams, get for the same target, .. the same bytes or the same
   -- refusal number and column"
@@ -175,8 +180,8 @@ pub record Demand3 (convert : Converter) : Type 0 where
       → AreBytes (s .input) → AreBytes (t .input) → (k : Comes to cs xs s) (l : Comes to cs xs t)
       → SameFate to cs xs s t (k .before) (l .before) (called convert decls to s) (called convert decls to t)
   -- "if an accepted BINARY2 stream has changed only in bytes that show nothing (under a null flag, counts excepted, or after the first NUL
-  -- of a text), it is accepted again, for the same target and room, and written as the same bytes": the whole call is the same, and a
-  -- refused stream is refused the same
-  pub unseen-bytes : (decls : List ℕ) (to : Rows) (cs : List Column) (s t out : List ℕ) → declare decls ≡ good cs → length t ≡ length s
+  -- of a text), it is accepted again, for the same target and room, and written as the same bytes": whatever the two buffers of that room
+  -- held, and a refused stream is refused the same
+  pub unseen-bytes : (decls : List ℕ) (to : Rows) (cs : List Column) (s t p q : List ℕ) → declare decls ≡ good cs → length t ≡ length s → length q ≡ length p
       → ((i : ℕ) → i < length s → showsAt cs s i ≡ true → getD t i 0 ≡ getD s i 0)
-      → convert decls Binary2 to t out ≡ convert decls Binary2 to s out
+      → SameOutput (convert decls Binary2 to s p) (convert decls Binary2 to t q)

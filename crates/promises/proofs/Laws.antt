@@ -10,7 +10,7 @@ use lib.ListN.{getD, length, length-append, take}
 use Rattle.demands.proofs.Demand1.{bytes-of, demand1, output-of}
 use Rattle.demands.proofs.Demand2.{demand2, lines-written}
 use Rattle.demands.proofs.Demand3.{demand3}
-use Rattle.demands.specs.Demands.{SameFate, output}
+use Rattle.demands.specs.Demands.{SameFate, SameOutput, output}
 use Rattle.demands.specs.Places.{showsAt}
 use Rattle.demands.specs.Tables.{lines, upTo}
 use Rattle.fields.specs.Fields.{declare}
@@ -107,25 +107,52 @@ module _ (decls : List ℕ) (from to : ℕ) (input out : List ℕ) {numbers exit
 abbrev MadeBy : List ℕ → ℕ → Made → Type 0
 MadeBy decls to m = Faces (convertFace decls (m .from) to (m .input) (m .entry)) (m .numbers) (m .exit)
 
--- two faces that are one
-same-face : {f g : Faced} {numbers exit others left : List ℕ} → Faces f numbers exit → Faces g others left → g ≡ f → (others ≡ numbers) × (left ≡ exit)
-same-face h k e =
-    (k .numbers-are ∙ ap (λ (x : Faced). x .numbers) e ∙ sym (h .numbers-are), k .buffer-is ∙ ap (λ (x : Faced). x .buffer) e ∙ sym (h .buffer-is))
+text-named : rowsOf 0 ≡ some TableData
+unfolding rowsOf
+text-named = refl
+
+binary2-named : rowsOf 2 ≡ some Binary2
+unfolding rowsOf
+binary2-named = refl
+
+-- the same numbers, and the same bytes written
+abbrev SameMade : Made → Made → Type 0
+SameMade first second =
+    (second .numbers ≡ first .numbers) × (output (callOf (second .numbers) (second .exit)) ≡ output (callOf (first .numbers) (first .exit)))
+
+-- a number that names no kind of rows: nothing is written
+nothing-written : (numbers exit : List ℕ) → numbers ≡ 255 ∷ 0 ∷ 0 ∷ 0 ∷ 0 ∷ [] → output (callOf numbers exit) ≡ []
+unfolding output callOf
+nothing-written numbers exit e = rw e
 
 module _ (decls : List ℕ) (to : ℕ) (first second : Made) (h : MadeBy decls to first) (k : MadeBy decls to second) where
-  -- the numbers 2 name BINARY2, and the target's number names one kind or none
-  same-unseen : first .from ≡ 2 → second .from ≡ 2 → second .entry ≡ first .entry → (cs : List Column) → declare decls ≡ good cs
-      → length (second .input) ≡ length (first .input)
-      → ((i : ℕ) → i < length (first .input) → showsAt cs (first .input) i ≡ true → getD (second .input) i 0 ≡ getD (first .input) i 0)
-      → convertFace decls (second .from) to (second .input) (second .entry) ≡ convertFace decls (first .from) to (first .input) (first .entry)
-  unfolding convertFace rowsOf
-  same-unseen e f g cs q l unseen = rw (e, f, g) (by-target (rowsOf to))
-    where
-      by-target : (o : Option Rows)
-          → betweenKinds (some Binary2) o (noSuchKind 4 (first .entry)) (converted decls (second .input) (first .entry))
-          ≡ betweenKinds (some Binary2) o (noSuchKind 4 (first .entry)) (converted decls (first .input) (first .entry))
-      by-target none = unfold betweenKinds in refl
-      by-target (some target) = unfold betweenKinds in ap faced (demand3 .unseen-bytes decls target cs (first .input) (second .input) (first .entry) q l unseen)
+  module _ (e : first .from ≡ 2) (f : second .from ≡ 2) where
+    -- two calls that are the same but for what their buffers held
+    same-calls : (target : Rows) → rowsOf to ≡ some target
+        → SameOutput (convert decls Binary2 target (first .input) (first .entry)) (convert decls Binary2 target (second .input) (second .entry)) → SameMade first second
+    unfolding faced
+    same-calls target t s =
+        let one = faces-convert decls (first .from) to (first .input) (first .entry) h Binary2 target (ap rowsOf e ∙ binary2-named) t in
+        let other = faces-convert decls (second .from) to (second .input) (second .entry) k Binary2 target (ap rowsOf f ∙ binary2-named) t in (
+          other .numbers-are ∙ ap five (s .same-answer) ∙ sym (one .numbers-are),
+          ap output (call-is _ other) ∙ s .same-bytes ∙ sym (ap output (call-is _ one)),
+        )
+
+    -- the target's number names none
+    same-refusals : rowsOf to ≡ none → SameMade first second
+    same-refusals t =
+        let one = unnamed decls (first .from) to (first .input) (first .entry) h .no-target t .0 in
+        let other = unnamed decls (second .from) to (second .input) (second .entry) k .no-target t .0 in
+        (other ∙ sym one, nothing-written (second .numbers) (second .exit) other ∙ sym (nothing-written (first .numbers) (first .exit) one))
+
+    same-unseen : length (second .entry) ≡ length (first .entry) → (cs : List Column) → declare decls ≡ good cs → length (second .input) ≡ length (first .input)
+        → ((i : ℕ) → i < length (first .input) → showsAt cs (first .input) i ≡ true → getD (second .input) i 0 ≡ getD (first .input) i 0) → SameMade first second
+    same-unseen g cs q l unseen = by-target (rowsOf to) refl
+      where
+        by-target : (o : Option Rows) → rowsOf to ≡ o → SameMade first second
+        by-target none t = same-refusals t
+        by-target (some target) t =
+            same-calls target t (demand3 .unseen-bytes decls target cs (first .input) (second .input) (first .entry) (second .entry) q l g unseen)
 
   pub nothing-else : AreBytes (first .input) → AreBytes (second .input) → NothingElse decls to first second
   nothing-else a b =
@@ -136,7 +163,7 @@ module _ (decls : List ℕ) (to : ℕ) (first second : Made) (h : MadeBy decls t
             (subst⁻¹ (SameFate target cs xs (rowOf source first i) (rowOf other second j) (c .before) (d .before) (convert decls source target (first .input) (first .entry)))
             (is-convert decls (second .from) to (second .input) (second .entry) k other target o t)
             (demand3 .same-rows decls target cs xs (rowOf source first i) (rowOf other second j) q a b c d));
-        unseen-bytes = λ e f g cs q l unseen. same-face h k (same-unseen e f g cs q l unseen);
+        unseen-bytes = same-unseen;
       }
 
 -- ---- there and back
@@ -151,14 +178,6 @@ all-of-table : (rows : List (List Cell)) → upTo (length rows) (tableOf rows) �
 unfolding tableOf upTo
 all-of-table [] = refl
 all-of-table (xs ∷ rows) = ap (row xs) (all-of-table rows)
-
-text-named : rowsOf 0 ≡ some TableData
-unfolding rowsOf
-text-named = refl
-
-binary2-named : rowsOf 2 ≡ some Binary2
-unfolding rowsOf
-binary2-named = refl
 
 -- what a call wrote
 pub output-is : (n : ℕ) (body out : List ℕ) {c : Call} → c ≡ ending (accepted n body) out → output c ≡ body

@@ -97,12 +97,12 @@ pub record NothingElse (decls : List ℕ) (to : ℕ) (first second : Made) : Typ
       → SameFate target cs xs (rowOf source first j) (rowOf other second k) (c .before) (d .before)
       (callOf (first .numbers) (first .exit)) (callOf (second .numbers) (second .exit))
   -- "And if an accepted BINARY2 stream has changed only in bytes that show nothing (under a null flag, counts excepted, or after the first NUL
-  -- of a text), it is accepted again, for the same target and room, and written as the same bytes.": every number and every byte is the
-  -- same, and a refused stream is refused the same
-  pub unseen-bytes : first .from ≡ 2 → second .from ≡ 2 → second .entry ≡ first .entry → (cs : List Column) → declare decls ≡ good cs
+  -- of a text), it is accepted again, for the same target and room, and written as the same bytes.": every number and every byte written is
+  -- the same, whatever the two buffers held, and a refused stream is refused the same
+  pub unseen-bytes : first .from ≡ 2 → second .from ≡ 2 → length (second .entry) ≡ length (first .entry) → (cs : List Column) → declare decls ≡ good cs
       → length (second .input) ≡ length (first .input)
       → ((i : ℕ) → i < length (first .input) → showsAt cs (first .input) i ≡ true → getD (second .input) i 0 ≡ getD (first .input) i 0)
-      → (second .numbers ≡ first .numbers) × (second .exit ≡ first .exit)
+      → (second .numbers ≡ first .numbers) × (output (callOf (second .numbers) (second .exit)) ≡ output (callOf (first .numbers) (first .exit)))
 
 -- ---- there and back
 
