@@ -19,7 +19,6 @@ use Rattle.table.specs.Bytes.{words}
 use Rattle.table.specs.Result.{Result, _>>=_, bad, every, good, refusedAs}
 use Rattle.table.specs.Shape.{Bits, Shape, Text, Truths, Whole, Width, last}
 use Rattle.table.specs.declared.Null.the-variants.{Declared, Undeclared}
-use Rattle.table.specs.declared.Null.{Null}
 use Rattle.tabledata.specs.TableData.{elementsOf, integerWord, textElements}
 
 -- ---- the words of the definition, as elements

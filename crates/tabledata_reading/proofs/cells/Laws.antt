@@ -19,7 +19,7 @@ use Rattle.table.specs.declared.Column.{Column}
 use Rattle.table.specs.declared.Found.the-variants.{Refused, Shown}
 use Rattle.table.specs.declared.Found.{Found}
 use Rattle.tabledata.proofs.Laws.{nil-elements}
-use Rattle.tabledata.specs.TableData.{allText, characters, countFits, elementsOf, plain, readText, textCell, textElements}
+use Rattle.tabledata.specs.TableData.{allText, characters, countFits, elementsOf, plain, readText, textCell}
 use Rattle.tabledata_reading.specs.Cells.{CellShows, FoundCount, FoundNext, roomAnd, shownIn}
 use Rattle.tabledata_reading.specs.Openings.{OpeningIs}
 use Rattle.element_reading.specs.Elements.{Stored, TakesElements, elementsFrom, onward}

@@ -5,9 +5,7 @@ use Rattle.table.specs.Result.{good}
 use Rattle.table.specs.declared.Null.the-variants.{Declared}
 use borrow.Author.Needs.{needs}
 use lib.IntN.{pos, ℤ}
-use mathlib.Core.Path.{_∙_, _≡_, ap, refl, subst, sym}
-use mir.Syntax.{w64}
-use mir.Val.{ofZ, toZ}
+use mathlib.Core.Path.{_∙_, ap, refl, subst, sym}
 use Rattle.declaring.proofs.columns.null_value.Statement.{statement}
 use Rattle.declaring.proofs.columns.null_value.Tie as tie
 
