@@ -2,7 +2,7 @@
 -- nothing yet answers 0, the one that converts row 0 and repeats or blanks the rest, and the one with an invented row count": no converter
 -- that meets demand 2 is one of these. Each is caught by the sample night, whose two rows differ, or by the empty input. Demand 1 leaves one
 -- converter, ours (`only-one`), so whoever answers otherwise meets it no more: the liar below, who throws good rows away, is caught by a night that
--- was cut in its third row, and so is one that names another number.
+-- was cut in its third row, and so is one that names another number. Demand 3 by itself shuts out one that looks at what its buffer held.
 use Prim.Native.Nat.{_≤_, suc, zero, zero-le, ℕ}
 use native.Mathlib.Omega.{arith}
 use mathlib.Core.Bool.{Bool, false, true}
@@ -284,3 +284,13 @@ module _ (f : Converter) (d : Demand1 f) where
       let five : f [] TableData Binary2 [] [] .answer .number ≡ 5 = ap (λ (c : Call). c .answer .number) (only-one f d [] TableData Binary2 [] []) ∙ no-declarations in
       let k = wrong [] TableData Binary2 [] [] (λ a. omega (arith, a, five)) in
       absurd (omega (arith, k, five, cut-number, wrong nightDecls TableData Binary2 cutNight room (λ a. omega (arith, a, cut-number))))
+
+-- ---- what any converter that meets demand 3 does in two buffers of one room
+
+module _ (f : Converter) (d : Demand3 f) where
+  abbrev Peeks : (decls : List ℕ) (to : Rows) (s p q : List ℕ) → Type 0
+  Peeks decls to s p q = (length q ≡ length p) × ¬ (output (f decls Binary2 to s q) ≡ output (f decls Binary2 to s p))
+
+  -- the one that looks at what its buffer held, and writes by it
+  pub not-the-peeker : (decls : List ℕ) (to : Rows) (cs : List Column) (s p q : List ℕ) → declare decls ≡ good cs → Peeks decls to s p q → ⊥
+  not-the-peeker decls to cs s p q e wrong = wrong .1 (d .unseen-bytes decls to cs s s p q e refl (wrong .0) (λ i h shows. refl) .same-bytes)
