@@ -26,7 +26,6 @@ use Rattle.rows.specs.Convert.{convert, converting, underColumns}
 use Rattle.rows.specs.Sequence.{finished, row, stopped}
 use Rattle.rows.specs.Stream.{Table, read, run, writeCell}
 use Rattle.table.proofs.Laws.{each-weaken, fails-at, holds-at, the}
-use Rattle.table.specs.All.{AreBytes}
 use Rattle.table.specs.Cell.{AreColumns, Each, Fits}
 use Rattle.table.specs.Outcome.{Call, Outcome, Refusal, accepted, answerOf, at, ending, mostInput}
 use Rattle.table.specs.Result.{Result, bad, good}
@@ -138,14 +137,6 @@ valid-accepted decls from to input out v =
     ap (λ (c : Call). c .answer .number) (done-whole decls from to input out (v .columns) (v .body) (v .declared) (v .sized) (v .ends) (v .forms) (v .fits))
     ∙ (unfold ending answerOf in refl)
 
--- ---- what is written means what was read
-
-means-of : (decls : List ℕ) (from to : Rows) (input out : List ℕ) (cs : List Column) → declare decls ≡ good cs → AreBytes input
-    → read to cs (output (convert decls from to input out)) ≡ upTo (convert decls from to input out .answer .rows) (read from cs input)
-means-of decls from to input out cs q a =
-    lines-read to cs (declared-columns decls cs q) (convert decls from to input out .answer .rows) (read from cs input) (read-fits from cs input a)
-    (output (convert decls from to input out)) (lines-written decls from to input out cs q)
-
 -- ---- TABLEDATA to BINARY2 and back
 
 all-read : (to : Rows) (cs : List Column) → AreColumns cs → (t : Table) → Ends t → AllRows (FitsAll cs) t → (body : List ℕ) → lines to cs t ≡ good body → read to cs body ≡ t
@@ -168,8 +159,7 @@ there-and-back-of decls cs input q h e =
         record {
           binary = b .0;
           text = d .0;
-          there = λ out r. converts decls TableData Binary2 input out cs q h
-              ∙ ap (λ (o : Outcome). ending o out) (runs TableData Binary2 cs input (b .0) (read TableData cs input) refl e (b .1) (length out) r);
+          there = λ out r. done-whole decls TableData Binary2 input out cs (b .0) q h e (b .1) r;
           same = same;
           back = λ k out r. converts decls Binary2 TableData (b .0) out cs q k
               ∙ ap (λ (o : Outcome). ending o out) (runs Binary2 TableData cs (b .0) (d .0) (read TableData cs input) same e (d .1) (length out) r);
@@ -180,7 +170,9 @@ pub demand2 : Demand2 convert
 demand2 =
     record {
       exactly = λ decls from to input out. (accepted-valid decls from to input out, valid-accepted decls from to input out);
-      means = means-of;
+      means = λ decls from to input out cs q a.
+          lines-read to cs (declared-columns decls cs q) (convert decls from to input out .answer .rows) (read from cs input) (read-fits from cs input a)
+          (output (convert decls from to input out)) (lines-written decls from to input out cs q);
       does-all = done-whole;
       there-and-back = there-and-back-of;
     }

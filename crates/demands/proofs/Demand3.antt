@@ -173,19 +173,13 @@ same-ending : (o w : Outcome) (p q : List ℕ) → w ≡ o → SameOutput (endin
 same-ending o w p q e =
     record { same-answer = unfold ending in rw e; same-bytes = output-of w q ∙ ap written e ∙ sym (output-of o p) }
 
-same-room : (decls : List ℕ) (to : Rows) (cs : List Column) (s t p q : List ℕ) → declare decls ≡ good cs → length t ≡ length s → length q ≡ length p
-    → ((i : ℕ) → i < length s → showsAt cs s i ≡ true → getD t i 0 ≡ getD s i 0)
-    → SameOutput (convert decls Binary2 to s p) (convert decls Binary2 to t q)
-unfolding convert
-same-room decls to cs s t p q d l r h =
-    same-ending (converting decls Binary2 to s (length p)) (converting decls Binary2 to t (length q)) p q
-    (ap (converting decls Binary2 to t) r ∙ unseen-of decls to cs s t (length p) d l h)
-
 pub demand3 : Demand3 convert
 demand3 =
     record {
       same-rows = λ decls to cs xs s t q a b k l.
           same-fate to cs xs s t (k .before) (l .before) (called convert decls to s) (called convert decls to t) (writeRow to cs xs) refl
           (fate decls to cs xs s q a k) (fate decls to cs xs t q b l);
-      unseen-bytes = same-room;
+      unseen-bytes = λ decls to cs s t p q d l r h.
+          unfold convert in same-ending (converting decls Binary2 to s (length p)) (converting decls Binary2 to t (length q)) p q
+          (ap (converting decls Binary2 to t) r ∙ unseen-of decls to cs s t (length p) d l h);
     }

@@ -22,7 +22,7 @@ use Rattle.grammar.specs.Exact.{tableOf}
 use Rattle.grammar.specs.RowRefusals.{CellsAt, Flag, MoreAt, NoCells, NoEnd, NoRow, NoStart, RowAt, RowsAt, StartAt, StopsAt, TagAt, at-cell, binary-more, binary-row-at}
 use Rattle.grammar.specs.RowRefusals.{binary-start, binary2-more, binary2-row-at, binary2-start, cell-then, cells-next, cells-none, flag-set, flag-unset, no-binary2-start, no-cells, no-end}
 use Rattle.grammar.specs.RowRefusals.{no-start, no-text-end, no-text-start, rows-next, rows-none, text-more, text-row-at, text-start}
-use Rattle.rows.proofs.Laws.{read-row, read-step}
+use Rattle.rows.proofs.Laws.{cellThen, push, read-row, read-step}
 use Rattle.rows.specs.Sequence.{row, rowThen, stopped}
 use Rattle.rows.specs.Stream.{Table, atEnd, flag, flagsLeft, isEmpty, isSet, read, readCell, readCells, readEnd, readRow, readStart}
 use Rattle.table.proofs.Laws.{all-replicate, bad-good, fails-as, fails-at, fails-bind, fails-weaken, holds-as, holds-at, holds-bind, holds-weaken, tag-fails}
@@ -30,7 +30,7 @@ use Rattle.table.specs.All.{All, AreBytes}
 use Rattle.table.specs.Bytes.{bytes, skipWhite, tag}
 use Rattle.table.specs.Cell.{AreColumns, Cell}
 use Rattle.table.specs.Outcome.{Refusal, at}
-use Rattle.table.specs.Result.{Fails, Holds, Result, _>>=_, bad, fails, gives, good, holds, refusedAs}
+use Rattle.table.specs.Result.{Fails, Holds, Result, bad, fails, gives, good, holds}
 use Rattle.table.specs.declared.Column.{Column}
 use Rattle.table.specs.declared.Rows.{Rows}
 use Rattle.table.specs.declared.Rows.the-variants.{Binary, Binary2, TableData}
@@ -64,18 +64,14 @@ tag-left {s = s} {rest = rest} h a =
 record SameFlags (from : Rows) (cs : List Column) (flags : List ℕ) (fs : List Bool) : Type 0 where
   as-read : (k : ℕ) (s : List ℕ) → readCells from cs fs k s ≡ readCells from cs (map isSet flags) k s
 
-abbrev withCell : Cell → Result Refusal (List Cell × List ℕ) → Result Refusal (List Cell × List ℕ)
-withCell x r = r >>= λ q. good (x ∷ q .0, q .1)
-
 no-flags-same : (from : Rows) (cs : List Column) (k : ℕ) (s : List ℕ) → readCells from cs [] k s ≡ readCells from cs (map isSet (replicate (length cs) 0)) k s
 unfolding readCells flag flagsLeft isSet
 no-flags-same from [] k s = refl
 no-flags-same from (c ∷ cs) k s = go (readCell from c false s) (no-flags-same from cs (k + 1))
   where
     go : (r : Result ℕ (Cell × List ℕ)) → ((s : List ℕ) → readCells from cs [] (k + 1) s ≡ readCells from cs (map isSet (replicate (length cs) 0)) (k + 1) s)
-        → (refusedAs (at k) r >>= λ p. withCell (p .0) (readCells from cs [] (k + 1) (p .1)))
-        ≡ (refusedAs (at k) r >>= λ p. withCell (p .0) (readCells from cs (map isSet (replicate (length cs) 0)) (k + 1) (p .1)))
-    go (good p) same = ap (withCell (p .0)) (same (p .1))
+        → cellThen k r (readCells from cs [] (k + 1)) ≡ cellThen k r (readCells from cs (map isSet (replicate (length cs) 0)) (k + 1))
+    go (good p) same = ap (push (p .0)) (same (p .1))
     go (bad n) same = refl
 
 record Started (from : Rows) (cs : List Column) (s flags rest : List ℕ) : Type 0 where

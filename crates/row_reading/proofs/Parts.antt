@@ -15,7 +15,7 @@ use Rattle.row_reading.specs.declared.Begin.{Begin}
 use Rattle.row_reading.specs.declared.Close.{Close}
 use Rattle.row_reading.specs.declared.Next.{Next}
 use Rattle.row_reading.specs.declared.Passed.{Passed}
-use Rattle.rows.proofs.Laws.{within-less}
+use Rattle.rows.proofs.Laws.{cellThen, push, within-less}
 use Rattle.rows.specs.Bounds.{Bounded, Within}
 use Rattle.rows.specs.Stream.{flag, flagsLeft, readCell, readCells, readRow}
 use Rattle.table.proofs.Laws.{all-drop, holds-at}
@@ -23,7 +23,7 @@ use Rattle.table.specs.All.{All}
 use Rattle.table.specs.Cell.{Cell, bound, mostElements, null, shown}
 use Rattle.table.specs.Contracts.{FoundWithin, Reads, foundAs}
 use Rattle.table.specs.Outcome.{Refusal, at}
-use Rattle.table.specs.Result.{Result, _>>=_, bad, good, refusedAs}
+use Rattle.table.specs.Result.{Result, _>>=_, bad, good}
 use Rattle.table.specs.declared.Column.{Column}
 use Rattle.table.specs.declared.Columns.{Columns}
 use Rattle.table.specs.declared.Found.{Found}
@@ -66,14 +66,6 @@ flags-next (suc i) (f ∷ fs) = flags-next i fs
 -- cells in front of what is read
 abbrev pub inFront : List Cell → Result Refusal (List Cell × List ℕ) → Result Refusal (List Cell × List ℕ)
 inFront acc r = r >>= λ p. good (acc ++ p .0, p .1)
-
--- a cell in front of what is read
-abbrev pub push : Cell → Result Refusal (List Cell × List ℕ) → Result Refusal (List Cell × List ℕ)
-push x r = r >>= λ q. good (x ∷ q .0, q .1)
-
--- a cell of column i, and then the others
-abbrev pub cellThen : ℕ → Result ℕ (Cell × List ℕ) → (List ℕ → Result Refusal (List Cell × List ℕ)) → Result Refusal (List Cell × List ℕ)
-cellThen i x more = refusedAs (at i) x >>= λ p. push (p .0) (more (p .1))
 
 pub front-nil : (x : Result Refusal (List Cell × List ℕ)) → x ≡ inFront [] x
 front-nil (good p) = refl

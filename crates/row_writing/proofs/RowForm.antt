@@ -12,9 +12,10 @@ use lib.Seq.{length-sets, sets}
 use Rattle.binary.specs.Binary.{flagBit, pack}
 use Rattle.table.proofs.Wrote.{sets-append, wrote-then}
 use Rattle.number.specs.Number.{toDigits}
-use Rattle.row_reading.proofs.Parts.{cellThen, flags-next, push}
+use Rattle.row_reading.proofs.Parts.{flags-next}
 use Rattle.row_writing.specs.Contracts.{Rewritten, cellBytes, cellForm, restOf, rowBytes, rowForm, startBytes}
 use Rattle.row_writing.specs.declared.Writing.{Writing}
+use Rattle.rows.proofs.Laws.{cellThen, push}
 use Rattle.rows.specs.Stream.{flag, flagsLeft, readCell, readCells, writeCell, writeCells, writeEnd, writeStart}
 use Rattle.table.proofs.Laws.{bad-good}
 use Rattle.table.specs.Cell.{Cell, isNull}

@@ -23,7 +23,7 @@ use Rattle.table.specs.All.{All, AreBytes}
 use Rattle.table.specs.Bytes.{after, ends, isWhite, skipWhite, tag}
 use Rattle.table.specs.Cell.{AreColumns, Cell, Each, Fits, IsColumn, below, columnOf, isElement, isNull, isScalar, nullElement, nullOfKind, show}
 use Rattle.table.specs.Outcome.{Refusal, at}
-use Rattle.table.specs.Result.{Fails, Holds, Result, _>>=_, bad, gives, good, holds, refuses}
+use Rattle.table.specs.Result.{Fails, Holds, Result, _>>=_, bad, gives, good, holds, refusedAs, refuses}
 use Rattle.table.specs.Shape.{Bits, Shape, Text, Truths, Whole, shape}
 use Rattle.table.specs.declared.Column.{Column}
 use Rattle.table.specs.declared.Null.the-variants.{Undeclared}
@@ -157,6 +157,14 @@ unfolding readEnd writeEnd newline skipWhite tag after ends close-TR isWhite
 end-back TableData rest = refl
 end-back Binary rest = refl
 end-back Binary2 rest = refl
+
+-- a cell in front of what is read
+abbrev pub push : Cell → Result Refusal (List Cell × List ℕ) → Result Refusal (List Cell × List ℕ)
+push x r = r >>= λ q. good (x ∷ q .0, q .1)
+
+-- a cell of column i, and then the others
+abbrev pub cellThen : ℕ → Result ℕ (Cell × List ℕ) → (List ℕ → Result Refusal (List Cell × List ℕ)) → Result Refusal (List Cell × List ℕ)
+cellThen i x more = refusedAs (at i) x >>= λ p. push (p .0) (more (p .1))
 
 row-cells-back : (to : Rows) (cs : List Column) (xs : List Cell) (k j : ℕ) → All IsColumn cs → FitsAll cs xs
     → Holds (λ (b : List ℕ). (rest : List ℕ) → readCells to cs (flagsOf to xs) j (b ++ rest) ≡ good (xs, rest)) (writeCells to cs xs k)
