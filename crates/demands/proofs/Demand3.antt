@@ -163,10 +163,10 @@ unfolding converting front
 unseen-of decls to cs s t room q l h = rw (q, l) (same-run (ltb mostInput (length s)) to cs room s t (unseen cs s t (declared-columns decls cs q) l h))
 
 -- in one buffer the whole call is the same, every byte of it
-pub same-call : (decls : List ℕ) (to : Rows) (cs : List Column) (s t out : List ℕ) → declare decls ≡ good cs → length t ≡ length s
+pub unseen-call : (decls : List ℕ) (to : Rows) (cs : List Column) (s t out : List ℕ) → declare decls ≡ good cs → length t ≡ length s
     → ((i : ℕ) → i < length s → showsAt cs s i ≡ true → getD t i 0 ≡ getD s i 0) → convert decls Binary2 to t out ≡ convert decls Binary2 to s out
 unfolding convert
-same-call decls to cs s t out d l h = ap (λ (o : Outcome). ending o out) (unseen-of decls to cs s t (length out) d l h)
+unseen-call decls to cs s t out d l h = ap (λ (o : Outcome). ending o out) (unseen-of decls to cs s t (length out) d l h)
 
 -- two calls that come to one outcome: what their buffers held is not seen
 same-ending : (o w : Outcome) (p q : List ℕ) → w ≡ o → SameOutput (ending o p) (ending w q)

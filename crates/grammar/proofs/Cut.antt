@@ -194,14 +194,16 @@ module _ (decls : List ℕ) (from to : Rows) (front more out : List ℕ) (cs : L
           absurd (stop-no-end (at (e .column) (e .number)) (subst Ends s (subst⁻¹ Ends q (table-ends left))))
 
   fate-of : (done left : List (List Cell)) (rest body : List ℕ) (u : Table) → IsLast u → read from cs rest ≡ u → AreBytes rest → AreBytes (rest ++ more)
-      → read from cs (rest ++ more) ≡ tableOf left → (o : Outcome) → write to cs (length out) (length done) body u ≡ o → CutFate from rest (length done) (ending o out) × (rowsDone o ≡ length done)
+      → read from cs (rest ++ more) ≡ tableOf left → (o : Outcome) → write to cs (length out) (length done) body u ≡ o → CutFate from cs rest (length done) (ending o out) × (rowsDone o ≡ length done)
   unfolding write ending answerOf rowsDone
   fate-of done left rest body finished l q a b s o e =
       rw (← e) (cut-between (λ m. false≢true (sym (more-at-read m) ∙ ends-there from cs i rest q)) refl, refl)
   fate-of done left rest body (stopped x) l q a b s o e =
       let f = first-stop from cs i rest x q in
       let m : MoreAt rest from = more-at-is from rest (f .0) in
-      rw (← e) (cut-inside m (the-number rest left x b m (fails-at (no-row-is from cs rest a) (f .1)) s) refl, refl)
+      let h : NoRow from cs rest (x .number) (x .column) = fails-at (no-row-is from cs rest a) (f .1) in
+      let n : x .number ≡ cutNumber from = the-number rest left x b m h s in
+      rw (← e) (cut-inside m (subst (λ (y : ℕ). NoRow from cs rest y (x .column)) n h) (n, refl, refl), refl)
   fate-of done left rest body (row xs t) l q a b s o e = absurd l
 
   cut-of : (rows : List (List Cell)) (body : List ℕ) → read from cs (front ++ more) ≡ tableOf rows → lines to cs (tableOf rows) ≡ good body → length body ≤ length out
@@ -229,7 +231,7 @@ module _ (decls : List ℕ) (from to : Rows) (front more out : List ℕ) (cs : L
         rows-done = n;
         spelled = back-spells decls from to front out cs declared a (t .0)
             (demand2 .means decls from to front out cs declared a ∙ ap (λ (m : ℕ). upTo m (read from cs front)) n ∙ ap (upTo (length (t .0))) (t .2) ∙ up-to-rows (t .0) (t .1));
-        fate = subst⁻¹ (CutFate from (p .0) (length (t .0))) c (k .0);
+        fate = subst⁻¹ (CutFate from cs (p .0) (length (t .0))) c (k .0);
       }
 
 -- THE CUT FILE: of a valid input that was cut anywhere

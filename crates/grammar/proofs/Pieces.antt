@@ -1,6 +1,6 @@
 -- Going on from the place that a piece answers: what stands before it are the rows done and no more, read to their end, so that one call on the whole,
--- in any room that has those rows, is those rows and then a call on what stands behind the place. By `resumes`, and since a row reader looks no further
--- than its row.
+-- the piece and whatever has come behind it, in any room that has those rows, is those rows and then a call on what stands behind the place. By
+-- `resumes`, and since a row reader looks no further than its row.
 use Prim.Native.Nat.{_-_, _≤_, suc, zero, ℕ}
 use native.Mathlib.Nat.{not-suc-le-zero}
 use native.Mathlib.Omega.{arith}
@@ -112,13 +112,14 @@ piece-place : (decls : List ℕ) (from to : Rows) (input out : List ℕ) (cs : L
 unfolding convertPiece placeUnder
 piece-place decls from to input out cs e = rw e
 
--- THE PLACE: a call on the whole, in any room that has the rows done, is those rows and then a call on what stands behind the place
-pub goes-on-behind : (decls : List ℕ) (from to : Rows) (input out : List ℕ) (cs : List Column) → declare decls ≡ good cs → length input ≤ mostInput
+-- THE PLACE: a call on the piece `input` with more behind it, in any room that has the rows done, is those rows and then a call on what stands behind
+-- the place
+pub goes-on-behind : (decls : List ℕ) (from to : Rows) (input more out : List ℕ) (cs : List Column) → declare decls ≡ good cs → length input ≤ mostInput
     → (room : ℕ) → convert decls from to input out .answer .bytes ≤ room
-    → run from to cs room input
+    → run from to cs room (input ++ more)
     ≡ followedBy (accepted (convert decls from to input out .answer .rows) (output (convert decls from to input out)))
-    (run from to cs (room - convert decls from to input out .answer .bytes) (drop (convertPiece decls from to input out .place) input))
-goes-on-behind decls from to input out cs q h room l =
+    (run from to cs (room - convert decls from to input out .answer .bytes) (drop (convertPiece decls from to input out .place) input ++ more))
+goes-on-behind decls from to input more out cs q h room l =
     let i : AreColumns cs = declared-columns decls cs q in
     let c : Call = convert decls from to input out in
     let s : RowsStand cs from to input out c = stands decls from to input out cs q h in
@@ -128,16 +129,16 @@ goes-on-behind decls from to input out cs q h room l =
     let k : CutAt from cs i input (placeOf from cs input o) (c .answer .rows)
     = cut-at from cs i input o (c .answer .rows) (sym (ap (λ (d : Call). d .answer .rows) e ∙ rows-of o out)) (s .rows-read) (ended o e) in
     let p : convertPiece decls from to input out .place ≡ placeOf from cs input o = piece-place decls from to input out cs (front-declared decls (length input) cs q h) in
-    let b : List ℕ = drop (placeOf from cs input o) input in
+    let b : List ℕ = drop (placeOf from cs input o) input ++ more in
     let w : length (output c) ≤ room = rw (← s .bytes-are) l in
     let d : run from to cs room (k .before) ≡ accepted (c .answer .rows) (output c)
     = runs from to cs (k .before) (output c) (upTo (c .answer .rows) t) (k .reads) (up-to-ends (c .answer .rows) t) (s .lines-whole) room w
     ∙ ap (λ (n : ℕ). accepted n (output c)) (up-to-count (c .answer .rows) t (s .rows-read)) in
-    ap (run from to cs room) (k .whole)
+    ap (run from to cs room) (ap (λ (x : List ℕ). x ++ more) (k .whole) ∙ append-assoc (k .before) (drop (placeOf from cs input o) input) more)
     ∙ resumes from to cs i room (k .before) b (subst⁻¹ Ends (k .reads) (up-to-ends (c .answer .rows) t))
     ∙ ap (λ (x : Outcome). followedBy x (run from to cs (roomBehind room x) b)) d
     ∙ ap (followedBy (accepted (c .answer .rows) (output c)))
-    (ap₂ (λ (m : ℕ) (x : List ℕ). run from to cs m x) (room-behind room (c .answer .rows) (output c) (c .answer .bytes) (s .bytes-are)) (ap (λ (n : ℕ). drop n input) (sym p)))
+    (ap₂ (λ (m : ℕ) (x : List ℕ). run from to cs m x) (room-behind room (c .answer .rows) (output c) (c .answer .bytes) (s .bytes-are)) (ap (λ (n : ℕ). drop n input ++ more) (sym p)))
   where
     ended : (o : Outcome) → convert decls from to input out ≡ ending o out → IsAccepted o
         → Ends (read from cs input) × (convert decls from to input out .answer .rows ≡ count (read from cs input))

@@ -8,7 +8,7 @@ use Rattle.demands.specs.Tables.{lines}
 use Rattle.grammar.specs.Base64Text.{Base64Text}
 use Rattle.grammar.specs.DeclarationRefusals.{NotDeclared}
 use Rattle.grammar.specs.Declarations.{Declares}
-use Rattle.grammar.specs.RowRefusals.{MoreAt, RowAt, RowsAt, StopsAt}
+use Rattle.grammar.specs.RowRefusals.{MoreAt, NoRow, RowAt, RowsAt, StopsAt}
 use Rattle.grammar.specs.Valid.{HaveForms, NoForms, Spells}
 use Rattle.rows.specs.Stream.{Table, writeRow}
 use Rattle.rows.specs.Sequence.{finished, row}
@@ -69,8 +69,8 @@ pub data NotDecoded (input : List ℕ) (room : ℕ) : ℕ → Type 0 where
 
 -- ---- calls that are refused
 
--- the rows done before a refusal: under these columns, of an input within its size, each has a form in the target, and these are their lines, for
--- which there is room
+-- what is asked of the rows done before a refusal: under these columns, of an input within its size, each has a form in the target, and these are
+-- their lines, for which there is room. That they are the input's is said beside this: `StopsAt`, `RowsAt`
 pub record RowsDone (decls : List ℕ) (to : Rows) (input : List ℕ) (room : ℕ) (cs : List Column) (rows : List (List Cell)) (body : List ℕ) : Type 0 where
   pub declared : Declares decls cs
   pub sized : length input ≤ 1073741824
@@ -107,11 +107,11 @@ cutNumber Binary = 8
 cutNumber Binary2 = 8
 
 -- where the cut was
-pub data CutFate (from : Rows) (rest : List ℕ) (done : ℕ) (c : Call) : Type 0 where
+pub data CutFate (from : Rows) (cs : List Column) (rest : List ℕ) (done : ℕ) (c : Call) : Type 0 where
   -- between rows: it is accepted
-  cut-between : (MoreAt rest from → ⊥) → c .answer .number ≡ 0 → CutFate from rest done c
-  -- in a row: it is refused there
-  cut-inside : MoreAt rest from → c .answer .number ≡ cutNumber from → c .answer .row ≡ done → CutFate from rest done c
+  cut-between : (MoreAt rest from → ⊥) → c .answer .number ≡ 0 → CutFate from cs rest done c
+  -- in a row: it is refused there, at the column in which what is left of the row is none
+  cut-inside : {k : ℕ} → MoreAt rest from → NoRow from cs rest (cutNumber from) k → Answers (c .answer) (cutNumber from) done k → CutFate from cs rest done c
 
 -- "a cut file at that hour has no one awake to mend it. I need the good rows and the spot where it went wrong.": what a call on the front of a valid
 -- input gives
@@ -126,4 +126,4 @@ pub record CutFile (from to : Rows) (cs : List Column) (front : List ℕ) (rows 
   -- "Rows before the bad one stand whole in the output"
   pub rows-done : c .answer .rows ≡ length done
   pub spelled : Spells to cs (output c) done
-  pub fate : CutFate from rest (length done) c
+  pub fate : CutFate from cs rest (length done) c

@@ -55,6 +55,18 @@ call-is c h = ap₂ callOf (h .numbers-are) (h .buffer-is) ∙ call-of-five c
 
 -- ---- one call
 
+-- demand 1 of whatever is a call of `convert`
+pub convert-ends : (decls : List ℕ) (source target : Rows) (input out : List ℕ) → AreBytes input → {c : Call} → c ≡ convert decls source target input out
+    → RowsOrRefusal decls input out c source target
+convert-ends decls source target input out a e =
+    subst⁻¹ (λ (c : Call). RowsOrRefusal decls input out c source target) e
+    record {
+      numbered = demand1 .numbered decls source target input out;
+      ended = demand1 .ended decls source target input out;
+      refused-exactly = λ n row column. refuses-exactly decls source target input out n row column a;
+      cut = λ more b. cut-file decls source target input more out (all-append (λ (x : ℕ). x < 256) input more a b);
+    }
+
 abbrev converted : List ℕ → List ℕ → List ℕ → Rows → Rows → Faced
 converted decls input out source target = faced (convert decls source target input out)
 
@@ -83,14 +95,7 @@ module _ (decls : List ℕ) (from to : ℕ) (input out : List ℕ) {numbers exit
       either (some source) e f = no-target from to (noSuchKind 4 out) (converted decls input out) source e f
 
   pub rows-or-refusal : AreBytes input → Between from to (RowsOrRefusal decls input out (callOf numbers exit))
-  rows-or-refusal a source target e f =
-      subst⁻¹ (λ (c : Call). RowsOrRefusal decls input out c source target) (is-convert source target e f)
-      record {
-        numbered = demand1 .numbered decls source target input out;
-        ended = demand1 .ended decls source target input out;
-        refused-exactly = λ n row column. refuses-exactly decls source target input out n row column a;
-        cut = λ more b. cut-file decls source target input more out (all-append (λ (x : ℕ). x < 256) input more a b);
-      }
+  rows-or-refusal a source target e f = convert-ends decls source target input out a (is-convert source target e f)
 
   pub means-what-was-read : AreBytes input → Between from to (MeansWhatWasRead decls input out (callOf numbers exit))
   means-what-was-read a source target e f =

@@ -1,11 +1,13 @@
--- A piece and what stands behind its place are one call on the whole: `goes-on-behind` of the definitions, carried to the numbers and the buffers.
+-- A piece of an input and what stands behind its place are one call on the whole: `goes-on-behind` of the definitions, carried to the numbers and the
+-- buffers.
 use Prim.Native.Nat.{_+_, _-_, _<_, _≤_, zero-le, ℕ}
 use native.Mathlib.Nat.{le-refl}
 use native.Mathlib.Omega.{arith}
-use mathlib.Core.List.{List}
+use mathlib.Core.List.{List, _++_}
 use mathlib.Core.Option.{Option, none, some}
 use mathlib.Core.Path.{_∙_, _≡_, ap, ap₂, refl, subst, sym}
-use lib.ListN.{drop, getD, length, length-append, length-drop, take}
+use lib.ListN.{drop, getD, length, length-append, length-drop, length-take, take, take-append-drop}
+use lib.Seq.{drop-append-le}
 use borrow.Author.Tests.{ne-eqb}
 use borrow.Rule.Slice.PartAt.{part-to-end}
 use Rattle.demands.proofs.Demand1.{output-of, run-done}
@@ -17,21 +19,22 @@ use Rattle.fields.specs.Front.{front}
 use Rattle.grammar.proofs.ColumnsRead.{declares-read}
 use Rattle.grammar.proofs.Pieces.{goes-on-behind}
 use Rattle.grammar.specs.Resumption.{followedBy}
-use Rattle.promises.proofs.Laws.{Faces, is-convert}
-use Rattle.promises.specs.Promises.{Between, OneByTwo, callOf, joinedAnswer, joinedCall}
+use Rattle.promises.proofs.Laws.{Faces, convert-ends, is-convert}
+use Rattle.promises.specs.Promises.{Between, OneByTwo, RowsOrRefusal, callOf, joinedAnswer, joinedCall}
 use Rattle.rows.proofs.Calls.{converts}
 use Rattle.rows.specs.Convert.{convert}
 use Rattle.rows.specs.Pieces.{convertPiece, placeOf, placeUnder}
 use Rattle.rows.specs.Stream.{read, run}
 use Rattle.sailmortar.proofs.Numbers.{known}
 use Rattle.sailmortar.specs.Face.{Faced, betweenKinds, convertFace, five, noSuchKind, pieceFace, pieceFaced, rowsOf, six}
+use Rattle.table.specs.All.{AreBytes}
 use Rattle.table.specs.Outcome.{Call, Outcome, Refusal, accepted, answerOf, bufferOf, ending, mostInput, refused, written}
 use Rattle.table.specs.Result.{Result, bad, good}
 use Rattle.table.specs.declared.Answer.{Answer}
 use Rattle.table.specs.declared.Column.{Column}
 use Rattle.table.specs.declared.Rows.{Rows}
 
--- ---- the place is within the input
+-- ---- the place is within the piece
 
 place-at : (from to : Rows) (input out : List ℕ) (r : Result Refusal (List Column)) → placeUnder r (λ cs. placeOf from cs input (run from to cs (length out) input)) ≤ length input
 unfolding placeUnder
@@ -49,9 +52,17 @@ sixth decls input out none to = zero-le
 sixth decls input out (some from) none = zero-le
 sixth decls input out (some from) (some to) = place-at from to input out (front decls (length input))
 
-pub place-within : (decls : List ℕ) (from to : ℕ) (input out numbers : List ℕ) → numbers ≡ pieceFace decls from to input out .numbers → getD numbers 5 0 ≤ length input
+place-within : (decls : List ℕ) (from to : ℕ) (input out numbers : List ℕ) → numbers ≡ pieceFace decls from to input out .numbers → getD numbers 5 0 ≤ length input
 unfolding pieceFace
 place-within decls from to input out numbers e = rw e (sixth decls input out (rowsOf from) (rowsOf to))
+
+take-short : (n : ℕ) (s : List ℕ) → length (take n s) ≤ length s
+take-short n s = simp length-take (omega arith)
+
+-- and so within an input of which this is a front
+pub place-within-whole : (decls : List ℕ) (from to : ℕ) (input : List ℕ) (cut : ℕ) (out numbers : List ℕ) → numbers ≡ pieceFace decls from to (take cut input) out .numbers
+    → getD numbers 5 0 ≤ length input
+place-within-whole decls from to input cut out numbers e = omega (arith, place-within decls from to (take cut input) out numbers e, take-short cut input)
 
 -- ---- two outcomes, as one call has them
 
@@ -106,27 +117,42 @@ module _ (decls : List ℕ) (from to : ℕ) (input first : List ℕ) {numbers ex
   unfolding pieceFaced
   piece-place = ap (λ (ns : List ℕ). getD ns 5 0) (faces-piece .numbers-are) ∙ sixth-of (convertPiece decls source target input first .call) _
 
-pub one-by-two : (decls : List ℕ) (from to : ℕ) (input first rest out : List ℕ) {numbers exit numbers2 exit2 numbers3 exit3 : List ℕ}
-    → Faces (pieceFace decls from to input first) numbers exit
+-- of a piece too, demand 1
+pub piece-ends : (decls : List ℕ) (from to : ℕ) (piece first : List ℕ) {numbers exit : List ℕ} → Faces (pieceFace decls from to piece first) numbers exit
+    → AreBytes piece → Between from to (RowsOrRefusal decls piece first (callOf numbers exit))
+piece-ends decls from to piece first h a source target e f =
+    convert-ends decls source target piece first a (piece-is decls from to piece first h source target e f)
+
+pub one-by-two : (decls : List ℕ) (from to : ℕ) (input : List ℕ) (cut : ℕ) (first rest out : List ℕ) {numbers exit numbers2 exit2 numbers3 exit3 : List ℕ}
+    → Faces (pieceFace decls from to (take cut input) first) numbers exit
     → Faces (convertFace decls from to (take (length input - getD numbers 5 0) (drop (getD numbers 5 0) input)) rest) numbers2 exit2
     → Faces (convertFace decls from to input out) numbers3 exit3
     → Between from to (OneByTwo decls input (callOf numbers exit) rest (callOf numbers2 exit2) out (callOf numbers3 exit3))
 unfolding mostInput
-one-by-two decls from to input first rest out {numbers} {numbers2 = numbers2} {exit2 = exit2} h k l source target e f cs d sized room =
+one-by-two decls from to input cut first rest out {numbers} {numbers2 = numbers2} {exit2 = exit2} h k l source target e f cs d sized room =
     let q : declare decls ≡ good cs = declares-read d in
-    let c : Call = convert decls source target input first in
-    let left : List ℕ = drop (getD numbers 5 0) input in
+    let piece : List ℕ = take cut input in
+    let more : List ℕ = drop cut input in
+    let place : ℕ = getD numbers 5 0 in
+    let c : Call = convert decls source target piece first in
+    let left : List ℕ = drop place input in
     let o : Outcome = run source target cs (length rest) left in
-    let one : callOf numbers _ ≡ c = piece-is decls from to input first h source target e f in
-    let short : length left ≤ mostInput = omega (arith, sized, length-drop (getD numbers 5 0) input) in
+    let one : callOf numbers _ ≡ c = piece-is decls from to piece first h source target e f in
+    let short : length piece ≤ mostInput = omega (arith, sized, take-short cut input) in
+    let left-short : length left ≤ mostInput = omega (arith, sized, length-drop place input) in
     let behind : Faces (convertFace decls from to left rest) numbers2 exit2
-    = subst (λ (x : List ℕ). Faces (convertFace decls from to x rest) numbers2 exit2) (part-to-end input (getD numbers 5 0)) k in
-    let two = is-convert decls from to left rest behind source target e f ∙ converts decls source target left rest cs q short in
+    = subst (λ (x : List ℕ). Faces (convertFace decls from to x rest) numbers2 exit2) (part-to-end input place) k in
+    let two = is-convert decls from to left rest behind source target e f ∙ converts decls source target left rest cs q left-short in
     let bytes : length out ≡ c .answer .bytes + length rest = room ∙ ap (λ (x : Call). x .answer .bytes + length rest) one in
+    let joined : piece ++ more ≡ input = take-append-drop cut input in
+    let within : place ≤ length piece = place-within decls from to piece first numbers (h .numbers-are) in
+    let onward : drop place piece ++ more ≡ left = sym (drop-append-le place piece more within) ∙ ap (drop place) joined in
     let whole = is-convert decls from to input out l source target e f ∙ converts decls source target input out cs q sized
-    ∙ ap (λ (x : Outcome). ending x out) (goes-on-behind decls source target input first cs q sized (length out) (omega (arith, bytes))) in
+    ∙ ap (λ (x : Outcome). ending x out)
+    (ap (run source target cs (length out)) (sym joined) ∙ goes-on-behind decls source target piece more first cs q short (length out) (omega (arith, bytes))) in
     whole
     ∙ ap (λ (x : Outcome). ending (followedBy (accepted (c .answer .rows) (output c)) x) out)
-    (ap₂ (λ (n : ℕ) (x : List ℕ). run source target cs n x) (omega (arith, bytes)) (ap (λ (n : ℕ). drop n input) (sym (piece-place decls from to input first h source target e f))))
-    ∙ joined-ending (c .answer .rows) (output c) o (run-numbered source target cs (length rest) left) c refl (stands decls source target input first cs q sized .bytes-are) refl rest out
+    (ap₂ (λ (n : ℕ) (x : List ℕ). run source target cs n x) (omega (arith, bytes))
+    (ap (λ (n : ℕ). drop n piece ++ more) (sym (piece-place decls from to piece first h source target e f)) ∙ onward))
+    ∙ joined-ending (c .answer .rows) (output c) o (run-numbered source target cs (length rest) left) c refl (stands decls source target piece first cs q short .bytes-are) refl rest out
     ∙ sym (ap₂ (λ (x y : Call). joinedCall x y out) one two)

@@ -196,8 +196,8 @@ unfoldable pub joinedCall : Call → Call → List ℕ → Call
 joinedCall c d out =
     record { answer = joinedAnswer (c .answer) (d .answer); buffer = (output c ++ output d) ++ drop (length (output c ++ output d)) out }
 
--- demand 3: "whatever stands around them": a piece, and then what stands behind the place that it answers, are together one call on the whole, in a
--- buffer that has the room of both
+-- demand 3: "whatever stands around them": a piece of the input, and then what stands behind the place that it answers, are together one call on the
+-- whole, in a buffer that has the room of both
 abbrev pub OneByTwo : (decls input : List ℕ) (first : Call) (rest : List ℕ) (second : Call) (out : List ℕ) (whole : Call) → Rows → Rows → Type 0
 OneByTwo decls input first rest second out whole from to =
     (cs : List Column) → Declares decls cs → length input ≤ 1073741824 → length out ≡ first .answer .bytes + length rest → whole ≡ joinedCall first second out

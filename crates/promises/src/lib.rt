@@ -1,6 +1,8 @@
 // The demands, of the face itself: functions whose bodies are calls of the functions for C and no more, and whose contracts are the demands, over
 // the slices at entry and at exit. None has a `requires`: "Callers check nothing first."
+ghost use Prim.Native.Nat.{_≤_};
 ghost use Rattle.promises.specs.Promises.{Between, DeclaresExactly, DecodesExactly, EncodedAndDecoded, EncodedOrRefused, MeansWhatWasRead, NothingElse, OneByTwo, RowsOrRefusal, ThereAndBack, Unnamed, callOf, made};
+ghost use lib.ListN.{length, take};
 
 // Demands 1 and 2: one call.
 pub fn once(decls: &[u8], from: u32, to: u32, input: &[u8], out: &mut [u8], answer: &mut [u64; 5])
@@ -49,12 +51,13 @@ pub fn there_and_back(
     sailmortar::sailmortar_convert(decls, 2, 0, &binary[..n], text, back);
 }
 
-// A piece, what stands behind the place that it answers, and the whole.
+// A piece, the input's front up to a cut; what stands behind the place that the piece answers; and the whole. A cut behind the end is none.
 pub fn in_pieces(
     decls: &[u8],
     from: u32,
     to: u32,
     input: &[u8],
+    cut: usize,
     out1: &mut [u8],
     answer1: &mut [u64; 6],
     out2: &mut [u8],
@@ -62,10 +65,16 @@ pub fn in_pieces(
     out3: &mut [u8],
     answer3: &mut [u64; 5],
 )
-    ensures { λ _. ⌜ Between from to (OneByTwo (now (decls .entry)) (now (input .entry)) (callOf (now (answer1 .exit)) (now (out1 .exit))) (now (out2 .entry))
-        (callOf (now (answer2 .exit)) (now (out2 .exit))) (now (out3 .entry)) (callOf (now (answer3 .exit)) (now (out3 .exit)))) ⌝ }
+    ensures demand1 { λ _. ⌜ (cut ≤ length (now (input .entry)) → Between from to (RowsOrRefusal (now (decls .entry)) (take cut (now (input .entry)))
+        (now (out1 .entry)) (callOf (now (answer1 .exit)) (now (out1 .exit))))) ⌝ }
+    ensures goes_on { λ _. ⌜ (cut ≤ length (now (input .entry)) → Between from to (OneByTwo (now (decls .entry)) (now (input .entry))
+        (callOf (now (answer1 .exit)) (now (out1 .exit))) (now (out2 .entry)) (callOf (now (answer2 .exit)) (now (out2 .exit)))
+        (now (out3 .entry)) (callOf (now (answer3 .exit)) (now (out3 .exit))))) ⌝ }
 {
-    sailmortar::sailmortar_convert_piece(decls, from, to, input, out1, answer1);
+    if input.len() < cut {
+        return;
+    }
+    sailmortar::sailmortar_convert_piece(decls, from, to, &input[..cut], out1, answer1);
     let place = answer1[5] as usize;
     sailmortar::sailmortar_convert(decls, from, to, &input[place..], out2, answer2);
     sailmortar::sailmortar_convert(decls, from, to, input, out3, answer3);

@@ -46,7 +46,7 @@ pub record DigitsAt (s : List ℕ) (place : ℕ) (number next : ℕ) : Type 0 wh
   pub next-is : next ≡ place + leadingDigits 18 (drop place s)
   pub number-is : numeral digit 10 0 (take (leadingDigits 18 (drop place s)) (drop place s)) ≡ good number
 
--- a run of `count` digits from a place on, with its numeral's number, as an integer: not where it is empty, or the kind does not have the number
+-- a run of `count` digits from a place on, with its numeral's number, as an integer: not where it is empty, or the number is above the kind's largest
 abbrev pub quickNumber : Integer → Bool → ℕ → ℕ → Result Fault ℕ → Quick
 quickNumber kind negative place count (good n) =
     cond (eqb count 0) Careful (cond (ltb (top kind) n) Careful (Quick.Value (withSign negative n) (place + count)))

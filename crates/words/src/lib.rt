@@ -326,7 +326,8 @@ fn quick_positive(s: &[u8], at: usize, kind: Integer) -> Quick
     Quick::Value(number as i64, next)
 }
 
-// The word of digits, or of a minus and digits, from `at` on, if its value is in the kind's range; the character after it is the caller's to look at.
+// At most 18 digits from `at` on, with a minus before them or not, if their number is at most the kind's largest (so the least integer is for the
+// careful way); the character after them is the caller's to look at.
 pub fn quick_integer(s: &[u8], at: usize, kind: Integer) -> Quick
     requires { ⌜ at < length (now s) ⌝ }
     ensures { λ r. ⌜ r ≡ quickly kind (now (s .entry)) at ⌝ }

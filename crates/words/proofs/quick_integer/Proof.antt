@@ -1,5 +1,5 @@
 -- `words::quick_integer` meets its contract: with no minus it is the run of digits at the place; a kind without a sign declines a minus; and behind
--- a minus a run that is empty, or whose number the kind does not have, is declined, and any other is its number negated.
+-- a minus a run that is empty, or whose number is above the kind's largest, is declined, and any other is its number negated.
 use native.Mathlib.Omega.{arith}
 use mathlib.Core.Bool.{true}
 use Prim.Native.Nat.{_+_}

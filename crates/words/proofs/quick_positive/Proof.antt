@@ -1,4 +1,5 @@
--- `words::quick_positive` meets its contract: a run that is empty, or whose number the kind does not have, is declined; any other is its number.
+-- `words::quick_positive` meets its contract: a run that is empty, or whose number is above the kind's largest, is declined; any other
+-- is its number.
 use native.Mathlib.Omega.{arith}
 use mathlib.Core.Path.{_∙_, ap, sym}
 use lib.IntN.{ℤ}
