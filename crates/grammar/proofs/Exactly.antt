@@ -79,7 +79,7 @@ unfolding tableOf
 table-ends [] = tt
 table-ends (xs ∷ rows) = table-ends rows
 
-table-count : (rows : List (List Cell)) → count (tableOf rows) ≡ length rows
+pub table-count : (rows : List (List Cell)) → count (tableOf rows) ≡ length rows
 unfolding tableOf count
 table-count [] = refl
 table-count (xs ∷ rows) = ap suc (table-count rows)

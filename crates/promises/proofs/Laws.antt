@@ -10,6 +10,7 @@ use lib.ListN.{getD, length, length-append, take}
 use Rattle.demands.proofs.Demand1.{bytes-of, demand1, output-of}
 use Rattle.demands.proofs.Demand2.{demand2, lines-written}
 use Rattle.demands.proofs.Demand3.{demand3}
+use Rattle.demands.proofs.Writing.{up-to-all}
 use Rattle.demands.specs.Demands.{SameFate, SameOutput, output}
 use Rattle.demands.specs.Places.{showsAt}
 use Rattle.demands.specs.Tables.{lines, upTo}
@@ -18,13 +19,12 @@ use Rattle.grammar.proofs.ColumnsRead.{declares-read}
 use Rattle.grammar.proofs.Cut.{cut-file}
 use Rattle.grammar.proofs.Refused.{refuses-exactly}
 use Rattle.table.proofs.Laws.{all-append}
-use Rattle.grammar.proofs.Exactly.{accepts-exactly, accepts-rows, both-ways, declares-columns, spells-read, writes-spelled}
+use Rattle.grammar.proofs.Exactly.{accepts-exactly, accepts-rows, both-ways, declares-columns, spells-read, table-count, table-ends, writes-spelled}
 use Rattle.grammar.specs.Declarations.{Declares}
 use Rattle.grammar.specs.Exact.{BothWays, tableOf}
 use Rattle.grammar.specs.Valid.{Spells}
 use Rattle.promises.specs.Promises.{Between, Carried, Made, MeansWhatWasRead, NothingElse, RowsOrRefusal, ThereAndBack, Unnamed, callOf, rowOf}
 use Rattle.rows.specs.Convert.{convert}
-use Rattle.rows.specs.Sequence.{row}
 use Rattle.rows.specs.Stream.{read}
 use Rattle.sailmortar.proofs.Numbers.{known, no-source, no-target}
 use Rattle.sailmortar.specs.Face.{Faced, betweenKinds, convertFace, faced, five, noSuchKind, rowsOf}
@@ -179,11 +179,6 @@ unfolding faced five ending bufferOf
 bytes-within o out numbers exit h =
     rw (ap (λ (ns : List ℕ). getD ns 4 0) (h .numbers-are), bytes-of o out, h .buffer-is, length-append) (omega arith)
 
-all-of-table : (rows : List (List Cell)) → upTo (length rows) (tableOf rows) ≡ tableOf rows
-unfolding tableOf upTo
-all-of-table [] = refl
-all-of-table (xs ∷ rows) = ap (row xs) (all-of-table rows)
-
 -- what a call wrote
 pub output-is : (n : ℕ) (body out : List ℕ) {c : Call} → c ≡ ending (accepted n body) out → output c ≡ body
 output-is n body out e = ap output e ∙ output-of (accepted n body) out ∙ unfold written in refl
@@ -195,7 +190,7 @@ module _ (decls : List ℕ) (cs : List Column) (rows : List (List Cell)) (d : De
   lines-are from to input body s e =
       let done : convert decls from to input body .answer .rows ≡ length rows = ap (λ (c : Call). c .answer .rows) e ∙ unfold ending answerOf in refl in
       let whole : upTo (convert decls from to input body .answer .rows) (read from cs input) ≡ tableOf rows =
-      ap₂ upTo done (spells-read cs (declares-columns decls cs d) from input rows s) ∙ all-of-table rows in
+      ap₂ upTo (done ∙ sym (table-count rows)) (spells-read cs (declares-columns decls cs d) from input rows s) ∙ up-to-all (tableOf rows) (table-ends rows) in
       ap (lines to cs) (sym whole) ∙ lines-written decls from to input body cs (declares-read d) ∙ ap good (output-is (length rows) body body e)
 
   carried : (to : Rows) (body out : List ℕ) (c : Call) → c ≡ ending (accepted (length rows) body) out → Spells to cs body rows → Carried cs to rows c
