@@ -119,8 +119,12 @@ module _ (decls : List ℕ) (from to : Rows) (input out : List ℕ) where
 
   -- ---- from the answer to the grammar
 
-  as-answered : {n r k : ℕ} → Answers (convert decls from to input out .answer) n r k → Refuses decls from to input (length out) n r k
-      → Refuses decls from to input (length out) (convert decls from to input out .answer .number) (convert decls from to input out .answer .row) (convert decls from to input out .answer .column)
+  -- the grammar refuses the call with the number, the row and the column that it answers
+  abbrev RefusedAsAnswered : Type 0
+  RefusedAsAnswered =
+      Refuses decls from to input (length out) (convert decls from to input out .answer .number) (convert decls from to input out .answer .row) (convert decls from to input out .answer .column)
+
+  as-answered : {n r k : ℕ} → Answers (convert decls from to input out .answer) n r k → Refuses decls from to input (length out) n r k → RefusedAsAnswered
   as-answered q h = rw (q .0, q .1, q .2) h
 
   -- the rows done, as the grammar has them
@@ -164,25 +168,21 @@ module _ (decls : List ℕ) (from to : Rows) (input out : List ℕ) where
       let p = there cs q a (t .0) xs (u .0) (t .2) in
       rw (← t .1) (refuses-room (done cs q h c s (t .0) (row xs (u .0)) (t .1) (t .2)) (p .2) (p .3) f (omega (arith, l, s .bytes-are)))
 
-  oversized : (cs : List Column) → declare decls ≡ good cs → mostInput < length input
-      → Refuses decls from to input (length out) (convert decls from to input out .answer .number) (convert decls from to input out .answer .row) (convert decls from to input out .answer .column)
+  oversized : (cs : List Column) → declare decls ≡ good cs → mostInput < length input → RefusedAsAnswered
   unfolding mostInput at
   oversized cs q h = as-answered (at-front (at 0 6) (front-oversized decls (length input) cs q h)) (refuses-size (declares-is decls cs q) h)
 
-  answers-refuses : AreBytes input → 0 < convert decls from to input out .answer .number
-      → Refuses decls from to input (length out) (convert decls from to input out .answer .number) (convert decls from to input out .answer .row) (convert decls from to input out .answer .column)
+  answers-refuses : AreBytes input → 0 < convert decls from to input out .answer .number → RefusedAsAnswered
   answers-refuses a z = go (declare decls) refl
     where
-      sized : (cs : List Column) → declare decls ≡ good cs → (b : Bool) → ltb mostInput (length input) ≡ b
-          → Refuses decls from to input (length out) (convert decls from to input out .answer .number) (convert decls from to input out .answer .row) (convert decls from to input out .answer .column)
+      sized : (cs : List Column) → declare decls ≡ good cs → (b : Bool) → ltb mostInput (length input) ≡ b → RefusedAsAnswered
       sized cs q true h = oversized cs q (ltb-true mostInput (length input) h)
       sized cs q false h =
           let l : length input ≤ mostInput = ltb-false mostInput (length input) h in
           let s : RowsStand cs from to input out (convert decls from to input out) = stands decls from to input out cs q l in
           by-rows cs q l a z (convert decls from to input out) s (s .why)
 
-      go : (r : Result Refusal (List Column)) → declare decls ≡ r
-          → Refuses decls from to input (length out) (convert decls from to input out .answer .number) (convert decls from to input out .answer .row) (convert decls from to input out .answer .column)
+      go : (r : Result Refusal (List Column)) → declare decls ≡ r → RefusedAsAnswered
       go (bad e) q = as-answered (at-front e (front-undeclared decls (length input) e q)) (refuses-declarations (fails-at (not-declared-is decls) q))
       go (good cs) q = sized cs q (ltb mostInput (length input)) refl
 
