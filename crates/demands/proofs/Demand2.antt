@@ -1,19 +1,17 @@
 -- Demand 2 of the converter. What is written reads back since each line does (Writing); acceptance is validity since the outcome is
 -- accepted just where the table ends, every row has a line and the lines have room.
-use Prim.Native.Nat.{_≤_, suc, zero, ℕ}
-use native.Mathlib.Nat.{zero-add}
+use Prim.Native.Nat.{_≤_, ℕ}
 use native.Mathlib.Omega.{arith}
 use mathlib.Core.Bool.{Bool, false, true}
-use mathlib.Core.List.{List, []}
-use mathlib.Core.Option.{Option·none-ne-some, some}
+use mathlib.Core.List.{List}
 use mathlib.Core.Path.{_∙_, _≡_, ap, refl, subst, sym}
 use lib.Dec.{ltb}
 use lib.ListN.{length, length-take}
 use borrow.Author.Tests.{le-ltb, ltb-false, ltb-true}
 use Rattle.demands.proofs.Demand1.{demand1}
-use Rattle.demands.proofs.Writing.{accepts, lines-good, lines-read, up-to-all}
+use Rattle.demands.proofs.Writing.{accepts, lines-good, lines-read, stop-behind, stops-behind, up-to-all}
 use Rattle.demands.specs.Demands.{Accepted, Demand2, Ended, RowsStand, Sized, ThereAndBack, Valid, Why, all-rows, in-reading, in-writing, no-space, output}
-use Rattle.demands.specs.Tables.{Ends, count, lines, stopAt, upTo}
+use Rattle.demands.specs.Tables.{Ends, count, lines, upTo}
 use Rattle.fields.proofs.Laws.{declare-is}
 use Rattle.fields.proofs.Refusals.{AtPlace}
 use Rattle.fields.proofs.Front.{front-fails, front-oversized, front-undeclared}
@@ -23,7 +21,6 @@ use Rattle.rows.proofs.Calls.{converts}
 use Rattle.rows.proofs.Sequences.{AllRows, Stops, rows-weaken}
 use Rattle.rows.proofs.Laws.{FitsAll, Placed, read-fits, read-stops, text-rows, write-row-fails}
 use Rattle.rows.specs.Convert.{convert, converting, underColumns}
-use Rattle.rows.specs.Sequence.{finished, row, stopped}
 use Rattle.rows.specs.Stream.{Table, read, run, writeCell}
 use Rattle.table.proofs.Laws.{each-weaken, fails-at, holds-at, the}
 use Rattle.table.specs.Cell.{AreColumns, Each, Fits}
@@ -60,20 +57,12 @@ lines-written decls from to input out cs q = go (ltb mostInput (length input)) (
 
 -- ---- what was accepted
 
-stop-has : (P : Refusal → Type 0) (t : Table) (j : ℕ) (e : Refusal) → Stops P t → stopAt j t ≡ some e → P e
-unfolding stopAt
-stop-has P finished j e h q = absurd (Option·none-ne-some e q)
-stop-has P (stopped x) zero e h q = let k : x ≡ e = cc in rw (← k) h
-stop-has P (stopped x) (suc j) e h q = absurd (Option·none-ne-some e q)
-stop-has P (row xs t) zero e h q = absurd (Option·none-ne-some e q)
-stop-has P (row xs t) (suc j) e h q = stop-has P t j e h q
-
 -- a call that is accepted has done all the rows: no refusal has the number 0
 all-done : (to : Rows) (cs : List Column) (room : ℕ) (t : Table) (rows size n r k : ℕ) → Stops (Placed 8 13 (length cs)) t → Why to cs room t rows size n r k
     → n ≡ 0 → Ends t × (rows ≡ count t)
 all-done to cs room t rows size n r k s (all-rows e q) z = (e, q)
 all-done to cs room t rows size n r k s (in-reading {e = e} q) z =
-    let p : Placed 8 13 (length cs) e = stop-has (Placed 8 13 (length cs)) t rows e s q in absurd (omega (arith, p .0 .0, z))
+    let p : Placed 8 13 (length cs) e = stops-behind (Placed 8 13 (length cs)) (stop-behind rows t e q) s in absurd (omega (arith, p .0 .0, z))
 all-done to cs room t rows size n r k s (in-writing {e = e} {xs = xs} q w) z =
     let p : Placed 14 16 (length cs) e = fails-at (write-row-fails to cs xs) w in absurd (omega (arith, p .0 .0, z))
 all-done to cs room t rows size n r k s (no-space q w h) z = absurd (omega (arith, z))
@@ -124,7 +113,7 @@ accepted-ends decls from to input out cs q a =
 pub runs : (from to : Rows) (cs : List Column) (s body : List ℕ) (t : Table) → read from cs s ≡ t → Ends t → lines to cs t ≡ good body
     → (room : ℕ) → length body ≤ room → run from to cs room s ≡ accepted (count t) body
 unfolding run
-runs from to cs s body t q e l room h = rw q (accepts to cs t room 0 [] body e l h ∙ ap (λ (n : ℕ). accepted n body) (zero-add (count t)))
+runs from to cs s body t q e l room h = rw q (accepts to cs t room body e l h)
 
 done-whole : (decls : List ℕ) (from to : Rows) (input out : List ℕ) (cs : List Column) (body : List ℕ) → declare decls ≡ good cs → length input ≤ mostInput
     → Ends (read from cs input) → lines to cs (read from cs input) ≡ good body → length body ≤ length out

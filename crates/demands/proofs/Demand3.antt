@@ -1,20 +1,19 @@
 -- Demand 3 of the converter. What a row gets is what the target has for its cells, `writeRow`, and that sees nothing else: so two rows that
 -- show the same get the same. Bytes that show nothing: Unseen. What a buffer held: a call is `ending` of an outcome, and the outcome sees its
 -- room alone.
-use Prim.Native.Nat.{_+_, _<_, _≤_, suc, zero, ℕ}
-use native.Mathlib.Nat.{add-suc, add-zero, zero-add}
+use Prim.Native.Nat.{_+_, _<_, _≤_, ℕ}
 use native.Mathlib.Omega.{arith}
 use mathlib.Core.Bool.{Bool, cond, false, true}
 use mathlib.Core.List.{List, [], _++_, append-assoc, append-nil}
-use mathlib.Core.Option.{Option·none-ne-some, some}
+use mathlib.Core.Option.{some}
 use mathlib.Core.Path.{_∙_, _≡_, ap, refl, subst, sym}
 use lib.Dec.{ltb}
-use lib.ListN.{getD, length, length-append}
+use lib.ListN.{getD, length}
 use Rattle.demands.proofs.Demand1.{output-of}
 use Rattle.rows.proofs.Calls.{converts}
 use Rattle.demands.proofs.Demand2.{declared-columns}
 use Rattle.demands.proofs.Unseen.{unseen}
-use Rattle.demands.proofs.Writing.{FirstLine, Writes, all-written, first-line, form-stops, goes-on, lines-read, next-row, no-room, unread, unwritten, writes}
+use Rattle.demands.proofs.Writing.{Writes, all-behind, all-written, first-written, form-stops, goes-on, lines-read, next-row, no-room, row-behind, unread, unwritten, writes}
 use Rattle.demands.specs.Demands.{Comes, Demand3, RefusedAt, SameFate, SameOutput, Stands, Stream, both-refused, both-written, called}
 use Rattle.demands.specs.Places.{showsAt}
 use Rattle.demands.specs.Tables.{lines, rowAt, upTo}
@@ -24,7 +23,7 @@ use Rattle.rows.proofs.Sequences.{AllRows}
 use Rattle.rows.proofs.Laws.{FitsAll, Placed, newline, newline-read, read-fits, read-nothing, read-row, row-back, write-row-fails}
 use Rattle.rows.specs.Convert.{convert, converting, underColumns}
 use Rattle.rows.specs.Stream.{Table, read, run, write, writeRow}
-use Rattle.rows.specs.Sequence.{finished, row, stopped}
+use Rattle.rows.specs.Sequence.{finished, row}
 use Rattle.table.proofs.Laws.{fails-at, holds-at}
 use Rattle.table.specs.All.{AreBytes}
 use Rattle.table.specs.Cell.{AreColumns, Cell}
@@ -61,37 +60,12 @@ here to cs room r out xs t (good b) q h =
     let m = more-written to cs room (r + 1) (out ++ b) t in
     (m .0, ap written (goes-on to cs room r out b xs t q h) ∙ m .1 ∙ append-assoc out b (m .0))
 
-gets : (to : Rows) (cs : List Column) (room : ℕ) (t : Table) (r : ℕ) (out before : List ℕ) (j : ℕ) (xs : List Cell) → rowAt j t ≡ some xs
-    → lines to cs (upTo j t) ≡ good before → length (out ++ before) ≤ room → Roomy room (out ++ before) (writeRow to cs xs)
-    → Gets (out ++ before) (writeRow to cs xs) (r + j) (write to cs room r out t)
-unfolding rowAt upTo lines
-gets to cs room finished r out before j xs q l f h = absurd (Option·none-ne-some xs q)
-gets to cs room (stopped e) r out before j xs q l f h = absurd (Option·none-ne-some xs q)
-gets to cs room (row ys t) r out before zero xs q l f h =
-    let e : ys ≡ xs = cc in
-    let n : [] ≡ before = cc l in
-    let o : out ++ before ≡ out = ap (λ (b : List ℕ). out ++ b) (sym n) ∙ append-nil out in
-    let k : Gets out (writeRow to cs xs) r (write to cs room r out (row xs t))
-    = here to cs room r out xs t (writeRow to cs xs) refl (subst (λ (b : List ℕ). Roomy room b (writeRow to cs xs)) o h) in
-    rw (o, e, add-zero r) k
-gets to cs room (row ys t) r out before (suc j) xs q l f h =
-    let w : FirstLine to cs ys (upTo j t) before = first-line to cs ys (upTo j t) before l in
-    let o : out ++ before ≡ (out ++ w .first) ++ w .others = ap (λ (b : List ℕ). out ++ b) (sym (w .whole)) ∙ sym (append-assoc out (w .first) (w .others)) in
-    let g : length ((out ++ w .first) ++ w .others) ≤ room = rw (← o) f in
-    let k : Gets ((out ++ w .first) ++ w .others) (writeRow to cs xs) (r + 1 + j) (write to cs room (r + 1) (out ++ w .first) t)
-    = gets to cs room t (r + 1) (out ++ w .first) (w .others) j xs q (w .have-forms) g (subst (λ (b : List ℕ). Roomy room b (writeRow to cs xs)) o h) in
-    let n : write to cs room r out (row ys t) ≡ write to cs room (r + 1) (out ++ w .first) t
-    = goes-on to cs room r out (w .first) ys t (w .has-form) (omega (arith, g, length-append (out ++ w .first) (w .others))) in
-    rw (o, n, add-suc r j) (subst (λ (i : ℕ). Gets ((out ++ w .first) ++ w .others) (writeRow to cs xs) i (write to cs room (r + 1) (out ++ w .first) t)) (omega arith) k)
+gets : (to : Rows) (cs : List Column) (room : ℕ) (t : Table) (before : List ℕ) (j : ℕ) (xs : List Cell) → rowAt j t ≡ some xs → lines to cs (upTo j t) ≡ good before
+    → length before ≤ room → Roomy room before (writeRow to cs xs) → Gets before (writeRow to cs xs) j (write to cs room 0 [] t)
+gets to cs room t before j xs q l f h =
+    let p = row-behind j t xs q in rw (first-written to cs room before (p .1) l f) (here to cs room j before xs (p .0) (writeRow to cs xs) refl h)
 
 -- ---- a row of a call
-
-row-fits : (cs : List Column) (j : ℕ) (t : Table) (xs : List Cell) → AllRows (FitsAll cs) t → rowAt j t ≡ some xs → FitsAll cs xs
-unfolding rowAt
-row-fits cs j finished xs f q = absurd (Option·none-ne-some xs q)
-row-fits cs j (stopped e) xs f q = absurd (Option·none-ne-some xs q)
-row-fits cs zero (row ys t) xs f q = let e : ys ≡ xs = cc in rw (← e) (f .0)
-row-fits cs (suc j) (row ys t) xs f q = row-fits cs j t xs (f .1) q
 
 -- a row's bytes by themselves read as that row
 row-alone : (to : Rows) (cs : List Column) (xs : List Cell) (b : List ℕ) → AreColumns cs → FitsAll cs xs → writeRow to cs xs ≡ good b → read to cs b ≡ row xs finished
@@ -116,7 +90,7 @@ module _ (to : Rows) (cs : List Column) (xs : List Cell) (s : Stream) (i : AreCo
         behind = g .0;
         there = output-of o (s .out) ∙ g .1;
         earlier = lines-read to cs i (s .row) table f (k .before) (k .not-earlier);
-        itself = row-alone to cs xs b i (row-fits cs (s .row) table xs f (k .shows)) q;
+        itself = row-alone to cs xs b i (all-behind (FitsAll cs) (row-behind (s .row) table xs (k .shows) .1) f .0) q;
       }
   fate-of o (bad e) q g =
       let p : Placed 14 16 (length cs) e = fails-at (write-row-fails to cs xs) q in
@@ -137,9 +111,8 @@ pub fate : (decls : List ℕ) (to : Rows) (cs : List Column) (xs : List Cell) (s
 fate decls to cs xs s q bytes k =
     let e : called convert decls to s ≡ ending (run (s .from) to cs (length (s .out)) (s .input)) (s .out) = converts decls (s .from) to (s .input) (s .out) cs q (k .sized) in
     let g : Gets (k .before) (writeRow to cs xs) (s .row) (run (s .from) to cs (length (s .out)) (s .input))
-    = unfold run in subst (λ (j : ℕ). Gets (k .before) (writeRow to cs xs) j (write to cs (length (s .out)) 0 [] (read (s .from) cs (s .input)))) (zero-add (s .row))
-    (gets to cs (length (s .out)) (read (s .from) cs (s .input)) 0 [] (k .before) (s .row) xs (k .shows) (k .not-earlier) (k .room-before)
-    (roomy to cs xs s (declared-columns decls cs q) bytes k (writeRow to cs xs) refl)) in
+    = unfold run in gets to cs (length (s .out)) (read (s .from) cs (s .input)) (k .before) (s .row) xs (k .shows) (k .not-earlier) (k .room-before)
+    (roomy to cs xs s (declared-columns decls cs q) bytes k (writeRow to cs xs) refl) in
     subst (Fate to cs xs s (k .before) (writeRow to cs xs)) (sym e)
     (fate-of to cs xs s (declared-columns decls cs q) bytes k (run (s .from) to cs (length (s .out)) (s .input)) (writeRow to cs xs) refl g)
 

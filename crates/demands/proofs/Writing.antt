@@ -1,9 +1,9 @@
 -- How a table is written, as a relation: each row whole, up to the first that is not. What the demands need of it follows by induction.
 use Prim.Native.Nat.{_+_, _<_, _≤_, suc, zero, zero-le, ℕ}
-use native.Mathlib.Nat.{add-zero}
+use native.Mathlib.Nat.{add-zero, zero-add}
 use native.Mathlib.Omega.{arith}
 use mathlib.Core.List.{List, [], _++_, _∷_, append-assoc, append-nil}
-use mathlib.Core.Option.{some}
+use mathlib.Core.Option.{Option·none-ne-some, some}
 use mathlib.Core.Path.{_∙_, _≡_, ap, ap₂, refl, sym}
 use lib.Dec.{lit≤, ltb}
 use lib.ListN.{length, length-append}
@@ -77,6 +77,61 @@ pub goes-on : (to : Rows) (cs : List Column) (room r : ℕ) (out b : List ℕ) (
 unfolding write fitted wroteThen
 goes-on to cs room r out b xs t q h = rw (q, le-ltb room (length (out ++ b)) h)
 
+-- ---- rows that have a form and room are written, and writing goes on behind them
+
+-- what a table has behind its first rows
+pub data Behind : ℕ → Table → Table → Type 0 where
+  from-here : {t : Table} → Behind 0 t t
+  past-row : {j : ℕ} {xs : List Cell} {t u : Table} → Behind j t u → Behind (suc j) (row xs t) u
+
+pub rows-written : (to : Rows) (cs : List Column) (room r : ℕ) (out body : List ℕ) {j : ℕ} {t u : Table} → Behind j t u → lines to cs (upTo j t) ≡ good body
+    → length (out ++ body) ≤ room → write to cs room r out t ≡ write to cs room (r + j) (out ++ body) u
+unfolding lines upTo
+rows-written to cs room r out body {t = t} from-here l h =
+    ap₂ (λ (n : ℕ) (b : List ℕ). write to cs room n b t) (sym (add-zero r)) (sym (append-nil out) ∙ ap (λ (b : List ℕ). out ++ b) (cc l))
+rows-written to cs room r out body {u = u} (past-row {j = j} {xs = xs} {t = t} p) l h =
+    let w : FirstLine to cs xs (upTo j t) body = first-line to cs xs (upTo j t) body l in
+    let n : (out ++ w .first) ++ w .others ≡ out ++ body = append-assoc out (w .first) (w .others) ∙ ap (λ (b : List ℕ). out ++ b) (w .whole) in
+    let g : length ((out ++ w .first) ++ w .others) ≤ room = rw n h in
+    goes-on to cs room r out (w .first) xs t (w .has-form) (omega (arith, g, length-append (out ++ w .first) (w .others)))
+    ∙ rows-written to cs room (r + 1) (out ++ w .first) (w .others) p (w .have-forms) g
+    ∙ ap₂ (λ (m : ℕ) (b : List ℕ). write to cs room m b u) (omega arith) n
+
+-- from the start
+pub first-written : (to : Rows) (cs : List Column) (room : ℕ) (body : List ℕ) {j : ℕ} {t u : Table} → Behind j t u → lines to cs (upTo j t) ≡ good body
+    → length body ≤ room → write to cs room 0 [] t ≡ write to cs room j body u
+first-written to cs room body {j} {t} {u} p l h = rows-written to cs room 0 [] body p l h ∙ ap (λ (n : ℕ). write to cs room n body u) (zero-add j)
+
+pub ends-behind : (t : Table) → Ends t → Behind (count t) t finished
+unfolding count
+ends-behind finished e = from-here
+ends-behind (stopped n) e = absurd e
+ends-behind (row xs t) e = past-row (ends-behind t e)
+
+pub stop-behind : (j : ℕ) (t : Table) (e : Refusal) → stopAt j t ≡ some e → Behind j t (stopped e)
+unfolding stopAt
+stop-behind j finished e q = absurd (Option·none-ne-some e q)
+stop-behind zero (stopped x) e q = let k : x ≡ e = cc in rw k from-here
+stop-behind (suc j) (stopped x) e q = absurd (Option·none-ne-some e q)
+stop-behind zero (row xs t) e q = absurd (Option·none-ne-some e q)
+stop-behind (suc j) (row xs t) e q = past-row (stop-behind j t e q)
+
+pub row-behind : (j : ℕ) (t : Table) (xs : List Cell) → rowAt j t ≡ some xs → (u : Table) × Behind j t (row xs u)
+unfolding rowAt
+row-behind j finished xs q = absurd (Option·none-ne-some xs q)
+row-behind j (stopped e) xs q = absurd (Option·none-ne-some xs q)
+row-behind zero (row ys t) xs q = let k : ys ≡ xs = cc in (t, rw k from-here)
+row-behind (suc j) (row ys t) xs q = let r = row-behind j t xs q in (r .0, past-row (r .1))
+
+-- what holds of every row, or of the refusal that a table stops with
+pub all-behind : (P : List Cell → Type 0) {j : ℕ} {t u : Table} → Behind j t u → AllRows P t → AllRows P u
+all-behind P from-here h = h
+all-behind P (past-row p) h = all-behind P p (h .1)
+
+pub stops-behind : (P : Refusal → Type 0) {j : ℕ} {t u : Table} → Behind j t u → Stops P t → Stops P u
+stops-behind P from-here h = h
+stops-behind P (past-row p) h = stops-behind P p h
+
 -- ---- what stands once it is written
 
 -- why it is refused behind so many rows, with so many bytes written
@@ -143,24 +198,16 @@ done-of to cs room {r} {out} {t} {o} (next-row {b = b} {xs = xs} {t = u} q h w) 
 
 -- ---- with room enough, what has a form in the target is accepted
 
-pub accepts : (to : Rows) (cs : List Column) (t : Table) (room r : ℕ) (out body : List ℕ) → Ends t → lines to cs t ≡ good body
-    → length (out ++ body) ≤ room → write to cs room r out t ≡ accepted (r + count t) (out ++ body)
-unfolding lines write count wroteThen fitted
-accepts to cs finished room r out body e l h = ap₂ accepted (sym (add-zero r)) (cc (append-nil out))
-accepts to cs (stopped n) room r out body e l h = absurd e
-accepts to cs (row xs t) room r out body e l h =
-    let f : FirstLine to cs xs t body = first-line to cs xs t body l in
-    let k : length ((out ++ f .first) ++ f .others) ≤ room = rw (append-assoc, f .whole) h in
-    rw (f .has-form, le-ltb room (length (out ++ f .first)) (omega (arith, length-append (out ++ f .first) (f .others))))
-    (accepts to cs t room (r + 1) (out ++ f .first) (f .others) e (f .have-forms) k
-    ∙ ap₂ accepted (omega arith) (append-assoc out (f .first) (f .others) ∙ ap (λ (b : List ℕ). out ++ b) (f .whole)))
-
 -- all rows of a table that ends are all of it
 pub up-to-all : (t : Table) → Ends t → upTo (count t) t ≡ t
 unfolding upTo count
 up-to-all finished e = refl
 up-to-all (stopped n) e = absurd e
 up-to-all (row xs t) e = ap (row xs) (up-to-all t e)
+
+pub accepts : (to : Rows) (cs : List Column) (t : Table) (room : ℕ) (body : List ℕ) → Ends t → lines to cs t ≡ good body → length body ≤ room
+    → write to cs room 0 [] t ≡ accepted (count t) body
+accepts to cs t room body e l h = first-written to cs room body (ends-behind t e) (ap (lines to cs) (up-to-all t e) ∙ l) h ∙ (unfold write in refl)
 
 -- ---- lines are read back as the rows they were written from
 

@@ -1,21 +1,20 @@
 -- WHICH NUMBER, EXACTLY: a call answers a refusal's number, row and column just where the grammar says that number at that row and column. Forward, what
 -- demand 1 says of the answer is carried from the table to the grammar (DeclarationsRefused, RowsRefused); backward, the rows done are written and the
 -- next thing refuses.
-use Prim.Native.Nat.{_+_, _<_, _≤_, suc, zero, ℕ}
-use native.Mathlib.Nat.{add-zero, zero-add}
+use Prim.Native.Nat.{_+_, _<_, _≤_, suc, ℕ}
+use native.Mathlib.Nat.{zero-add}
 use native.Mathlib.Omega.{arith}
 use mathlib.Core.Bool.{Bool, false, true}
-use mathlib.Core.List.{List, [], _++_, _∷_, append-assoc, append-nil}
+use mathlib.Core.List.{List, [], _++_, _∷_}
 use mathlib.Core.Logic.{_↔_}
-use mathlib.Core.Option.{Option·none-ne-some, some}
 use mathlib.Core.Path.{_∙_, _≡_, ap, refl, subst, subst⁻¹, sym}
 use lib.Dec.{lit<, ltb}
-use lib.ListN.{length, length-append}
+use lib.ListN.{length}
 use borrow.Author.Tests.{ltb-false, ltb-true}
 use Rattle.demands.proofs.Demand2.{declared-columns, stands}
-use Rattle.demands.proofs.Writing.{FirstLine, first-line, form-stops, goes-on, room-stops}
+use Rattle.demands.proofs.Writing.{Behind, form-stops, from-here, past-row, room-stops, row-behind, rows-written, stop-behind, stops-behind}
 use Rattle.demands.specs.Demands.{RowsStand, Why, all-rows, in-reading, in-writing, no-space, output}
-use Rattle.demands.specs.Tables.{lines, rowAt, stopAt, upTo}
+use Rattle.demands.specs.Tables.{lines, upTo}
 use Rattle.fields.proofs.Front.{front-oversized, front-undeclared}
 use Rattle.fields.proofs.Refusals.{AtPlace, declare-fails}
 use Rattle.fields.specs.Fields.{declare}
@@ -32,7 +31,7 @@ use Rattle.rows.proofs.Calls.{converts}
 use Rattle.rows.proofs.Sequences.{Stops}
 use Rattle.rows.proofs.Laws.{Placed, read-row, read-stops, write-row-fails}
 use Rattle.rows.specs.Convert.{convert, converting, underColumns}
-use Rattle.rows.specs.Sequence.{finished, row, stopped}
+use Rattle.rows.specs.Sequence.{row, stopped}
 use Rattle.rows.specs.Stream.{Table, read, run, write}
 use Rattle.table.proofs.Laws.{fails-at, holds-at}
 use Rattle.table.specs.All.{AreBytes}
@@ -42,49 +41,26 @@ use Rattle.table.specs.Result.{Result, bad, good}
 use Rattle.table.specs.declared.Column.{Column}
 use Rattle.table.specs.declared.Rows.{Rows}
 
--- ---- rows that are written, and what comes behind them
+-- ---- rows, and what comes behind them
 
-module _ (to : Rows) (cs : List Column) (room : ℕ) where
-  pub rows-go-on : (rows : List (List Cell)) (u : Table) (r : ℕ) (out body : List ℕ) → lines to cs (tableOf rows) ≡ good body → length (out ++ body) ≤ room
-      → write to cs room r out (andThen (tableOf rows) u) ≡ write to cs room (r + length rows) (out ++ body) u
-  unfolding lines tableOf andThen
-  rows-go-on [] u r out body l h =
-      let e : out ≡ out ++ body = sym (append-nil out) ∙ ap (λ (b : List ℕ). out ++ b) (cc l) in
-      ap (λ (b : List ℕ). write to cs room r b u) e ∙ ap (λ (n : ℕ). write to cs room n (out ++ body) u) (sym (add-zero r))
-  rows-go-on (xs ∷ rows) u r out body l h =
-      let w : FirstLine to cs xs (tableOf rows) body = first-line to cs xs (tableOf rows) body l in
-      let n : (out ++ w .first) ++ w .others ≡ out ++ body = append-assoc out (w .first) (w .others) ∙ ap (λ (b : List ℕ). out ++ b) (w .whole) in
-      let g : length ((out ++ w .first) ++ w .others) ≤ room = rw n h in
-      goes-on to cs room r out (w .first) xs (andThen (tableOf rows) u) (w .has-form) (omega (arith, g, length-append (out ++ w .first) (w .others)))
-      ∙ rows-go-on rows u (r + 1) (out ++ w .first) (w .others) (w .have-forms) g
-      ∙ ap (λ (b : List ℕ). write to cs room (r + 1 + length rows) b u) n ∙ ap (λ (k : ℕ). write to cs room k (out ++ body) u) (omega arith)
+rows-behind : (rows : List (List Cell)) (u : Table) → Behind (length rows) (andThen (tableOf rows) u) u
+unfolding andThen tableOf
+rows-behind [] u = from-here
+rows-behind (xs ∷ rows) u = past-row (rows-behind rows u)
 
--- ---- a table, up to a row
-
-stop-split : (j : ℕ) (t : Table) (e : Refusal) → stopAt j t ≡ some e → (rows : List (List Cell)) × (length rows ≡ j) × (t ≡ andThen (tableOf rows) (stopped e))
-unfolding stopAt andThen tableOf
-stop-split j finished e q = absurd (Option·none-ne-some e q)
-stop-split zero (stopped x) e q = let k : x ≡ e = cc in ([], refl, ap stopped k)
-stop-split (suc j) (stopped x) e q = absurd (Option·none-ne-some e q)
-stop-split zero (row xs t) e q = absurd (Option·none-ne-some e q)
-stop-split (suc j) (row xs t) e q = let r = stop-split j t e q in (xs ∷ r .0, ap suc (r .1), ap (row xs) (r .2))
-
-row-split : (j : ℕ) (t : Table) (xs : List Cell) → rowAt j t ≡ some xs → (rows : List (List Cell)) × (length rows ≡ j) × (u : Table) × (t ≡ andThen (tableOf rows) (row xs u))
-unfolding rowAt andThen tableOf
-row-split j finished xs q = absurd (Option·none-ne-some xs q)
-row-split j (stopped e) xs q = absurd (Option·none-ne-some xs q)
-row-split zero (row ys t) xs q = let k : ys ≡ xs = cc in ([], refl, t, ap (λ (x : List Cell). row x t) k)
-row-split (suc j) (row ys t) xs q = let r = row-split j t xs q in (ys ∷ r .0, ap suc (r .1), r .2, ap (row ys) (r .3))
+rows-before : {j : ℕ} {t u : Table} → Behind j t u → (rows : List (List Cell)) × (length rows ≡ j) × (t ≡ andThen (tableOf rows) u)
+unfolding andThen tableOf
+rows-before from-here = ([], refl, refl)
+rows-before (past-row {xs = xs} p) = let r = rows-before p in (xs ∷ r .0, ap suc (r .1), ap (row xs) (r .2))
 
 pub up-to-rows : (rows : List (List Cell)) (u : Table) → upTo (length rows) (andThen (tableOf rows) u) ≡ tableOf rows
 unfolding upTo andThen tableOf
 up-to-rows [] u = refl
 up-to-rows (xs ∷ rows) u = ap (row xs) (up-to-rows rows u)
 
-stops-behind : (P : Refusal → Type 0) (rows : List (List Cell)) (e : Refusal) → Stops P (andThen (tableOf rows) (stopped e)) → P e
-unfolding andThen tableOf
-stops-behind P [] e h = h
-stops-behind P (xs ∷ rows) e h = stops-behind P rows e h
+pub rows-go-on : (to : Rows) (cs : List Column) (room : ℕ) (rows : List (List Cell)) (u : Table) (r : ℕ) (out body : List ℕ) → lines to cs (tableOf rows) ≡ good body
+    → length (out ++ body) ≤ room → write to cs room r out (andThen (tableOf rows) u) ≡ write to cs room (r + length rows) (out ++ body) u
+rows-go-on to cs room rows u r out body l h = rows-written to cs room r out body (rows-behind rows u) (ap (lines to cs) (up-to-rows rows u) ∙ l) h
 
 -- ---- from the grammar to the answer
 
@@ -134,7 +110,7 @@ module _ (decls : List ℕ) (from to : Rows) (input out : List ℕ) where
   above a (refuses-size d h) = lit< tt
   above a (refuses-reading {cs = cs} {rows = rows} {n = n} {k = k} d s) =
       let p : Placed 8 13 (length cs) (at k n)
-      = stops-behind (Placed 8 13 (length cs)) rows (at k n)
+      = stops-behind (Placed 8 13 (length cs)) (rows-behind rows (stopped (at k n)))
       (subst (Stops (Placed 8 13 (length cs))) (stops-exactly from cs (columns d) rows input n k a .0 s) (read-stops from cs input)) in
       omega (arith, p .0 .0)
   above a (refuses-writing {cs = cs} {xs = xs} {n = n} {k = k} d p q w) =
@@ -143,8 +119,12 @@ module _ (decls : List ℕ) (from to : Rows) (input out : List ℕ) where
 
   -- ---- from the answer to the grammar
 
-  as-answered : {n r k : ℕ} → Answers (convert decls from to input out .answer) n r k → Refuses decls from to input (length out) n r k
-      → Refuses decls from to input (length out) (convert decls from to input out .answer .number) (convert decls from to input out .answer .row) (convert decls from to input out .answer .column)
+  -- the grammar refuses the call with the number, the row and the column that it answers
+  abbrev RefusedAsAnswered : Type 0
+  RefusedAsAnswered =
+      Refuses decls from to input (length out) (convert decls from to input out .answer .number) (convert decls from to input out .answer .row) (convert decls from to input out .answer .column)
+
+  as-answered : {n r k : ℕ} → Answers (convert decls from to input out .answer) n r k → Refuses decls from to input (length out) n r k → RefusedAsAnswered
   as-answered q h = rw (q .0, q .1, q .2) h
 
   -- the rows done, as the grammar has them
@@ -175,36 +155,34 @@ module _ (decls : List ℕ) (from to : Rows) (input out : List ℕ) where
   unfolding mostInput at
   by-rows cs q h a z c s (all-rows e d) = absurd (omega (arith, z))
   by-rows cs q h a z c s (in-reading {e = e} w) =
-      let t = stop-split (c .answer .rows) (read from cs input) e w in
+      let t = rows-before (stop-behind (c .answer .rows) (read from cs input) e w) in
       rw (← t .1) (refuses-reading (done cs q h c s (t .0) (stopped e) (t .1) (t .2)) (stops-exactly from cs (declared-columns decls cs q) (t .0) input (e .number) (e .column) a .1 (t .2)))
   by-rows cs q h a z c s (in-writing {e = e} {xs = xs} w f) =
-      let t = row-split (c .answer .rows) (read from cs input) xs w in
-      let p = there cs q a (t .0) xs (t .2) (t .3) in
-      rw (← t .1) (refuses-writing (done cs q h c s (t .0) (row xs (t .2)) (t .1) (t .3)) (p .2) (p .3) (fails-at (unwritten-is to cs xs) f))
+      let u = row-behind (c .answer .rows) (read from cs input) xs w in
+      let t = rows-before (u .1) in
+      let p = there cs q a (t .0) xs (u .0) (t .2) in
+      rw (← t .1) (refuses-writing (done cs q h c s (t .0) (row xs (u .0)) (t .1) (t .2)) (p .2) (p .3) (fails-at (unwritten-is to cs xs) f))
   by-rows cs q h a z c s (no-space {xs = xs} {b = b} w f l) =
-      let t = row-split (c .answer .rows) (read from cs input) xs w in
-      let p = there cs q a (t .0) xs (t .2) (t .3) in
-      rw (← t .1) (refuses-room (done cs q h c s (t .0) (row xs (t .2)) (t .1) (t .3)) (p .2) (p .3) f (omega (arith, l, s .bytes-are)))
+      let u = row-behind (c .answer .rows) (read from cs input) xs w in
+      let t = rows-before (u .1) in
+      let p = there cs q a (t .0) xs (u .0) (t .2) in
+      rw (← t .1) (refuses-room (done cs q h c s (t .0) (row xs (u .0)) (t .1) (t .2)) (p .2) (p .3) f (omega (arith, l, s .bytes-are)))
 
-  oversized : (cs : List Column) → declare decls ≡ good cs → mostInput < length input
-      → Refuses decls from to input (length out) (convert decls from to input out .answer .number) (convert decls from to input out .answer .row) (convert decls from to input out .answer .column)
+  oversized : (cs : List Column) → declare decls ≡ good cs → mostInput < length input → RefusedAsAnswered
   unfolding mostInput at
   oversized cs q h = as-answered (at-front (at 0 6) (front-oversized decls (length input) cs q h)) (refuses-size (declares-is decls cs q) h)
 
-  answers-refuses : AreBytes input → 0 < convert decls from to input out .answer .number
-      → Refuses decls from to input (length out) (convert decls from to input out .answer .number) (convert decls from to input out .answer .row) (convert decls from to input out .answer .column)
+  answers-refuses : AreBytes input → 0 < convert decls from to input out .answer .number → RefusedAsAnswered
   answers-refuses a z = go (declare decls) refl
     where
-      sized : (cs : List Column) → declare decls ≡ good cs → (b : Bool) → ltb mostInput (length input) ≡ b
-          → Refuses decls from to input (length out) (convert decls from to input out .answer .number) (convert decls from to input out .answer .row) (convert decls from to input out .answer .column)
+      sized : (cs : List Column) → declare decls ≡ good cs → (b : Bool) → ltb mostInput (length input) ≡ b → RefusedAsAnswered
       sized cs q true h = oversized cs q (ltb-true mostInput (length input) h)
       sized cs q false h =
           let l : length input ≤ mostInput = ltb-false mostInput (length input) h in
           let s : RowsStand cs from to input out (convert decls from to input out) = stands decls from to input out cs q l in
           by-rows cs q l a z (convert decls from to input out) s (s .why)
 
-      go : (r : Result Refusal (List Column)) → declare decls ≡ r
-          → Refuses decls from to input (length out) (convert decls from to input out .answer .number) (convert decls from to input out .answer .row) (convert decls from to input out .answer .column)
+      go : (r : Result Refusal (List Column)) → declare decls ≡ r → RefusedAsAnswered
       go (bad e) q = as-answered (at-front e (front-undeclared decls (length input) e q)) (refuses-declarations (fails-at (not-declared-is decls) q))
       go (good cs) q = sized cs q (ltb mostInput (length input)) refl
 
