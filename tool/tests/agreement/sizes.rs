@@ -1,7 +1,7 @@
 //! Tables of several megabytes, and the greatest input there may be.
 
 use super::archive;
-use super::compare::{agree_on_decoding, agree_on_encoding, numbers, seeds, Case};
+use super::compare::{agree_on_decoding, agree_on_encoding, seeds, Case};
 use crate::generate::columns::{declarations, some};
 use crate::generate::rows::{spelled, table};
 use crate::generate::Random;
@@ -80,8 +80,8 @@ fn one_byte_over_the_greatest_input_is_refused() {
             assert_eq!(in_room(9, |out| archive::convert_piece(b"<FIELD", from, to, &input, out)), ([1, 0, 0, 0, 0, 0], Vec::new()));
         }
     }
-    assert_eq!(in_room(100, |out| numbers(sailmortar::base64_encode(&input, out))), six);
-    assert_eq!(in_room(100, |out| numbers(sailmortar::base64_decode(&input, out))), six);
+    assert_eq!(in_room(100, |out| archive::base64_encode(&input, out)), six);
+    assert_eq!(in_room(100, |out| archive::base64_decode(&input, out)), six);
 }
 
 #[test]
@@ -97,6 +97,6 @@ fn the_greatest_input_is_taken() {
     assert!(out == line.repeat(rows));
     let (answer, _) = in_room(10 * line.len() + 3, call);
     assert_eq!(answer, [17, 10, 0, 10, 150, 40_960]);
-    assert_eq!(in_room(100, |out| numbers(sailmortar::base64_encode(&input, out))).0, [17, 0, 0, 0, 0]);
-    assert_eq!(in_room(100, |out| numbers(sailmortar::base64_decode(&input, out))).0, [7, 0, 0, 0, 0]);
+    assert_eq!(in_room(100, |out| archive::base64_encode(&input, out)).0, [17, 0, 0, 0, 0]);
+    assert_eq!(in_room(100, |out| archive::base64_decode(&input, out)).0, [7, 0, 0, 0, 0]);
 }
