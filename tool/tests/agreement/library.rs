@@ -117,7 +117,7 @@ fn pieces_are_the_whole() {
 }
 
 #[test]
-fn a_conversion_tells_what_the_archive_does_at_every_room() {
+fn a_conversion_into_a_slice_tells_what_the_model_does() {
     for seed in seeds(74_000_000, 6_000) {
         let mut random = Random::new(seed);
         let from = random.pick(&EVERY_KIND_OF_ROWS);
