@@ -69,19 +69,19 @@ fn in_room<const N: usize>(room: usize, call: impl Fn(&mut [u8]) -> [u64; N]) ->
 #[test]
 fn one_byte_over_the_greatest_input_is_refused() {
     let input = zeros(MOST_INPUT + 1);
-    let six = ([6, 0, 0, 0, 0], Vec::new());
+    let over_size = ([6, 0, 0, 0, 0], Vec::new());
     let field = b"<FIELD datatype='char' arraysize='4096'/>";
     for from in 0..3 {
         for to in 0..3 {
-            assert_eq!(in_room(9_000, |out| archive::convert(field, from, to, &input, out)), six);
+            assert_eq!(in_room(9_000, |out| archive::convert(field, from, to, &input, out)), over_size);
             assert_eq!(in_room(9_000, |out| archive::convert_piece(field, from, to, &input, out)), ([6, 0, 0, 0, 0, 0], Vec::new()));
             // The declarations are judged first, whatever the input.
             assert_eq!(in_room(9, |out| archive::convert(b"<FIELD", from, to, &input, out)), ([1, 0, 0, 0, 0], Vec::new()));
             assert_eq!(in_room(9, |out| archive::convert_piece(b"<FIELD", from, to, &input, out)), ([1, 0, 0, 0, 0, 0], Vec::new()));
         }
     }
-    assert_eq!(in_room(100, |out| archive::base64_encode(&input, out)), six);
-    assert_eq!(in_room(100, |out| archive::base64_decode(&input, out)), six);
+    assert_eq!(in_room(100, |out| archive::base64_encode(&input, out)), over_size);
+    assert_eq!(in_room(100, |out| archive::base64_decode(&input, out)), over_size);
 }
 
 #[test]
