@@ -159,7 +159,7 @@ fn make(root: &Path, library: &Path, sources: &Sources, toolchain: &str) {
 /// Proves the converter, or finds it proved, and writes the archive to target/staticlib/.
 fn prove(root: &Path) {
     say_at_the_terminal(
-        "sailmortar: proving the converter (rt staticlib sailmortar): about four minutes on two cores, less where it is proved already",
+        "sailmortar: proving the converter (rt staticlib sailmortar): some five minutes on two cores, less where it is proved already",
     );
     // `rt check` proves crates side by side and `rt staticlib` one after the other: what the archive stands on is proved first.
     let listed = root.join("crates.txt");

@@ -28,6 +28,7 @@
 mod answer;
 mod base64;
 mod columns;
+mod face;
 mod numbers;
 mod pieces;
 mod proved;

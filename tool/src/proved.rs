@@ -1,26 +1,9 @@
-//! The functions of the proved archive, as they stand in include/sailmortar.h. Everything unsafe in the library is in this file.
+//! The calls of the proved archive (face.rs) are made here, and everything unsafe in the library is in this file.
 
 use std::mem::MaybeUninit;
 
+use crate::face::{sailmortar_base64_decode, sailmortar_base64_encode, sailmortar_convert_piece, sailmortar_declare};
 use crate::{Done, Refused, Rows};
-
-// `sailmortar_convert` is `sailmortar_convert_piece` without the place, which a refusal tells here.
-extern "C" {
-    fn sailmortar_convert_piece(
-        decls: *const u8,
-        decls_length: usize,
-        from: u32,
-        to: u32,
-        input: *const u8,
-        input_length: usize,
-        out: *mut u8,
-        out_length: usize,
-        answer: *mut [u64; 6],
-    );
-    fn sailmortar_base64_decode(input: *const u8, input_length: usize, out: *mut u8, out_length: usize, answer: *mut [u64; 5]);
-    fn sailmortar_base64_encode(input: *const u8, input_length: usize, out: *mut u8, out_length: usize, answer: *mut [u64; 5]);
-    fn sailmortar_declare(decls: *const u8, decls_length: usize, answer: *mut [u64; 5]);
-}
 
 /// Room that is lent for bytes to be written to. What it held before need not be anything.
 type Room = [MaybeUninit<u8>];

@@ -1,5 +1,9 @@
-//! The archive's conversions as C calls them: with every number of the answer, and kinds of rows that are none.
+//! The archive's functions as C calls them: with every number of the answer, and kinds of rows that are none.
 
+#[path = "../../src/face.rs"]
+mod face;
+
+// The one that the library does not call.
 extern "C" {
     fn sailmortar_convert(
         decls: *const u8,
@@ -12,34 +16,48 @@ extern "C" {
         out_length: usize,
         answer: *mut [u64; 5],
     );
-    fn sailmortar_convert_piece(
-        decls: *const u8,
-        decls_length: usize,
-        from: u32,
-        to: u32,
-        input: *const u8,
-        input_length: usize,
-        out: *mut u8,
-        out_length: usize,
-        answer: *mut [u64; 6],
-    );
 }
 
 /// What no number of an answer is, so that one which is not written shows.
 const UNWRITTEN: u64 = u64::MAX;
 
-pub fn convert(decls: &[u8], from: u32, to: u32, input: &[u8], out: &mut [u8]) -> [u64; 5] {
-    let mut answer = [UNWRITTEN; 5];
-    let (decls, given, room) = ((decls.as_ptr(), decls.len()), (input.as_ptr(), input.len()), (out.as_mut_ptr(), out.len()));
+type Conversion<const N: usize> = unsafe extern "C" fn(*const u8, usize, u32, u32, *const u8, usize, *mut u8, usize, *mut [u64; N]);
+
+fn conversion<const N: usize>(call: Conversion<N>, decls: &[u8], from: u32, to: u32, input: &[u8], out: &mut [u8]) -> [u64; N] {
+    let mut answer = [UNWRITTEN; N];
     // SAFETY: each pointer and length is a slice's own, and `out` and `answer` are lent to this call alone.
-    unsafe { sailmortar_convert(decls.0, decls.1, from, to, given.0, given.1, room.0, room.1, &mut answer) };
+    unsafe { call(decls.as_ptr(), decls.len(), from, to, input.as_ptr(), input.len(), out.as_mut_ptr(), out.len(), &mut answer) };
     answer
 }
 
+pub fn convert(decls: &[u8], from: u32, to: u32, input: &[u8], out: &mut [u8]) -> [u64; 5] {
+    conversion(sailmortar_convert, decls, from, to, input, out)
+}
+
 pub fn convert_piece(decls: &[u8], from: u32, to: u32, input: &[u8], out: &mut [u8]) -> [u64; 6] {
-    let mut answer = [UNWRITTEN; 6];
-    let (decls, given, room) = ((decls.as_ptr(), decls.len()), (input.as_ptr(), input.len()), (out.as_mut_ptr(), out.len()));
-    // SAFETY: as in `convert`.
-    unsafe { sailmortar_convert_piece(decls.0, decls.1, from, to, given.0, given.1, room.0, room.1, &mut answer) };
+    conversion(face::sailmortar_convert_piece, decls, from, to, input, out)
+}
+
+type Base64Step = unsafe extern "C" fn(*const u8, usize, *mut u8, usize, *mut [u64; 5]);
+
+fn base64_step(call: Base64Step, input: &[u8], out: &mut [u8]) -> [u64; 5] {
+    let mut answer = [UNWRITTEN; 5];
+    // SAFETY: as in `conversion`.
+    unsafe { call(input.as_ptr(), input.len(), out.as_mut_ptr(), out.len(), &mut answer) };
+    answer
+}
+
+pub fn base64_decode(input: &[u8], out: &mut [u8]) -> [u64; 5] {
+    base64_step(face::sailmortar_base64_decode, input, out)
+}
+
+pub fn base64_encode(input: &[u8], out: &mut [u8]) -> [u64; 5] {
+    base64_step(face::sailmortar_base64_encode, input, out)
+}
+
+pub fn declare(decls: &[u8]) -> [u64; 5] {
+    let mut answer = [UNWRITTEN; 5];
+    // SAFETY: as in `conversion`.
+    unsafe { face::sailmortar_declare(decls.as_ptr(), decls.len(), &mut answer) };
     answer
 }

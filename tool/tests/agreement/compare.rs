@@ -69,10 +69,7 @@ pub fn agree_by_numbers(declarations: &[u8], from: u32, to: u32, input: &[u8], r
 /// Compares what `declare` and a conversion say of these declarations; hands out what `declare` does.
 pub fn agree_on_declarations(declarations: &[u8], seed: u64) -> Answer {
     let model = converter::declare(declarations);
-    let proved = match sailmortar::declare(declarations) {
-        Ok(columns) => [0, 0, 0, columns, 0],
-        Err(refused) => [refused.number, refused.row, refused.column, 0, 0],
-    };
+    let proved = archive::declare(declarations);
     if proved != model {
         let difference = format!("proved {proved:?}, model {model:?}");
         panic!("{}", report("declare", seed, &[("declarations", declarations)], &difference));
@@ -88,7 +85,7 @@ pub fn agree_on_declarations(declarations: &[u8], seed: u64) -> Answer {
 
 pub fn agree_on_decoding(input: &[u8], room: usize, seed: u64) -> Answer {
     let model = base64::decode(input, room);
-    let call = |out: &mut [u8]| numbers(sailmortar::base64_decode(input, out));
+    let call = |out: &mut [u8]| archive::base64_decode(input, out);
     if let Err(difference) = compare(model.answer, &model.bytes, room, &FILLINGS, call) {
         let call = format!("base64_decode, room {room}");
         panic!("{}", report(&call, seed, &[("input", input)], &difference));
@@ -98,38 +95,12 @@ pub fn agree_on_decoding(input: &[u8], room: usize, seed: u64) -> Answer {
 
 pub fn agree_on_encoding(input: &[u8], room: usize, seed: u64) -> Answer {
     let model = base64::encode(input, room);
-    let call = |out: &mut [u8]| numbers(sailmortar::base64_encode(input, out));
+    let call = |out: &mut [u8]| archive::base64_encode(input, out);
     if let Err(difference) = compare(model.answer, &model.bytes, room, &FILLINGS, call) {
         let call = format!("base64_encode, room {room}");
         panic!("{}", report(&call, seed, &[("input", input)], &difference));
     }
     model.answer
-}
-
-pub fn proved_rows(rows: Rows) -> sailmortar::Rows {
-    match rows {
-        Rows::TableData => sailmortar::Rows::TableData,
-        Rows::Binary => sailmortar::Rows::Binary,
-        Rows::Binary2 => sailmortar::Rows::Binary2,
-    }
-}
-
-pub fn numbers(answer: Result<sailmortar::Done, sailmortar::Refused>) -> Answer {
-    match answer {
-        Ok(done) => [0, 0, 0, done.rows, done.bytes],
-        Err(refused) => [refused.number, refused.row, refused.column, refused.rows, refused.bytes],
-    }
-}
-
-/// The refusal of a call that makes its own room; the system says no to none of these.
-pub fn refusal(error: sailmortar::Error) -> sailmortar::Refused {
-    *error.refused().unwrap_or_else(|| panic!("{error}"))
-}
-
-/// The numbers of a conversion, and the place where the rows done end: a refusal's own, or the length of the input.
-pub fn six(answer: Result<sailmortar::Done, sailmortar::Refused>, length: usize) -> [u64; 6] {
-    let [number, row, column, rows, bytes] = numbers(answer);
-    [number, row, column, rows, bytes, answer.map_or_else(|refused| refused.offset, |_| length) as u64]
 }
 
 /// Two fillings that differ in every byte, so that a byte which is written shows in one of them.

@@ -1,14 +1,41 @@
-//! The layer over the proved functions, which is not proved: growing rooms, pieces, and the columns it reads off.
+//! The layer over the proved functions, which is not proved: slices, growing rooms, pieces, and the columns it reads off.
 
-use super::compare::{numbers, proved_rows, refusal, seeds, six};
+use super::compare::seeds;
 use crate::generate::columns::{declarations, some, spelled_declarations};
 use crate::generate::damage::damaged;
 use crate::generate::rows::{spelled, table};
 use crate::generate::Random;
 use crate::model::converter::{self, Rows, EVERY_KIND_OF_ROWS};
-use crate::model::{self, Column, Kind, Length};
-use sailmortar::{base64_decode_to_vec, base64_encode_to_vec, convert, convert_pieces, convert_to_vec, Base64Writer};
+use crate::model::{self, Answer, Column, Kind, Length};
+use sailmortar::{base64_decode, base64_decode_to_vec, base64_encode, base64_encode_to_vec, Base64Writer};
+use sailmortar::{convert, convert_pieces, convert_to_vec, declare, Done, Error, Refused};
 use std::io::Write;
+
+fn proved_rows(rows: Rows) -> sailmortar::Rows {
+    match rows {
+        Rows::TableData => sailmortar::Rows::TableData,
+        Rows::Binary => sailmortar::Rows::Binary,
+        Rows::Binary2 => sailmortar::Rows::Binary2,
+    }
+}
+
+fn numbers(answer: Result<Done, Refused>) -> Answer {
+    match answer {
+        Ok(done) => [0, 0, 0, done.rows, done.bytes],
+        Err(refused) => [refused.number, refused.row, refused.column, refused.rows, refused.bytes],
+    }
+}
+
+/// The refusal of a call that makes its own room; the system says no to none of these.
+fn refusal(error: Error) -> Refused {
+    *error.refused().unwrap_or_else(|| panic!("{error}"))
+}
+
+/// The numbers of a conversion, and the place where the rows done end: a refusal's own, or the length of the input.
+fn six(answer: Result<Done, Refused>, length: usize) -> [u64; 6] {
+    let [number, row, column, rows, bytes] = numbers(answer);
+    [number, row, column, rows, bytes, answer.map_or_else(|refused| refused.offset, |_| length) as u64]
+}
 
 /// A stream of a few rows, every other one damaged, with its columns.
 fn stream(random: &mut Random, from: Rows, seed: u64) -> (Vec<Column>, Vec<u8>) {
@@ -18,6 +45,24 @@ fn stream(random: &mut Random, from: Rows, seed: u64) -> (Vec<Column>, Vec<u8>) 
     let good = spelled(random, &columns, from, &table);
     let input = if seed.is_multiple_of(2) { damaged(random, &good) } else { good };
     (columns, input)
+}
+
+/// Declarations of a few columns in some spelling, every other text damaged.
+fn some_declarations(random: &mut Random, seed: u64) -> Vec<u8> {
+    let columns = some(random, 1, 5);
+    let good = spelled_declarations(random, &columns);
+    if seed.is_multiple_of(2) {
+        damaged(random, &good)
+    } else {
+        good
+    }
+}
+
+/// Room for so many bytes with these at its front.
+fn room_with(room: usize, bytes: &[u8]) -> Vec<u8> {
+    let mut out = vec![0xEE; room];
+    out[..bytes.len()].copy_from_slice(bytes);
+    out
 }
 
 /// Where the last of so many rows ends.
@@ -72,7 +117,7 @@ fn pieces_are_the_whole() {
 }
 
 #[test]
-fn a_conversion_tells_what_the_archive_does_at_every_room() {
+fn a_conversion_into_a_slice_tells_what_the_model_does() {
     for seed in seeds(74_000_000, 6_000) {
         let mut random = Random::new(seed);
         let from = random.pick(&EVERY_KIND_OF_ROWS);
@@ -80,23 +125,32 @@ fn a_conversion_tells_what_the_archive_does_at_every_room() {
         let text = declarations(&columns);
         let to = random.pick(&EVERY_KIND_OF_ROWS);
         let whole = converter::convert(&text, from, to, &input, usize::MAX).bytes.len();
-        let mut out = vec![0xEE; random.below(whole + 2)];
-        let mut expected = out.clone();
-        let model = converter::convert_piece(&text, from, to, &input, out.len());
-        expected[..model.written.bytes.len()].copy_from_slice(&model.written.bytes);
+        let room = random.below(whole + 2);
+        let expected = converter::convert_piece(&text, from, to, &input, room);
+        let mut out = room_with(room, b"");
         let answer = convert(&text, proved_rows(from), proved_rows(to), &input, &mut out);
         let told = format!("seed {seed} from {from:?} to {to:?}: {}", input.escape_ascii());
-        assert_eq!((six(answer, input.len()), out), (model.six(), expected), "{told}");
+        assert_eq!((six(answer, input.len()), out), (expected.six(), room_with(room, &expected.written.bytes)), "{told}");
+    }
+}
+
+#[test]
+fn declarations_are_judged_as_the_model_judges_them() {
+    for seed in seeds(76_000_000, 20_000) {
+        let text = some_declarations(&mut Random::new(seed), seed);
+        let expected = match converter::declare(&text) {
+            [0, 0, 0, columns, 0] => Ok(columns),
+            refused => Err(refused),
+        };
+        let judged = declare(&text).map_err(|refused| numbers(Err(refused)));
+        assert_eq!(judged, expected, "seed {seed}: {}", text.escape_ascii());
     }
 }
 
 #[test]
 fn columns_are_read_off_as_they_are_declared() {
     for seed in seeds(72_000_000, 20_000) {
-        let mut random = Random::new(seed);
-        let columns = some(&mut random, 1, 5);
-        let good = spelled_declarations(&mut random, &columns);
-        let text = if seed.is_multiple_of(2) { damaged(&mut random, &good) } else { good };
+        let text = some_declarations(&mut Random::new(seed), seed);
         let told = || format!("seed {seed}: {}", text.escape_ascii());
         match (model::declarations::read(&text), sailmortar::columns(&text)) {
             (Ok(expected), Ok(columns)) => {
@@ -131,6 +185,28 @@ fn length(length: sailmortar::Length) -> Length {
         sailmortar::Length::Bounded(elements) => Length::Bounded(elements),
         sailmortar::Length::Free => Length::Free,
         other => panic!("{other:?} is no length of the model's"),
+    }
+}
+
+#[test]
+fn base64_into_a_slice_tells_what_the_model_does() {
+    for seed in seeds(75_000_000, 6_000) {
+        let mut random = Random::new(seed);
+        let size = random.below(200);
+        let plain = random.bytes(size);
+        let letters = model::base64::encode(&plain, usize::MAX).bytes;
+        // A byte less than it takes, just enough, and a byte more.
+        let mut room_for = |size: usize| (size + random.below(3)).saturating_sub(1);
+        let (plain_room, letters_room) = (room_for(plain.len()), room_for(letters.len()));
+        let expected = model::base64::encode(&plain, letters_room);
+        let mut out = room_with(letters_room, b"");
+        let answer = base64_encode(&plain, &mut out);
+        assert_eq!((numbers(answer), out), (expected.answer, room_with(letters_room, &expected.bytes)), "seed {seed}");
+        let letters = if seed.is_multiple_of(2) { damaged(&mut random, &letters) } else { letters };
+        let expected = model::base64::decode(&letters, plain_room);
+        let mut out = room_with(plain_room, b"");
+        let answer = base64_decode(&letters, &mut out);
+        assert_eq!((numbers(answer), out), (expected.answer, room_with(plain_room, &expected.bytes)), "seed {seed}");
     }
 }
 

@@ -1,7 +1,7 @@
 //! Tables of several megabytes, and the greatest input there may be.
 
 use super::archive;
-use super::compare::{agree_on_decoding, agree_on_encoding, numbers, seeds, Case};
+use super::compare::{agree_on_decoding, agree_on_encoding, seeds, Case};
 use crate::generate::columns::{declarations, some};
 use crate::generate::rows::{spelled, table};
 use crate::generate::Random;
@@ -69,19 +69,19 @@ fn in_room<const N: usize>(room: usize, call: impl Fn(&mut [u8]) -> [u64; N]) ->
 #[test]
 fn one_byte_over_the_greatest_input_is_refused() {
     let input = zeros(MOST_INPUT + 1);
-    let six = ([6, 0, 0, 0, 0], Vec::new());
+    let over_size = ([6, 0, 0, 0, 0], Vec::new());
     let field = b"<FIELD datatype='char' arraysize='4096'/>";
     for from in 0..3 {
         for to in 0..3 {
-            assert_eq!(in_room(9_000, |out| archive::convert(field, from, to, &input, out)), six);
+            assert_eq!(in_room(9_000, |out| archive::convert(field, from, to, &input, out)), over_size);
             assert_eq!(in_room(9_000, |out| archive::convert_piece(field, from, to, &input, out)), ([6, 0, 0, 0, 0, 0], Vec::new()));
             // The declarations are judged first, whatever the input.
             assert_eq!(in_room(9, |out| archive::convert(b"<FIELD", from, to, &input, out)), ([1, 0, 0, 0, 0], Vec::new()));
             assert_eq!(in_room(9, |out| archive::convert_piece(b"<FIELD", from, to, &input, out)), ([1, 0, 0, 0, 0, 0], Vec::new()));
         }
     }
-    assert_eq!(in_room(100, |out| numbers(sailmortar::base64_encode(&input, out))), six);
-    assert_eq!(in_room(100, |out| numbers(sailmortar::base64_decode(&input, out))), six);
+    assert_eq!(in_room(100, |out| archive::base64_encode(&input, out)), over_size);
+    assert_eq!(in_room(100, |out| archive::base64_decode(&input, out)), over_size);
 }
 
 #[test]
@@ -97,6 +97,6 @@ fn the_greatest_input_is_taken() {
     assert!(out == line.repeat(rows));
     let (answer, _) = in_room(10 * line.len() + 3, call);
     assert_eq!(answer, [17, 10, 0, 10, 150, 40_960]);
-    assert_eq!(in_room(100, |out| numbers(sailmortar::base64_encode(&input, out))).0, [17, 0, 0, 0, 0]);
-    assert_eq!(in_room(100, |out| numbers(sailmortar::base64_decode(&input, out))).0, [7, 0, 0, 0, 0]);
+    assert_eq!(in_room(100, |out| archive::base64_encode(&input, out)).0, [17, 0, 0, 0, 0]);
+    assert_eq!(in_room(100, |out| archive::base64_decode(&input, out)).0, [7, 0, 0, 0, 0]);
 }

@@ -1,6 +1,7 @@
 //! Bytes that show nothing change nothing: content under a set flag, and what stands behind the first NUL of a text.
 
-use super::compare::{numbers, proved_rows, seeds};
+use super::archive;
+use super::compare::seeds;
 use crate::generate::columns::{declarations, some};
 use crate::generate::rows::{spelled, table};
 use crate::generate::Random;
@@ -39,8 +40,8 @@ fn unseen_places(columns: &[Column], stream: &[u8]) -> Vec<usize> {
 /// The whole outcome of a call: its answer and its buffer.
 fn outcome(text: &[u8], to: Rows, stream: &[u8], room: usize) -> ([u64; 5], Vec<u8>) {
     let mut out = vec![0xee; room];
-    let answer = sailmortar::convert(text, sailmortar::Rows::Binary2, proved_rows(to), stream, &mut out);
-    (numbers(answer), out)
+    let answer = archive::convert(text, Rows::Binary2.number(), to.number(), stream, &mut out);
+    (answer, out)
 }
 
 #[test]

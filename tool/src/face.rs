@@ -1,0 +1,19 @@
+//! The functions of the proved archive that the library calls, as they stand in include/sailmortar.h.
+
+// `sailmortar_convert` is `sailmortar_convert_piece` without the place, which the library's refusals tell.
+extern "C" {
+    pub fn sailmortar_convert_piece(
+        decls: *const u8,
+        decls_length: usize,
+        from: u32,
+        to: u32,
+        input: *const u8,
+        input_length: usize,
+        out: *mut u8,
+        out_length: usize,
+        answer: *mut [u64; 6],
+    );
+    pub fn sailmortar_base64_decode(input: *const u8, input_length: usize, out: *mut u8, out_length: usize, answer: *mut [u64; 5]);
+    pub fn sailmortar_base64_encode(input: *const u8, input_length: usize, out: *mut u8, out_length: usize, answer: *mut [u64; 5]);
+    pub fn sailmortar_declare(decls: *const u8, decls_length: usize, answer: *mut [u64; 5]);
+}
