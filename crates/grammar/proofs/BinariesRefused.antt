@@ -97,9 +97,9 @@ not-bits Bits n s h q = absurd (h refl)
 not-bits (Whole g v) n s h q = fails-every (element (Whole g v)) (element-fails q (Whole g v)) _
 not-bits Text n s h q = fails-every (element Text) (element-fails q Text) _
 
-none-there : {Q : ℕ → Type 0} (k : Shape) (n : ℕ) (s : List ℕ) → (k ≡ Bits → ⊥) → ((k ≡ Bits → ⊥) → ((es : List ℤ) → Content k n s es → ⊥) → Q 11)
+no-content : {Q : ℕ → Type 0} (k : Shape) (n : ℕ) (s : List ℕ) → (k ≡ Bits → ⊥) → ((k ≡ Bits → ⊥) → ((es : List ℤ) → Content k n s es → ⊥) → Q 11)
     → Fails Q (content k n s)
-none-there k n s h g = fails-told (not-bits k n s h (λ q. g h (λ es c. bad-good (sym q ∙ content-read c))))
+no-content k n s h g = fails-told (not-bits k n s h (λ q. g h (λ es c. bad-good (sym q ∙ content-read c))))
 
 abbrev IsBits : Shape → Type 0
 IsBits Truths = ⊥
@@ -109,10 +109,10 @@ IsBits Text = ⊥
 
 content-refused : {Q : ℕ → Type 0} (k : Shape) (n : ℕ) (s : List ℕ) → length s ≡ contentBytes k n → AreBytes s
     → (k ≡ Bits → PaddingSet n s → Q 13) → ((k ≡ Bits → ⊥) → ((es : List ℤ) → Content k n s es → ⊥) → Q 11) → Fails Q (content k n s)
-content-refused Truths n s l a f g = none-there Truths n s (λ e. subst⁻¹ IsBits e tt) g
+content-refused Truths n s l a f g = no-content Truths n s (λ e. subst⁻¹ IsBits e tt) g
 content-refused Bits n s l a f g = unfold content numbersIn contentBytes bitBytes in fails-bind (unpack-refused n s l a (f refl)) (λ bits. rw (every-bits bits) gives)
-content-refused (Whole signed v) n s l a f g = none-there (Whole signed v) n s (λ e. subst⁻¹ IsBits e tt) g
-content-refused Text n s l a f g = none-there Text n s (λ e. subst⁻¹ IsBits e tt) g
+content-refused (Whole signed v) n s l a f g = no-content (Whole signed v) n s (λ e. subst⁻¹ IsBits e tt) g
+content-refused Text n s l a f g = no-content Text n s (λ e. subst⁻¹ IsBits e tt) g
 
 bits-refused : {k : Shape} {n : ℕ} {s : List ℕ} → k ≡ Bits → PaddingSet n s → content k n s ≡ bad 13
 unfolding content numbersIn
