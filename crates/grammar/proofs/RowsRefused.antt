@@ -10,7 +10,7 @@ use lib.Dec.{lit<}
 use lib.ListN.{length, length-replicate, replicate}
 use Rattle.binary.proofs.Laws.{first-back}
 use Rattle.binary.specs.Binary.{bitBytes, readFlags}
-use Rattle.grammar.proofs.BinariesRead.{bits-in-all, bits-in-bytes, bits-in-long, bits-in-read, parts-bytes}
+use Rattle.grammar.proofs.BinariesRead.{bits-in-all, bits-in-bytes, bits-in-long, bits-in-read, later-bytes, parts-bytes}
 use Rattle.grammar.proofs.BinariesRefused.{no-flags-is, no-flags-read}
 use Rattle.grammar.proofs.CellsRefused.{cell-at-is, cell-at-read, no-cell-is, no-cell-read}
 use Rattle.grammar.proofs.Fronts.{fails-then, fails-told, refused, skip-all, white-only}
@@ -51,8 +51,7 @@ no-tag-is : {Q : ℕ → Type 0} (word s : List ℕ) → (((rest : List ℕ) →
 no-tag-is word s f = fails-told (tag-fails 10 (60 ∷ word) (skipWhite s) (λ q. f (λ rest h. bad-good (sym q ∙ tag-at-read word h))))
 
 tag-left : {word s rest : List ℕ} → TagAt word s rest → AreBytes s → AreBytes rest
-tag-left {s = s} {rest = rest} h a =
-    parts-bytes (h .taken ++ rest) (h .taken) rest refl (parts-bytes s (h .white) (h .taken ++ rest) (h .whole) a .1) .1
+tag-left {s = s} {rest = rest} h a = later-bytes s (h .white) (h .taken) rest (h .whole) a .1
 
 -- ---- what begins a row
 
@@ -140,7 +139,7 @@ no-start-is Binary2 n s a = fails-bind (fails-weaken (no-flags-is n s a) (λ e h
 -- ---- cells
 
 cell-at-left : {c : Column} {f : Bool} {from : Rows} {s : List ℕ} {x : Cell} {t : List ℕ} → CellAt c f from s x t → AreBytes s → AreBytes t
-cell-at-left (text-at {w = w} {t = t} {rest = rest} h k) a = parts-bytes (t ++ rest) t rest refl (parts-bytes (w ++ (t ++ rest)) w (t ++ rest) refl a .1) .1
+cell-at-left (text-at {w = w} {t = t} {rest = rest} h k) a = later-bytes (w ++ (t ++ rest)) w t rest refl a .1
 cell-at-left (binary-at {b = b} {rest = rest} h) a = parts-bytes (b ++ rest) b rest refl a .1
 cell-at-left (binary2-at {b = b} {rest = rest} h) a = parts-bytes (b ++ rest) b rest refl a .1
 
@@ -243,7 +242,7 @@ row-at-is Binary cs s a = holds-weaken (binary-row-is cs s a) (λ p h. subst⁻�
 row-at-is Binary2 cs s a = holds-weaken (binary2-row-is cs s a) (λ p h. subst⁻¹ (λ (x : List ℕ). RowAt cs Binary2 x (p .0) (p .1)) (h .whole) (binary2-row-at (h .spelled)))
 
 pub row-at-left : {cs : List Column} {from : Rows} {s : List ℕ} {xs : List Cell} {rest : List ℕ} → RowAt cs from s xs rest → AreBytes s → AreBytes rest
-row-at-left (text-row-at {w = w} {r = r} {rest = rest} h k) a = parts-bytes (r ++ rest) r rest refl (parts-bytes (w ++ (r ++ rest)) w (r ++ rest) refl a .1) .1
+row-at-left (text-row-at {w = w} {r = r} {rest = rest} h k) a = later-bytes (w ++ (r ++ rest)) w r rest refl a .1
 row-at-left (binary-row-at {b = b} {rest = rest} h) a = parts-bytes (b ++ rest) b rest refl a .1
 row-at-left (binary2-row-at {b = b} {rest = rest} h) a = parts-bytes (b ++ rest) b rest refl a .1
 
