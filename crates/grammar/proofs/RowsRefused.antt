@@ -13,9 +13,9 @@ use Rattle.binary.specs.Binary.{bitBytes, readFlags}
 use Rattle.grammar.proofs.BinariesRead.{bits-in-all, bits-in-bytes, bits-in-long, bits-in-read, later-bytes, parts-bytes}
 use Rattle.grammar.proofs.BinariesRefused.{no-flags-is, no-flags-read}
 use Rattle.grammar.proofs.CellsRefused.{cell-at-is, cell-at-read, no-cell-is, no-cell-read}
-use Rattle.grammar.proofs.Fronts.{fails-then, fails-told, refused, skip-all, white-only}
+use Rattle.grammar.proofs.Fronts.{fails-then, fails-told, not-so, refused, skip-all, white-only}
 use Rattle.grammar.proofs.Resumption.{andThen}
-use Rattle.grammar.proofs.Streams.{binary-row-is, binary-row-read, binary2-row-is, binary2-row-read, binary2-start-is, first-row, first-stop}
+use Rattle.grammar.proofs.Streams.{binary-row-is, binary-row-read, binary2-row-is, binary2-row-read, binary2-start-is, empty-is, first-row, first-stop}
 use Rattle.grammar.proofs.Streams.{indented-tag, indented-tag-is, text-row-is, text-row-read}
 use Rattle.grammar.specs.CellRefusals.{CellAt, binary-at, binary2-at, text-at}
 use Rattle.grammar.specs.Exact.{tableOf}
@@ -249,9 +249,7 @@ row-at-left (binary2-row-at {b = b} {rest = rest} h) a = parts-bytes (b ++ rest)
 -- ---- where a row should stand
 
 not-empty : (s : List ℕ) → (s ≡ [] → ⊥) → isEmpty s ≡ false
-unfolding isEmpty
-not-empty [] h = absurd (h refl)
-not-empty (b ∷ s) h = refl
+not-empty s h = not-so (isEmpty s) (λ e. h (empty-is s e))
 
 is-more : (s : List ℕ) → isEmpty s ≡ false → s ≡ [] → ⊥
 is-more s h e = false≢true (sym h ∙ ap isEmpty e ∙ (unfold isEmpty in refl))
