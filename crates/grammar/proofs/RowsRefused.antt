@@ -41,11 +41,8 @@ use Rattle.tabledata.specs.TableData.{close-TR, open-TR}
 tag-at-read : (word : List ℕ) {s rest : List ℕ} → TagAt (60 ∷ word) s rest → tag 10 (60 ∷ word) (skipWhite s) ≡ good rest
 tag-at-read word {rest = rest} h = ap (λ (x : List ℕ). tag 10 (60 ∷ word) (skipWhite x)) (h .whole) ∙ indented-tag 10 word (h .is-white) (h .tag) rest
 
-tag-at-is : (word s : List ℕ) → Holds (TagAt word s) (tag 10 word (skipWhite s))
-tag-at-is word s = holds-weaken (indented-tag-is 10 word s) (λ rest h. record { white = h .0; taken = h .1; is-white = h .2; whole = h .4; tag = h .3 })
-
 no-tag-read : (word s : List ℕ) → ((rest : List ℕ) → TagAt word s rest → ⊥) → tag 10 word (skipWhite s) ≡ bad 10
-no-tag-read word s none = refused (tag-fails 10 word (skipWhite s) refl) (holds-weaken (tag-at-is word s) none)
+no-tag-read word s none = refused (tag-fails 10 word (skipWhite s) refl) (holds-weaken (indented-tag-is 10 word s) none)
 
 no-tag-is : {Q : ℕ → Type 0} (word s : List ℕ) → (((rest : List ℕ) → TagAt (60 ∷ word) s rest → ⊥) → Q 10) → Fails Q (tag 10 (60 ∷ word) (skipWhite s))
 no-tag-is word s f = fails-told (tag-fails 10 (60 ∷ word) (skipWhite s) (λ q. f (λ rest h. bad-good (sym q ∙ tag-at-read word h))))
@@ -103,7 +100,7 @@ record Starts (from : Rows) (cs : List Column) (s : List ℕ) (p : List Bool × 
 
 start-at-is : (from : Rows) (cs : List Column) (s : List ℕ) → AreBytes s → Holds (Starts from cs s) (readStart from (length cs) s)
 unfolding readStart open-TR
-start-at-is TableData cs s a = holds-bind (tag-at-is (bytes "<TR") s) (λ t h. holds (record {
+start-at-is TableData cs s a = holds-bind (indented-tag-is 10 (bytes "<TR") s) (λ t h. holds (record {
   flags = replicate (length cs) 0;
   starts = text-start h;
   same = record { as-read = no-flags-same TableData cs };
