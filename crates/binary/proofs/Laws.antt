@@ -495,13 +495,15 @@ pub binary-fails : (c : Column) (s : List ℕ) → Fails (Numbered 8 13) (readBi
 unfolding readBinary
 binary-fails c s = fails-bind (binary2-fails c false s) (λ p. gives)
 
-null-fails : (c : Column) (o : Option ℤ) → Fails (Numbered 14 16) (nullForm c o)
-unfolding nullForm
-null-fails c (some z) = gives
-null-fails c none = fails-cond (canBeEmpty (shape (c .kind)) (c .len)) gives (fails (lit≤ tt, lit≤ tt))
+-- null without a form is 15
+module _ {P : ℕ → Type 0} (fifteen : P 15) where
+  pub null-fails : (c : Column) (o : Option ℤ) → Fails P (nullForm c o)
+  unfolding nullForm
+  null-fails c (some z) = gives
+  null-fails c none = fails-cond (canBeEmpty (shape (c .kind)) (c .len)) gives (fails fifteen)
 
 pub write-binary-fails : (c : Column) (x : Cell) → Fails (Numbered 14 16) (writeBinary c x)
 unfolding writeBinary
-write-binary-fails c null = null-fails c (nullElement c)
+write-binary-fails c null = null-fails (lit≤ tt, lit≤ tt) c (nullElement c)
 write-binary-fails c (shown []) = fails (lit≤ tt, lit≤ tt)
 write-binary-fails c (shown (e ∷ es)) = gives

@@ -43,6 +43,10 @@ parts-bytes s t r e a = go t r (subst AreBytes e a)
     go [] r a = (tt, a)
     go (b ∷ t) r a = ((a .0, go t r (a .1) .0), go t r (a .1) .1)
 
+-- of three parts the two behind the first
+pub later-bytes : (s t r v : List ℕ) → s ≡ t ++ (r ++ v) → AreBytes s → AreBytes r × AreBytes v
+later-bytes s t r v e a = parts-bytes (r ++ v) r v refl (parts-bytes s t (r ++ v) e a .1)
+
 -- ---- numbers
 
 digits-append : (base a : ℕ) (s t : List ℕ) → ofDigits base a (s ++ t) ≡ ofDigits base (ofDigits base a s) t

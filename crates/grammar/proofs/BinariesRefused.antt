@@ -14,7 +14,7 @@ use Rattle.binary.proofs.Digits.{every-bits}
 use Rattle.binary.proofs.Laws.{element-fails, first-back, first-splits}
 use Rattle.binary.specs.Binary.{allZero, atMost, bitBytes, bitsOf, content, contentBytes, countIn, counted, element, firstBytes, numbersIn, readBinary2, readFlags, shows, unpack}
 use Rattle.grammar.proofs.BinariesRead.{big-endian-is, bits-long, content-is, content-read, counted-is, counted-read, itself-read, packed-is, packed-read}
-use Rattle.grammar.proofs.BinariesRead.{parts-bytes, takes-is, takes-read, zeros-are}
+use Rattle.grammar.proofs.BinariesRead.{later-bytes, parts-bytes, takes-is, takes-read, zeros-are}
 use Rattle.grammar.proofs.Fronts.{fails-then, fails-told, not-so, refused}
 use Rattle.grammar.specs.Binaries.{BigEndian, Content, Counted, Packed, big-endian}
 use Rattle.grammar.specs.CellRefusals.{HasCount, NoBinary2Cell, NoFlags, PaddingSet, cut-content, cut-count, cut-flags, has-bounded, has-free, no-byte-value}
@@ -97,9 +97,9 @@ not-bits Bits n s h q = absurd (h refl)
 not-bits (Whole g v) n s h q = fails-every (element (Whole g v)) (element-fails q (Whole g v)) _
 not-bits Text n s h q = fails-every (element Text) (element-fails q Text) _
 
-none-there : {Q : ℕ → Type 0} (k : Shape) (n : ℕ) (s : List ℕ) → (k ≡ Bits → ⊥) → ((k ≡ Bits → ⊥) → ((es : List ℤ) → Content k n s es → ⊥) → Q 11)
+no-content : {Q : ℕ → Type 0} (k : Shape) (n : ℕ) (s : List ℕ) → (k ≡ Bits → ⊥) → ((k ≡ Bits → ⊥) → ((es : List ℤ) → Content k n s es → ⊥) → Q 11)
     → Fails Q (content k n s)
-none-there k n s h g = fails-told (not-bits k n s h (λ q. g h (λ es c. bad-good (sym q ∙ content-read c))))
+no-content k n s h g = fails-told (not-bits k n s h (λ q. g h (λ es c. bad-good (sym q ∙ content-read c))))
 
 abbrev IsBits : Shape → Type 0
 IsBits Truths = ⊥
@@ -109,10 +109,10 @@ IsBits Text = ⊥
 
 content-refused : {Q : ℕ → Type 0} (k : Shape) (n : ℕ) (s : List ℕ) → length s ≡ contentBytes k n → AreBytes s
     → (k ≡ Bits → PaddingSet n s → Q 13) → ((k ≡ Bits → ⊥) → ((es : List ℤ) → Content k n s es → ⊥) → Q 11) → Fails Q (content k n s)
-content-refused Truths n s l a f g = none-there Truths n s (λ e. subst⁻¹ IsBits e tt) g
+content-refused Truths n s l a f g = no-content Truths n s (λ e. subst⁻¹ IsBits e tt) g
 content-refused Bits n s l a f g = unfold content numbersIn contentBytes bitBytes in fails-bind (unpack-refused n s l a (f refl)) (λ bits. rw (every-bits bits) gives)
-content-refused (Whole signed v) n s l a f g = none-there (Whole signed v) n s (λ e. subst⁻¹ IsBits e tt) g
-content-refused Text n s l a f g = none-there Text n s (λ e. subst⁻¹ IsBits e tt) g
+content-refused (Whole signed v) n s l a f g = no-content (Whole signed v) n s (λ e. subst⁻¹ IsBits e tt) g
+content-refused Text n s l a f g = no-content Text n s (λ e. subst⁻¹ IsBits e tt) g
 
 bits-refused : {k : Shape} {n : ℕ} {s : List ℕ} → k ≡ Bits → PaddingSet n s → content k n s ≡ bad 13
 unfolding content numbersIn
@@ -137,7 +137,7 @@ no-binary2-read {c} a (padding-not-0 {b = b} rest {n = n} u e h k p) =
     rw (e, counted-read h (b ++ rest), first-back (contentBytes (shape (c .kind)) n) b rest (bits-long-as k p), unflagged-refused c n b u (bits-refused k p))
 no-binary2-read {c} {s = s} a (no-byte-value {a = d} b rest {n = n} u e h k l i none) =
     let w : length b ≡ contentBytes (shape (c .kind)) n = l ∙ sym (takes-read k) in
-    let q : AreBytes b = parts-bytes (b ++ rest) b rest refl (parts-bytes s d (b ++ rest) e a .1) .0 in
+    let q : AreBytes b = later-bytes s d b rest e a .0 in
     let r : content (shape (c .kind)) n b ≡ bad 11 = refused (not-bits (shape (c .kind)) n b i refl) (holds-weaken (content-is (shape (c .kind)) n b w q) none) in
     rw (e, counted-read h (b ++ rest), first-back (contentBytes (shape (c .kind)) n) b rest w, unflagged-refused c n b u r)
 
@@ -147,8 +147,8 @@ no-binary2-is c f s a =
     fails-then (count-refused (c .len) s (λ h k. cut-count h k) (λ b rest n h e k l. over-bound rest h e k l)) (counted-is (c .len) s) (λ n h.
     fails-then (first-refused (contentBytes (shape (c .kind)) (n .0)) (n .1) (λ l. cut-content (n .1) (h .whole) (h .spelled) (takes-is (shape (c .kind)) (n .0)) l))
     (first-splits (contentBytes (shape (c .kind)) (n .0)) (n .1)) (λ p g.
-    let q : AreBytes (p .0) = parts-bytes (n .1) (p .0) (p .1) (g .1) (parts-bytes s (h .taken) (n .1) (h .whole) a .1) .0 in
-    fails-bind (go f (n .0) (p .0) (p .1) (h .whole ∙ ap (λ (x : List ℕ). h .taken ++ x) (g .1)) (h .spelled) (g .0) q) (λ x. gives)))
+    let e : s ≡ h .taken ++ (p .0 ++ p .1) = h .whole ∙ ap (λ (x : List ℕ). h .taken ++ x) (g .1) in
+    fails-bind (go f (n .0) (p .0) (p .1) e (h .spelled) (g .0) (later-bytes s (h .taken) (p .0) (p .1) e a .0)) (λ x. gives)))
   where
     go : (f : Bool) (n : ℕ) {d : List ℕ} (b rest : List ℕ) → s ≡ d ++ (b ++ rest) → Counted (c .len) d n → length b ≡ contentBytes (shape (c .kind)) n → AreBytes b
         → Fails (NoBinary2Cell c f s) (shows c f n b)

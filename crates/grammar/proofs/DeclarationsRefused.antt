@@ -12,10 +12,10 @@ use lib.Dec.{eqb, lit≤, ltb}
 use lib.ListN.{length}
 use borrow.Author.Tests.{eqb-false, eqb-true, le-ltb, lt-ltb, ltb-false, ltb-true, ne-eqb}
 use Rattle.fields.proofs.Refusals.{field-fails, kind-fails, len-fails, null-fails}
-use Rattle.fields.specs.Fields.{Field, declare, fieldsF, fieldsThen, judge, kindOf, kinds, lenOf, nullOf, readField}
+use Rattle.fields.specs.Fields.{Field, declare, fieldsF, fieldsThen, judge, kinds, readField}
 use Rattle.grammar.proofs.ColumnsRead.{arraysize-is, arraysize-read, datatype-is, datatype-read, judge-is, judge-read, null-is, null-read, starts}
 use Rattle.grammar.proofs.DeclarationsRead.{IsField, field-is, field-read, fieldAs}
-use Rattle.grammar.proofs.Fronts.{fails-then, refused, skip-all, skip-is, skip-stays, skip-white, white-only}
+use Rattle.grammar.proofs.Fronts.{fails-then, fails-told, refused, skip-all, skip-is, skip-stays, skip-white, white-only}
 use Rattle.grammar.specs.DeclarationRefusals.{ColumnAt, FieldAt, NoColumn, NoColumns, NotDeclared, at-column, column-then, declarations-too-long, no-column}
 use Rattle.grammar.specs.DeclarationRefusals.{no-kind, no-length, no-null, no-shape, not-declared, one-too-many}
 use Rattle.grammar.specs.Declarations.{FieldOf, field-of}
@@ -28,14 +28,6 @@ use Rattle.table.specs.Result.{Fails, Result, _>>=_, bad, fails, gives, good, r
 use Rattle.table.specs.Shape.{shape}
 use Rattle.table.specs.declared.Column.{Column}
 use Rattle.table.specs.declared.Null.the-variants.{Undeclared}
-
--- ---- stages that give a value or refuse
-
-module _ {E A : Type 0} where
-  -- a stage that refuses where the grammar would have it give a value: there is none
-  none-there : {P : A → Type 0} {Q : E → Type 0} (r : Result E A) → ((a : A) → P a → r ≡ good a) → (((a : A) → P a → ⊥) → Fails Q r) → Fails Q r
-  none-there (good a) complete f = gives
-  none-there (bad e) complete f = f (λ a h. bad-good (complete a h))
 
 -- ---- a FIELD
 
@@ -68,10 +60,10 @@ field-at-is s f i = record {
 judge-refused : (s : List ℕ) (f : Field) → AsField s f → Fails (NoColumn s) (judge f)
 unfolding judge
 judge-refused s f h =
-    fails-then (none-there (kindOf kinds (f .datatype)) (λ k x. datatype-read x) (λ none. kind-fails (no-kind h none) kinds (f .datatype))) (datatype-is (f .datatype)) (λ k x.
-    fails-then (none-there (lenOf (f .arraysize)) (λ l y. arraysize-read y) (λ none. len-fails (no-length h x none) (f .arraysize))) (arraysize-is (f .arraysize)) (λ l y.
+    fails-then (fails-told (kind-fails (λ q. no-kind h (λ k x. bad-good (sym q ∙ datatype-read x))) kinds (f .datatype))) (datatype-is (f .datatype)) (λ k x.
+    fails-then (fails-told (len-fails (λ q. no-length h x (λ l y. bad-good (sym q ∙ arraysize-read y))) (f .arraysize))) (arraysize-is (f .arraysize)) (λ l y.
     let scalar : Bool = isScalar (columnOf k l Undeclared) in
-    fails-bind (none-there (nullOf (shape k) scalar (f .null)) (λ n z. null-read z) (λ none. null-fails (no-null h x y none) (shape k) scalar (f .null))) (λ n. gives)))
+    fails-bind (fails-told (null-fails (λ q. no-null h x y (λ n z. bad-good (sym q ∙ null-read z))) (shape k) scalar (f .null))) (λ n. gives)))
 
 -- ---- the list
 
@@ -110,8 +102,7 @@ then-refused k s (b ∷ v) more h e ih =
     not-white w = let q : _≡_ {A = ℕ} 0 (suc (length v)) = ap length (sym (skip-all w) ∙ e) in omega arith
 
     shape-refused : Fails (NoColumn s) (readField (b ∷ v))
-    shape-refused = none-there {P = AsField s} (readField (b ∷ v)) (λ f i. ap readField (sym e) ∙ field-at-read i)
-        (λ none. field-fails (no-shape not-white (λ d a o rest i. none (fieldAs d a o rest) i)) (b ∷ v))
+    shape-refused = fails-told (field-fails (λ q. no-shape not-white (λ d a o rest i. bad-good (sym q ∙ ap readField (sym e) ∙ field-at-read i))) (b ∷ v))
 
 fields-refused : (f k : ℕ) (s : List ℕ) → f + k ≡ 66 → k ≤ 64 → Fails (Behind k s) (fieldsF f k s)
 unfolding fieldsF

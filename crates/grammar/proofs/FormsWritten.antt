@@ -6,6 +6,7 @@ use mathlib.Core.List.{List, [], _++_, _∷_}
 use mathlib.Core.Option.{Option, none, some}
 use mathlib.Core.Path.{_∙_, _≡_, refl, subst, subst⁻¹, sym}
 use lib.IntN.{negsuc, pos, ℤ}
+use Rattle.binary.proofs.Laws.{null-fails}
 use Rattle.binary.specs.Binary.{canBeEmpty, elementsBytes, nullForm, writeBinary}
 use Rattle.grammar.proofs.Fronts.{fails-then, fails-told, refused}
 use Rattle.grammar.proofs.ShownRead.{stands-for-is, stands-written}
@@ -13,7 +14,7 @@ use Rattle.grammar.proofs.TextRead.{text-is, text-read}
 use Rattle.grammar.specs.Valid.{HasForm, NoForm, NoForms, XmlForm, at-form, form-binary-bounded, form-binary-chars, form-binary-elements, form-binary-free, form-binary-null, form-binary2}
 use Rattle.grammar.specs.Valid.{form-text-chars, form-text-elements, form-text-null, form-then, no-form-chars, no-form-empty, no-form-null, xml-form}
 use Rattle.rows.specs.Stream.{writeCell, writeCells, writeRow}
-use Rattle.table.proofs.Laws.{fails-as, fails-bind, fails-cond, fails-weaken, good-bind, holds-as, holds-eq, holds-weaken, null-stands, the}
+use Rattle.table.proofs.Laws.{fails-as, fails-bind, fails-weaken, good-bind, holds-as, holds-eq, holds-weaken, null-stands, the}
 use Rattle.table.specs.All.{All}
 use Rattle.table.specs.Cell.{Cell, isChar, null, nullElement, shown}
 use Rattle.table.specs.Outcome.{Refusal, at}
@@ -24,6 +25,7 @@ use Rattle.table.specs.declared.Len.{Len}
 use Rattle.table.specs.declared.Len.the-variants.{Bounded, Fixed, Free}
 use Rattle.table.specs.declared.Rows.{Rows}
 use Rattle.table.specs.declared.Rows.the-variants.{Binary, Binary2, TableData}
+use Rattle.tabledata.proofs.Laws.{element-text-fails}
 use Rattle.tabledata.specs.TableData.{elementText, escaped, formOf, forms, isText, writeText}
 
 chars-written : (es : List ℤ) → All XmlForm es → IsGood (forms es)
@@ -139,33 +141,12 @@ numberFor null = 15
 numberFor (shown []) = 14
 numberFor (shown (e ∷ es)) = 16
 
-forms-fail : (es : List ℤ) → Fails (λ (n : ℕ). n ≡ 16) (forms es)
-unfolding forms
-forms-fail [] = gives
-forms-fail (e ∷ es) = fails-bind (one e) (λ b. fails-bind (forms-fail es) (λ r. gives))
-  where
-    one : (e : ℤ) → Fails (λ (n : ℕ). n ≡ 16) (formOf e)
-    one (pos n) = unfold formOf in fails-cond (isText n) gives (fails refl)
-    one (negsuc n) = unfold formOf in fails refl
-
-text-fails : (k : Shape) (es : List ℤ) → Fails (λ (n : ℕ). n ≡ 16) (elementText k es)
-unfolding elementText
-text-fails Truths es = gives
-text-fails Bits es = gives
-text-fails (Whole g v) es = gives
-text-fails Text es = forms-fail es
-
-null-fails : (c : Column) (o : Option ℤ) → Fails (λ (n : ℕ). n ≡ 15) (nullForm c o)
-unfolding nullForm
-null-fails c (some z) = gives
-null-fails c none = fails-cond (canBeEmpty (shape (c .kind)) (c .len)) gives (fails refl)
-
 cell-number : (to : Rows) (c : Column) (x : Cell) → Fails (λ (n : ℕ). n ≡ numberFor x) (writeCell to c x)
 unfolding writeCell writeText writeBinary
 cell-number TableData c null = gives
 cell-number TableData c (shown []) = fails refl
-cell-number TableData c (shown (e ∷ es)) = fails-bind (text-fails (shape (c .kind)) (e ∷ es)) (λ t. gives)
-cell-number Binary c null = null-fails c (nullElement c)
+cell-number TableData c (shown (e ∷ es)) = fails-bind (element-text-fails refl (shape (c .kind)) (e ∷ es)) (λ t. gives)
+cell-number Binary c null = null-fails refl c (nullElement c)
 cell-number Binary c (shown []) = fails refl
 cell-number Binary c (shown (e ∷ es)) = gives
 cell-number Binary2 c x = gives

@@ -10,12 +10,12 @@ use lib.Dec.{lit<}
 use lib.ListN.{length, length-replicate, replicate}
 use Rattle.binary.proofs.Laws.{first-back}
 use Rattle.binary.specs.Binary.{bitBytes, readFlags}
-use Rattle.grammar.proofs.BinariesRead.{bits-in-all, bits-in-bytes, bits-in-long, bits-in-read, parts-bytes}
+use Rattle.grammar.proofs.BinariesRead.{bits-in-all, bits-in-bytes, bits-in-long, bits-in-read, later-bytes, parts-bytes}
 use Rattle.grammar.proofs.BinariesRefused.{no-flags-is, no-flags-read}
 use Rattle.grammar.proofs.CellsRefused.{cell-at-is, cell-at-read, no-cell-is, no-cell-read}
-use Rattle.grammar.proofs.Fronts.{fails-then, refused, skip-all, white-only}
+use Rattle.grammar.proofs.Fronts.{fails-then, fails-told, not-so, refused, skip-all, white-only}
 use Rattle.grammar.proofs.Resumption.{andThen}
-use Rattle.grammar.proofs.Streams.{binary-row-is, binary-row-read, binary2-row-is, binary2-row-read, binary2-start-is, first-row, first-stop}
+use Rattle.grammar.proofs.Streams.{binary-row-is, binary-row-read, binary2-row-is, binary2-row-read, binary2-start-is, empty-is, first-row, first-stop}
 use Rattle.grammar.proofs.Streams.{indented-tag, indented-tag-is, text-row-is, text-row-read}
 use Rattle.grammar.specs.CellRefusals.{CellAt, binary-at, binary2-at, text-at}
 use Rattle.grammar.specs.Exact.{tableOf}
@@ -30,7 +30,7 @@ use Rattle.table.specs.All.{All, AreBytes}
 use Rattle.table.specs.Bytes.{bytes, skipWhite, tag}
 use Rattle.table.specs.Cell.{AreColumns, Cell}
 use Rattle.table.specs.Outcome.{Refusal, at}
-use Rattle.table.specs.Result.{Fails, Holds, Result, bad, fails, gives, good, holds}
+use Rattle.table.specs.Result.{Fails, Holds, Result, bad, gives, good, holds}
 use Rattle.table.specs.declared.Column.{Column}
 use Rattle.table.specs.declared.Rows.{Rows}
 use Rattle.table.specs.declared.Rows.the-variants.{Binary, Binary2, TableData}
@@ -41,22 +41,14 @@ use Rattle.tabledata.specs.TableData.{close-TR, open-TR}
 tag-at-read : (word : List ℕ) {s rest : List ℕ} → TagAt (60 ∷ word) s rest → tag 10 (60 ∷ word) (skipWhite s) ≡ good rest
 tag-at-read word {rest = rest} h = ap (λ (x : List ℕ). tag 10 (60 ∷ word) (skipWhite x)) (h .whole) ∙ indented-tag 10 word (h .is-white) (h .tag) rest
 
-tag-at-is : (word s : List ℕ) → Holds (TagAt word s) (tag 10 word (skipWhite s))
-tag-at-is word s = holds-weaken (indented-tag-is 10 word s) (λ rest h. record { white = h .0; taken = h .1; is-white = h .2; whole = h .4; tag = h .3 })
-
 no-tag-read : (word s : List ℕ) → ((rest : List ℕ) → TagAt word s rest → ⊥) → tag 10 word (skipWhite s) ≡ bad 10
-no-tag-read word s none = refused (tag-fails 10 word (skipWhite s) refl) (holds-weaken (tag-at-is word s) none)
+no-tag-read word s none = refused (tag-fails 10 word (skipWhite s) refl) (holds-weaken (indented-tag-is 10 word s) none)
 
-no-tag-is : (word s : List ℕ) → Fails (λ (n : ℕ). (n ≡ 10) × ((rest : List ℕ) → TagAt (60 ∷ word) s rest → ⊥)) (tag 10 (60 ∷ word) (skipWhite s))
-no-tag-is word s = go (tag 10 (60 ∷ word) (skipWhite s)) refl (tag-fails 10 (60 ∷ word) (skipWhite s) refl)
-  where
-    go : (r : Result ℕ (List ℕ)) → tag 10 (60 ∷ word) (skipWhite s) ≡ r → Fails (λ (n : ℕ). n ≡ 10) r → Fails (λ (n : ℕ). (n ≡ 10) × ((rest : List ℕ) → TagAt (60 ∷ word) s rest → ⊥)) r
-    go (good t) q f = gives
-    go (bad n) q (fails e) = fails (e, λ rest h. bad-good (sym q ∙ tag-at-read word h))
+no-tag-is : {Q : ℕ → Type 0} (word s : List ℕ) → (((rest : List ℕ) → TagAt (60 ∷ word) s rest → ⊥) → Q 10) → Fails Q (tag 10 (60 ∷ word) (skipWhite s))
+no-tag-is word s f = fails-told (tag-fails 10 (60 ∷ word) (skipWhite s) (λ q. f (λ rest h. bad-good (sym q ∙ tag-at-read word h))))
 
 tag-left : {word s rest : List ℕ} → TagAt word s rest → AreBytes s → AreBytes rest
-tag-left {s = s} {rest = rest} h a =
-    parts-bytes (h .taken ++ rest) (h .taken) rest refl (parts-bytes s (h .white) (h .taken ++ rest) (h .whole) a .1) .1
+tag-left {s = s} {rest = rest} h a = later-bytes s (h .white) (h .taken) rest (h .whole) a .1
 
 -- ---- what begins a row
 
@@ -108,7 +100,7 @@ record Starts (from : Rows) (cs : List Column) (s : List ℕ) (p : List Bool × 
 
 start-at-is : (from : Rows) (cs : List Column) (s : List ℕ) → AreBytes s → Holds (Starts from cs s) (readStart from (length cs) s)
 unfolding readStart open-TR
-start-at-is TableData cs s a = holds-bind (tag-at-is (bytes "<TR") s) (λ t h. holds (record {
+start-at-is TableData cs s a = holds-bind (indented-tag-is 10 (bytes "<TR") s) (λ t h. holds (record {
   flags = replicate (length cs) 0;
   starts = text-start h;
   same = record { as-read = no-flags-same TableData cs };
@@ -137,15 +129,14 @@ no-start-read from n s m (no-binary2-start h) = rw (no-flags-read n s m h)
 
 no-start-is : (from : Rows) (n : ℕ) (s : List ℕ) → AreBytes s → Fails (NoStart n s from) (readStart from n s)
 unfolding readStart open-TR
-no-start-is TableData n s a =
-    fails-bind (fails-weaken (no-tag-is (84 ∷ 82 ∷ []) s) (λ e h. subst⁻¹ (NoStart n s TableData) (h .0) (no-text-start (h .1)))) (λ t. gives)
+no-start-is TableData n s a = fails-bind (no-tag-is (84 ∷ 82 ∷ []) s no-text-start) (λ t. gives)
 no-start-is Binary n s a = gives
 no-start-is Binary2 n s a = fails-bind (fails-weaken (no-flags-is n s a) (λ e h. no-binary2-start h)) (λ p. gives)
 
 -- ---- cells
 
 cell-at-left : {c : Column} {f : Bool} {from : Rows} {s : List ℕ} {x : Cell} {t : List ℕ} → CellAt c f from s x t → AreBytes s → AreBytes t
-cell-at-left (text-at {w = w} {t = t} {rest = rest} h k) a = parts-bytes (t ++ rest) t rest refl (parts-bytes (w ++ (t ++ rest)) w (t ++ rest) refl a .1) .1
+cell-at-left (text-at {w = w} {t = t} {rest = rest} h k) a = later-bytes (w ++ (t ++ rest)) w t rest refl a .1
 cell-at-left (binary-at {b = b} {rest = rest} h) a = parts-bytes (b ++ rest) b rest refl a .1
 cell-at-left (binary2-at {b = b} {rest = rest} h) a = parts-bytes (b ++ rest) b rest refl a .1
 
@@ -214,11 +205,11 @@ no-end-read : (from : Rows) (s : List ℕ) → NoEnd s from → readEnd from s �
 unfolding readEnd close-TR
 no-end-read from s (no-text-end none) = no-tag-read (bytes "</TR") s none
 
-no-end-is : (from : Rows) (s : List ℕ) → Fails (λ (n : ℕ). (n ≡ 10) × NoEnd s from) (readEnd from s)
+no-end-is : {Q : ℕ → Type 0} (from : Rows) (s : List ℕ) → (NoEnd s from → Q 10) → Fails Q (readEnd from s)
 unfolding readEnd close-TR
-no-end-is TableData s = fails-weaken (no-tag-is (47 ∷ 84 ∷ 82 ∷ []) s) (λ n h. (h .0, no-text-end (h .1)))
-no-end-is Binary s = gives
-no-end-is Binary2 s = gives
+no-end-is TableData s f = no-tag-is (47 ∷ 84 ∷ 82 ∷ []) s (λ absent. f (no-text-end absent))
+no-end-is Binary s f = gives
+no-end-is Binary2 s f = gives
 
 pub no-row-read : {from : Rows} {cs : List Column} {s : List ℕ} {n k : ℕ} → NoRow from cs s n k → AreBytes s → readRow from cs s ≡ bad (at k n)
 unfolding readRow
@@ -240,9 +231,7 @@ no-row-is from cs s a =
     (subst⁻¹ (Fails (NoCellsBy from cs (h .flags) 0 (p .1))) (h .same .as-read 0 (p .1)) (no-cells-is from cs (h .flags) (h .are) 0 (p .1) (h .left)))
     (λ e g. no-cells (h .starts) g))
     (subst⁻¹ (Holds (λ (q : List Cell × List ℕ). CellsAt from cs (h .flags) (p .1) (q .1))) (h .same .as-read 0 (p .1)) (cells-at-is from cs (h .flags) (h .are) 0 (p .1) (h .left)))
-    (λ q g. fails-bind
-    (fails-as (at (length cs)) (no-end-is from (q .1)) (λ n e. subst⁻¹ (λ (m : ℕ). NoRow from cs s m (length cs)) (e .0) (no-end (h .starts) g (e .1))))
-    (λ rest. gives)))
+    (λ q g. fails-bind (fails-as (at (length cs)) (no-end-is from (q .1) (no-end (h .starts) g)) (λ n e. e)) (λ rest. gives)))
 
 pub row-at-is : (from : Rows) (cs : List Column) (s : List ℕ) → AreBytes s → Holds (λ (p : List Cell × List ℕ). RowAt cs from s (p .0) (p .1)) (readRow from cs s)
 row-at-is TableData cs s a = holds-weaken (text-row-is cs s) (λ p h. subst⁻¹ (λ (x : List ℕ). RowAt cs TableData x (p .0) (p .1)) (h .whole) (text-row-at (h .is-white) (h .spelled)))
@@ -250,16 +239,14 @@ row-at-is Binary cs s a = holds-weaken (binary-row-is cs s a) (λ p h. subst⁻�
 row-at-is Binary2 cs s a = holds-weaken (binary2-row-is cs s a) (λ p h. subst⁻¹ (λ (x : List ℕ). RowAt cs Binary2 x (p .0) (p .1)) (h .whole) (binary2-row-at (h .spelled)))
 
 pub row-at-left : {cs : List Column} {from : Rows} {s : List ℕ} {xs : List Cell} {rest : List ℕ} → RowAt cs from s xs rest → AreBytes s → AreBytes rest
-row-at-left (text-row-at {w = w} {r = r} {rest = rest} h k) a = parts-bytes (r ++ rest) r rest refl (parts-bytes (w ++ (r ++ rest)) w (r ++ rest) refl a .1) .1
+row-at-left (text-row-at {w = w} {r = r} {rest = rest} h k) a = later-bytes (w ++ (r ++ rest)) w r rest refl a .1
 row-at-left (binary-row-at {b = b} {rest = rest} h) a = parts-bytes (b ++ rest) b rest refl a .1
 row-at-left (binary2-row-at {b = b} {rest = rest} h) a = parts-bytes (b ++ rest) b rest refl a .1
 
 -- ---- where a row should stand
 
 not-empty : (s : List ℕ) → (s ≡ [] → ⊥) → isEmpty s ≡ false
-unfolding isEmpty
-not-empty [] h = absurd (h refl)
-not-empty (b ∷ s) h = refl
+not-empty s h = not-so (isEmpty s) (λ e. h (empty-is s e))
 
 is-more : (s : List ℕ) → isEmpty s ≡ false → s ≡ [] → ⊥
 is-more s h e = false≢true (sym h ∙ ap isEmpty e ∙ (unfold isEmpty in refl))

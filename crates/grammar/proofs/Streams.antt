@@ -13,6 +13,7 @@ use Rattle.grammar.proofs.Fronts.{Front, skip-all, skip-is, skip-stays,
 use Rattle.grammar.proofs.TextRead.{Indented, cell-is, cell-read}
 use Rattle.grammar.specs.Binaries.{Binary2Row, BinaryRow, BitsIn, FlaggedCells, RowStream, binary-end, binary-then, binary2-row, flagged-end, flagged-null, flagged-shown, stream-end, stream-row}
 use Rattle.grammar.specs.Exact.{tableOf}
+use Rattle.grammar.specs.RowRefusals.{TagAt}
 use Rattle.grammar.specs.Text.{TextCells, TextRow, TextTable, cells-end, cells-then, table-end, table-row, text-row}
 use Rattle.grammar.specs.Words.{Tag, White, a-tag}
 use Rattle.rows.proofs.Laws.{read-row, read-step}
@@ -80,12 +81,14 @@ module _ (from : Rows) (cs : List Column) (i : AreColumns cs) where
 pub indented-tag : (n : ℕ) (word : List ℕ) {w a : List ℕ} → White w → Tag (60 ∷ word) (bytes ">") a → (rest : List ℕ) → tag n (60 ∷ word) (skipWhite (w ++ (a ++ rest))) ≡ good rest
 indented-tag n word w (a-tag h) rest = rw (skip-white w, skip-stays 60 _ (no-white 60 (lit≤ tt))) (tag-read n {word = 60 ∷ word} (a-tag h) rest)
 
-abbrev pub After : List ℕ → List ℕ → List ℕ → Type 0
-After word s rest = (w : List ℕ) × (a : List ℕ) × White w × Tag word (bytes ">") a × (s ≡ w ++ (a ++ rest))
-
-pub indented-tag-is : (n : ℕ) (word s : List ℕ) → Holds (After word s) (tag n word (skipWhite s))
-indented-tag-is n word s = holds-weaken (tag-is n word (skipWhite s)) (λ rest r.
-    (skip-is s .taken, r .taken, skip-is s .spelled, r .spelled, skip-is s .whole ∙ ap (λ (x : List ℕ). skip-is s .taken ++ x) (r .whole)))
+pub indented-tag-is : (n : ℕ) (word s : List ℕ) → Holds (TagAt word s) (tag n word (skipWhite s))
+indented-tag-is n word s = holds-weaken (tag-is n word (skipWhite s)) (λ rest r. record {
+  white = skip-is s .taken;
+  taken = r .taken;
+  is-white = skip-is s .spelled;
+  whole = skip-is s .whole ∙ ap (λ (x : List ℕ). skip-is s .taken ++ x) (r .whole);
+  tag = r .spelled;
+})
 
 text-cells-read : {cs : List Column} {b : List ℕ} {xs : List Cell} → TextCells cs b xs → (fs : List Bool) (k : ℕ) (rest : List ℕ) → readCells TableData cs fs k (b ++ rest) ≡ good (xs, rest)
 unfolding readCells readCell
@@ -117,7 +120,7 @@ text-row-read {cs} w (text-row {a = a} {b = b} {w = u} {z = z} h c v k) rest =
       indented-tag 10 (47 ∷ 84 ∷ 82 ∷ []) v k rest,
     )
 
-text-start-is : (n : ℕ) (s : List ℕ) → Holds (λ (p : List Bool × List ℕ). After (bytes "<TR") s (p .1)) (readStart TableData n s)
+text-start-is : (n : ℕ) (s : List ℕ) → Holds (λ (p : List Bool × List ℕ). TagAt (bytes "<TR") s (p .1)) (readStart TableData n s)
 unfolding readStart open-TR
 text-start-is n s = holds-bind (indented-tag-is 10 (bytes "<TR") s) (λ t h. holds h)
 
@@ -127,12 +130,12 @@ text-row-is cs s =
     holds-bind (holds-as (at 0) (text-start-is (length cs) s)) (λ p h.
     holds-bind (text-cells-are cs (p .0) 0 (p .1)) (λ q g.
     holds-bind (holds-as (at (length cs)) (indented-tag-is 10 (bytes "</TR") (q .1))) (λ rest k. holds (record {
-      white = h .0;
-      is-white = h .2;
-      taken = h .1 ++ (g .taken ++ (k .0 ++ k .1));
-      whole = h .4 ∙ ap (λ (x : List ℕ). h .0 ++ x) (ap (λ (x : List ℕ). h .1 ++ x) (g .whole ∙ ap (λ (x : List ℕ). g .taken ++ x) (k .4 ∙ sym (append-assoc (k .0) (k .1) rest))
-          ∙ sym (append-assoc (g .taken) (k .0 ++ k .1) rest)) ∙ sym (append-assoc (h .1) (g .taken ++ (k .0 ++ k .1)) rest));
-      spelled = text-row (h .3) (g .spelled) (k .2) (k .3);
+      white = h .white;
+      is-white = h .is-white;
+      taken = h .taken ++ (g .taken ++ (k .white ++ k .taken));
+      whole = h .whole ∙ ap (λ (x : List ℕ). h .white ++ x) (joined (h .taken ++ p .1) (h .taken) (g .taken ++ (k .white ++ k .taken)) (p .1) rest refl
+          (joined (p .1) (g .taken) (k .white ++ k .taken) (q .1) rest (g .whole) (joined (q .1) (k .white) (k .taken) (k .taken ++ rest) rest (k .whole) refl)));
+      spelled = text-row (h .tag) (g .spelled) (k .is-white) (k .tag);
     }))))
 
 pub empty-is : (s : List ℕ) → isEmpty s ≡ true → s ≡ []

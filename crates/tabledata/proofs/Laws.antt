@@ -410,28 +410,30 @@ text-fails c s =
     fails-bind (fails-bind (elements-of-fails (lit≤ tt, lit≤ tt) (shape (c .kind)) (p .0))
     (λ es. fails-cond (countFits c (length es)) gives (fails (lit≤ tt, lit≤ tt)))) (λ x. gives))
 
-form-fails : (e : ℤ) → Fails (Numbered 14 16) (formOf e)
-unfolding formOf
-form-fails (pos c) = fails-cond (isText c) gives (fails (lit≤ tt, lit≤ tt))
-form-fails (negsuc c) = fails (lit≤ tt, lit≤ tt)
+-- a character without a form is 16
+module _ {P : ℕ → Type 0} (sixteen : P 16) where
+  form-fails : (e : ℤ) → Fails P (formOf e)
+  unfolding formOf
+  form-fails (pos c) = fails-cond (isText c) gives (fails sixteen)
+  form-fails (negsuc c) = fails sixteen
 
-forms-fails : (es : List ℤ) → Fails (Numbered 14 16) (forms es)
-unfolding forms
-forms-fails [] = gives
-forms-fails (e ∷ es) = fails-bind (form-fails e) (λ b. fails-bind (forms-fails es) (λ r. gives))
+  forms-fails : (es : List ℤ) → Fails P (forms es)
+  unfolding forms
+  forms-fails [] = gives
+  forms-fails (e ∷ es) = fails-bind (form-fails e) (λ b. fails-bind (forms-fails es) (λ r. gives))
 
-element-text-fails : (k : Shape) (es : List ℤ) → Fails (Numbered 14 16) (elementText k es)
-unfolding elementText
-element-text-fails Truths es = gives
-element-text-fails Bits es = gives
-element-text-fails (Whole g v) es = gives
-element-text-fails Text es = forms-fails es
+  pub element-text-fails : (k : Shape) (es : List ℤ) → Fails P (elementText k es)
+  unfolding elementText
+  element-text-fails Truths es = gives
+  element-text-fails Bits es = gives
+  element-text-fails (Whole g v) es = gives
+  element-text-fails Text es = forms-fails es
 
 pub write-text-fails : (c : Column) (x : Cell) → Fails (Numbered 14 16) (writeText c x)
 unfolding writeText
 write-text-fails c null = gives
 write-text-fails c (shown []) = fails (lit≤ tt, lit≤ tt)
-write-text-fails c (shown (e ∷ es)) = fails-bind (element-text-fails (shape (c .kind)) (e ∷ es)) (λ t. gives)
+write-text-fails c (shown (e ∷ es)) = fails-bind (element-text-fails (lit≤ tt, lit≤ tt) (shape (c .kind)) (e ∷ es)) (λ t. gives)
 
 -- ---- what is written is the form, where there is one
 
