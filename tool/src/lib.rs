@@ -25,12 +25,15 @@
 //! # }
 //! ```
 
+#![deny(unsafe_code)]
+
 mod answer;
 mod base64;
 mod columns;
 mod face;
 mod numbers;
 mod pieces;
+#[allow(unsafe_code)]
 mod proved;
 mod stream;
 

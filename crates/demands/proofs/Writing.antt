@@ -84,23 +84,23 @@ pub data Behind : ℕ → Table → Table → Type 0 where
   from-here : {t : Table} → Behind 0 t t
   past-row : {j : ℕ} {xs : List Cell} {t u : Table} → Behind j t u → Behind (suc j) (row xs t) u
 
-pub rows-written : (to : Rows) (cs : List Column) (room r : ℕ) (out body : List ℕ) {j : ℕ} {t u : Table} → Behind j t u → lines to cs (upTo j t) ≡ good body
+first-rows-written : (to : Rows) (cs : List Column) (room r : ℕ) (out body : List ℕ) {j : ℕ} {t u : Table} → Behind j t u → lines to cs (upTo j t) ≡ good body
     → length (out ++ body) ≤ room → write to cs room r out t ≡ write to cs room (r + j) (out ++ body) u
 unfolding lines upTo
-rows-written to cs room r out body {t = t} from-here l h =
+first-rows-written to cs room r out body {t = t} from-here l h =
     ap₂ (λ (n : ℕ) (b : List ℕ). write to cs room n b t) (sym (add-zero r)) (sym (append-nil out) ∙ ap (λ (b : List ℕ). out ++ b) (cc l))
-rows-written to cs room r out body {u = u} (past-row {j = j} {xs = xs} {t = t} p) l h =
+first-rows-written to cs room r out body {u = u} (past-row {j = j} {xs = xs} {t = t} p) l h =
     let w : FirstLine to cs xs (upTo j t) body = first-line to cs xs (upTo j t) body l in
     let n : (out ++ w .first) ++ w .others ≡ out ++ body = append-assoc out (w .first) (w .others) ∙ ap (λ (b : List ℕ). out ++ b) (w .whole) in
     let g : length ((out ++ w .first) ++ w .others) ≤ room = rw n h in
     goes-on to cs room r out (w .first) xs t (w .has-form) (omega (arith, g, length-append (out ++ w .first) (w .others)))
-    ∙ rows-written to cs room (r + 1) (out ++ w .first) (w .others) p (w .have-forms) g
+    ∙ first-rows-written to cs room (r + 1) (out ++ w .first) (w .others) p (w .have-forms) g
     ∙ ap₂ (λ (m : ℕ) (b : List ℕ). write to cs room m b u) (omega arith) n
 
 -- from the start
 pub first-written : (to : Rows) (cs : List Column) (room : ℕ) (body : List ℕ) {j : ℕ} {t u : Table} → Behind j t u → lines to cs (upTo j t) ≡ good body
     → length body ≤ room → write to cs room 0 [] t ≡ write to cs room j body u
-first-written to cs room body {j} {t} {u} p l h = rows-written to cs room 0 [] body p l h ∙ ap (λ (n : ℕ). write to cs room n body u) (zero-add j)
+first-written to cs room body {j} {t} {u} p l h = first-rows-written to cs room 0 [] body p l h ∙ ap (λ (n : ℕ). write to cs room n body u) (zero-add j)
 
 pub ends-behind : (t : Table) → Ends t → Behind (count t) t finished
 unfolding count

@@ -2,7 +2,6 @@
 -- BINARY and BINARY2 and 10 in TABLEDATA, or the cut was between rows and it is accepted. For a refusal with any other number stays where more follows:
 -- what it is about is there already.
 use Prim.Native.Nat.{_≤_, zero-le, ℕ}
-use native.Mathlib.Nat.{zero-add}
 use native.Mathlib.Omega.{arith}
 use mathlib.Core.Bool.{Bool, false≢true}
 use mathlib.Core.List.{List, [], _++_, _∷_, append-assoc}
@@ -174,7 +173,7 @@ run-front : (from to : Rows) (cs : List Column) (room : ℕ) (s body : List ℕ)
     → lines to cs (tableOf rows) ≡ good body → length body ≤ room → write to cs room (length rows) body u ≡ run from to cs room s
 unfolding run
 run-front from to cs room s body rows u q l h =
-    sym (ap (write to cs room 0 []) q ∙ rows-go-on to cs room rows u 0 [] body l h ∙ ap (λ (n : ℕ). write to cs room n body u) (zero-add (length rows)))
+    sym (ap (write to cs room 0 []) q ∙ rows-go-on to cs room rows u body l h)
 
 module _ (decls : List ℕ) (from to : Rows) (front more out : List ℕ) (cs : List Column) (declared : declare decls ≡ good cs) (sized : length front ≤ mostInput)
     (bytes : AreBytes (front ++ more)) where

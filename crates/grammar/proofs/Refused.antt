@@ -1,18 +1,17 @@
 -- WHICH NUMBER, EXACTLY: a call answers a refusal's number, row and column just where the grammar says that number at that row and column. Forward, what
 -- demand 1 says of the answer is carried from the table to the grammar (DeclarationsRefused, RowsRefused); backward, the rows done are written and the
 -- next thing refuses.
-use Prim.Native.Nat.{_+_, _<_, _≤_, suc, ℕ}
-use native.Mathlib.Nat.{zero-add}
+use Prim.Native.Nat.{_<_, _≤_, suc, ℕ}
 use native.Mathlib.Omega.{arith}
 use mathlib.Core.Bool.{Bool, false, true}
-use mathlib.Core.List.{List, [], _++_, _∷_}
+use mathlib.Core.List.{List, [], _∷_}
 use mathlib.Core.Logic.{_↔_}
 use mathlib.Core.Path.{_∙_, _≡_, ap, refl, subst, subst⁻¹, sym}
 use lib.Dec.{lit<, ltb}
 use lib.ListN.{length}
 use borrow.Author.Tests.{ltb-false, ltb-true}
 use Rattle.demands.proofs.Demand2.{declared-columns, stands}
-use Rattle.demands.proofs.Writing.{Behind, form-stops, from-here, past-row, room-stops, row-behind, rows-written, stop-behind, stops-behind}
+use Rattle.demands.proofs.Writing.{Behind, first-written, form-stops, from-here, past-row, room-stops, row-behind, stop-behind, stops-behind}
 use Rattle.demands.specs.Demands.{RowsStand, Why, all-rows, in-reading, in-writing, no-space, output}
 use Rattle.demands.specs.Tables.{lines, upTo}
 use Rattle.fields.proofs.Front.{front-oversized, front-undeclared}
@@ -58,9 +57,9 @@ unfolding upTo andThen tableOf
 up-to-rows [] u = refl
 up-to-rows (xs ∷ rows) u = ap (row xs) (up-to-rows rows u)
 
-pub rows-go-on : (to : Rows) (cs : List Column) (room : ℕ) (rows : List (List Cell)) (u : Table) (r : ℕ) (out body : List ℕ) → lines to cs (tableOf rows) ≡ good body
-    → length (out ++ body) ≤ room → write to cs room r out (andThen (tableOf rows) u) ≡ write to cs room (r + length rows) (out ++ body) u
-rows-go-on to cs room rows u r out body l h = rows-written to cs room r out body (rows-behind rows u) (ap (lines to cs) (up-to-rows rows u) ∙ l) h
+pub rows-go-on : (to : Rows) (cs : List Column) (room : ℕ) (rows : List (List Cell)) (u : Table) (body : List ℕ) → lines to cs (tableOf rows) ≡ good body
+    → length body ≤ room → write to cs room 0 [] (andThen (tableOf rows) u) ≡ write to cs room (length rows) body u
+rows-go-on to cs room rows u body l h = first-written to cs room body (rows-behind rows u) (ap (lines to cs) (up-to-rows rows u) ∙ l) h
 
 -- ---- from the grammar to the answer
 
@@ -81,8 +80,7 @@ module _ (decls : List ℕ) (from to : Rows) (input out : List ℕ) where
   unfolding run mostInput
   behind {cs} {rows} {body} d u e q o =
       at-rows cs (declares-read (d .declared)) (d .sized) e (length rows) body
-      (ap (write to cs (length out) 0 []) q ∙ rows-go-on to cs (length out) rows u 0 [] body (d .forms) (d .fits)
-      ∙ ap (λ (n : ℕ). write to cs (length out) n body u) (zero-add (length rows)) ∙ o)
+      (ap (write to cs (length out) 0 []) q ∙ rows-go-on to cs (length out) rows u body (d .forms) (d .fits) ∙ o)
 
   columns : {cs : List Column} {rows : List (List Cell)} {body : List ℕ} → RowsDone decls to input (length out) cs rows body → AreColumns cs
   columns {cs} d = declared-columns decls cs (declares-read (d .declared))
