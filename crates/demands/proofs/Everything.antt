@@ -20,11 +20,12 @@ use Rattle.rows.specs.Sequence.{rowThen, sequence, sequenceF}
 use Rattle.fields.specs.Front.{front}
 use Rattle.table.specs.Bytes.{after, attach, between, ends, isWhite, notEmpty, pieces, same, skipWhite, tag, words}
 use Rattle.table.specs.Cell.{below, emptyIsNull, isElement, isNull, isNullList, nullElement, roomFits, sameInteger, show, standsForNull, truthByte}
+use Rattle.table.specs.LineEnds.{feedFirst, lineEnds}
 use Rattle.table.specs.Outcome.{answerOf, at, bufferOf, ending, mostDeclarations, mostInput, rowsDone, written}
 use Rattle.table.specs.Result.{every}
 use Rattle.table.specs.Shape.{half, inRange}
 use Rattle.tabledata.specs.TableData.{allText, bitLetter, bitText, bitWords, cellText, characters, close-TD, close-TR, consText, countFits, elementBytes, elementText}
-use Rattle.tabledata.specs.TableData.{emitted, escaped, expanded, follow, formOf, forms, integerWord, isText, lower, named, names, numeric, open-TD, open-TR, readText}
+use Rattle.tabledata.specs.TableData.{emitted, escaped, expanded, follow, formOf, forms, integerWord, isText, lineEnd, lower, named, names, numeric, open-TD, open-TR, readText}
 use Rattle.tabledata.specs.TableData.{elementsOf, spaced, step, tagged, textCell, textElements, truthLetter, truthText, truthWord, writeText}
 
 unfoldable pub everything : ℕ
@@ -35,7 +36,7 @@ unfolding
     oneByte twoBytes threeBytes lastFour fours decode encode inRoom sizedInput stepOutcome decoding encoding decodeCall encodeCall truth
     truthByte bitOf element number bitBytes bitsOf packed pack allZero unpack readFlags contentBytes numbers beforeNul numbersIn content
     firstBytes atMost counted countIn shows readBinary2 readBinary countBytes groups bytesOf elementsBytes zeros writeBinary2 canBeEmpty
-    nullForm writeBinary open-TD close-TD open-TR close-TR names named numeric expanded emitted step consText follow characters cellText isText
+    nullForm writeBinary open-TD close-TD open-TR close-TR names named numeric expanded emitted feedFirst lineEnds lineEnd step consText follow characters cellText isText
     allText lower truthLetter truthWord bitLetter bitWords integerWord textElements countFits elementsOf textCell readText escaped formOf forms truthText
     bitText spaced elementText tagged writeText isNameByte spanName someName spanValue readValue readAttribute nameComes attributeComes
     attributesF attributes valuesOf atMostOne exactlyOne readValues begins fieldBody readField kinds kindOf lengthOf beforeStar boundedLen

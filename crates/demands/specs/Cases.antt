@@ -1,4 +1,4 @@
--- The P cases of 01, one table. Each names the whole answer and every byte of the buffer.
+-- The P cases of 01, and of 02's requests the sentences that a case can say; one table. Each names the whole answer and every byte of the buffer.
 use Prim.Native.Nat.{ℕ}
 use Prim.Native.String.{String}
 use mathlib.Core.Bool.{Bool, _&&_, true}
@@ -97,6 +97,13 @@ cases =
     ∷ refuses-it "<FIELD datatype='int'/>" TableData Binary (bytes "<TR><TD/></TR>") 15
     -- "P empty char `*` unflagged, BINARY2 to TABLEDATA 14"
     ∷ refuses-it "<FIELD datatype='char' arraysize='*'/>" Binary2 TableData (0 ∷ 0 ∷ 0 ∷ 0 ∷ 0 ∷ []) 14
+    -- #105: "a literal 13 10, or a 13 alone, is handed on as one 10", "so a cell may now fit that got 12"
+    ∷ gives-rows "<FIELD datatype='char' arraysize='3'/>" TableData Binary2 (bytes (cell "a\r\nb")) 1 (0 ∷ 97 ∷ 10 ∷ 98 ∷ [])
+    ∷ gives-rows "<FIELD datatype='char' arraysize='2'/>" TableData Binary2 (bytes (cell "\r\r\n")) 1 (0 ∷ 10 ∷ 10 ∷ [])
+    -- "only a numeric reference gives 13", and "what we wrote reads as before"
+    ∷ gives-rows "<FIELD datatype='char' arraysize='4'/>" TableData Binary2 (bytes (cell "\r&#10;&#13;\n")) 1 (0 ∷ 10 ∷ 10 ∷ 13 ∷ 10 ∷ [])
+    ∷ gives-rows "<FIELD datatype='char' arraysize='2'/>" Binary2 TableData (0 ∷ 13 ∷ 10 ∷ []) 1 (bytes (cell "&#xD;\n"))
+    ∷ gives-rows "<FIELD datatype='char' arraysize='2'/>" TableData Binary2 (bytes (cell "&#xD;\n")) 1 (0 ∷ 13 ∷ 10 ∷ [])
     -- "P `Zm9vYmFy` is \"foobar\"; P `Zg==` is \"f\", `Zh==` 7"
     ∷ decodes (bytes "Zm9vYmFy") (done 0 (bytes "foobar")) (bytes "foobar")
     ∷ decodes (bytes "Zg==") (done 0 (bytes "f")) (bytes "f")

@@ -1,6 +1,6 @@
 -- An integer is written in characters that a cell may have: digits, hexadigits, a sign, `x`. So for integers the test of a text's
 -- characters adds nothing (`integers-text`): what a text's words come to is what its elements are.
-use Prim.Native.Nat.{_*_, _+_, suc, ℕ}
+use Prim.Native.Nat.{_*_, suc, ℕ}
 use native.Mathlib.Omega.{arith}
 use mathlib.Core.Bool.{Bool, _&&_, cond, false, false≢true, true}
 use mathlib.Core.List.{List, [], _∷_}
@@ -8,10 +8,11 @@ use mathlib.Core.Path.{_∙_, _≡_, ap, refl, sym}
 use lib.Dec.{eqb}
 use lib.IntN.{ℤ}
 use borrow.Author.Tests.{eqb-true}
-use Rattle.number.specs.Number.{Fault, decimal, digit, hexadecimal, hexadigit, numeral, ranged, readInteger, sized, withSign}
-use Rattle.table.proofs.Laws.{and-both, between-is, fails-always, fails-at, fails-every, holds-any, holds-as, holds-at, holds-bind, holds-cond, holds-weaken}
+use Rattle.number.proofs.Laws.{IsFigure, digit-figure, hexadigit-figure, sized-figures}
+use Rattle.number.specs.Number.{decimal, digit, hexadecimal, hexadigit, ranged, readInteger, withSign}
+use Rattle.table.proofs.Laws.{and-both, fails-always, fails-at, fails-every, holds-any, holds-as, holds-at, holds-bind, holds-cond, holds-weaken}
 use Rattle.table.specs.All.{All}
-use Rattle.table.specs.Bytes.{attach, between, isWhite, notEmpty, pieces, words}
+use Rattle.table.specs.Bytes.{attach, isWhite, notEmpty, pieces, words}
 use Rattle.table.specs.Result.{Fails, Holds, Result, bad, every, good, holds, refuses}
 use Rattle.table.specs.Shape.{Whole, Width, last}
 use Rattle.tabledata.proofs.Characters.{text-yes, white-text}
@@ -19,31 +20,15 @@ use Rattle.tabledata.specs.TableData.{allText, elementsOf, integerWord, isText,
 
 -- ---- an integer's letters
 
-digit-text : (b : ℕ) → Holds (λ (d : ℕ). isText b ≡ true) (digit b)
-unfolding digit
-digit-text b = holds-cond (between 48 57 b) (λ e. holds (text-yes b (omega (arith, between-is 48 57 b e)) (omega (arith, between-is 48 57 b e)))) (λ _. refuses)
-
-hexadigit-text : (b : ℕ) → Holds (λ (d : ℕ). isText b ≡ true) (hexadigit b)
-unfolding hexadigit
-hexadigit-text b =
-    holds-cond (between 48 57 b) (λ e. holds (text-yes b (omega (arith, between-is 48 57 b e)) (omega (arith, between-is 48 57 b e)))) (λ _.
-    holds-cond (between 65 70 b) (λ e. holds (text-yes b (omega (arith, between-is 65 70 b e)) (omega (arith, between-is 65 70 b e)))) (λ _.
-    holds-cond (between 97 102 b) (λ e. holds (text-yes b (omega (arith, between-is 97 102 b e)) (omega (arith, between-is 97 102 b e)))) (λ _. refuses)))
-
-module _ (value : ℕ → Result Fault ℕ) (base : ℕ) (h : (b : ℕ) → Holds (λ (d : ℕ). isText b ≡ true) (value b)) where
-  numeral-text : (a : ℕ) (s : List ℕ) → Holds (λ (n : ℕ). allText s ≡ true) (numeral value base a s)
-  unfolding numeral allText
-  numeral-text a [] = holds refl
-  numeral-text a (b ∷ s) = holds-bind (h b) (λ d k. holds-weaken (numeral-text (a * base + d) s) (λ n g. rw (k, g)))
-
-  sized-text : (most : ℕ) (s : List ℕ) → Holds (λ (n : ℕ). allText s ≡ true) (sized most value base s)
-  unfolding sized
-  sized-text most s = holds-cond (between 1 most _) (λ _. numeral-text 0 s) (λ _. refuses)
+figures-text : (s : List ℕ) → All IsFigure s → allText s ≡ true
+unfolding allText
+figures-text [] a = refl
+figures-text (b ∷ s) a = rw (text-yes b (omega (arith, a .0)) (omega (arith, a .0))) (figures-text s (a .1))
 
 decimal-text : (signed : Bool) (w : ℕ) (negative : Bool) (s : List ℕ) → Holds (λ (z : ℤ). allText s ≡ true) (decimal signed w negative s)
 unfolding decimal
 decimal-text signed w negative s =
-    holds-bind (sized-text digit 10 digit-text 20 s) (λ n k. holds-weaken (holds-any (ranged signed w (withSign negative n))) (λ _ _. k))
+    holds-bind (sized-figures digit 10 digit-figure 20 s) (λ n k. holds-weaken (holds-any (ranged signed w (withSign negative n))) (λ _ _. figures-text s k))
 
 -- a first letter that is known is text
 known-text : (signed : Bool) (b m : ℕ) (s : List ℕ) → isText m ≡ true → (signed && eqb b m) ≡ true → allText s ≡ true → allText (b ∷ s) ≡ true
@@ -55,9 +40,9 @@ unfolding readInteger hexadecimal
 integer-text signed w [] = refuses
 integer-text signed w (b ∷ []) = decimal-text signed w false (b ∷ [])
 integer-text signed w (b ∷ c ∷ s) =
-    holds-cond (eqb b 48 && eqb c 120) (λ e. holds-bind (sized-text hexadigit 16 hexadigit-text (2 * w) s) (λ n k.
+    holds-cond (eqb b 48 && eqb c 120) (λ e. holds-bind (sized-figures hexadigit 16 hexadigit-figure (2 * w) s) (λ n k.
     holds (known-text true b 48 (c ∷ s) (text-yes 48 (omega arith) (omega arith)) (and-both (eqb b 48) (eqb c 120) e .0)
-    (known-text (eqb b 48) c 120 s (text-yes 120 (omega arith) (omega arith)) e k)))) (λ _.
+    (known-text (eqb b 48) c 120 s (text-yes 120 (omega arith) (omega arith)) e (figures-text s k))))) (λ _.
     holds-cond (signed && eqb b 45) (λ e.
     holds-weaken (decimal-text signed w true (c ∷ s)) (λ z k. known-text signed b 45 (c ∷ s) (text-yes 45 (omega arith) (omega arith)) e k)) (λ _.
     holds-cond (signed && eqb b 43) (λ e.

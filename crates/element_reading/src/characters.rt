@@ -1,14 +1,15 @@
-// A text's characters: in a cell up to the end tag, with their references expanded; in a plain part each byte as it stands.
+// A text's characters: in a cell up to the end tag, with their references expanded and each line end as one 10; in a plain part each byte as it
+// stands.
 use super::references::Reference;
 use super::references::expand;
 use text::Tag;
 use text::whole_tag;
-ghost use Prim.Native.Nat.{_≤_};
-ghost use Rattle.tabledata.specs.TableData.{characters, reference};
+ghost use Prim.Native.Nat.{_+_, _<_, _≤_};
+ghost use Rattle.tabledata.specs.TableData.{characters, plain, reference};
 ghost use Rattle.element_reading.specs.Characters.{ItemIs, NameIs, charactersOf, ended, spoiledNumber};
 ghost use Rattle.element_reading.specs.declared.characters.Source.the-variants.{Markup};
 ghost use lib.ListN.{drop, length};
-ghost use mathlib.Core.List.{[]};
+ghost use mathlib.Core.List.{[], _∷_};
 ghost use mathlib.Core.Path.{_≡_};
 
 // Where characters are read: in the markup of a cell, or in a plain part of a text.
@@ -64,7 +65,22 @@ fn end_tag(s: &[u8], at: usize) -> Item
     Item::End(next)
 }
 
-// The character at a place, or where the text ends: only markup has tags and references, and an end that is asked for.
+// XML 1.0, 2.11: a literal 13, with the 10 behind it where there is one, is one 10.
+fn line_end(s: &[u8], at: usize) -> Item
+    requires { ⌜ at < length (now s) ⌝ }
+    ensures { λ r. ⌜ ItemIs Markup (characters plain (13 ∷ drop (at + 1) (now (s .entry)))) (now (s .entry)) at r ⌝ }
+{
+    let next = at + 1;
+    if s.len() <= next {
+        return Item::Code(10, next);
+    }
+    if s[next] == 10 {
+        return Item::Code(10, next + 1);
+    }
+    Item::Code(10, next)
+}
+
+// The character at a place, or where the text ends: only markup has tags, references and line ends, and an end that is asked for.
 pub(crate) fn character_at(s: &[u8], at: usize, source: Source) -> Item
     requires { ⌜ at ≤ length (now s) ⌝ }
     ensures { λ r. ⌜ ItemIs source (charactersOf source (drop at (now (s .entry)))) (now (s .entry)) at r ⌝ }
@@ -86,6 +102,12 @@ pub(crate) fn character_at(s: &[u8], at: usize, source: Source) -> Item
         return match source {
             Source::Markup => refer(s, at + 1),
             Source::Plain => Item::Code(38, at + 1),
+        };
+    }
+    if c == 13 {
+        return match source {
+            Source::Markup => line_end(s, at),
+            Source::Plain => Item::Code(13, at + 1),
         };
     }
     Item::Code(c as u32, at + 1)

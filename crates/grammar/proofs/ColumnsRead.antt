@@ -15,13 +15,14 @@ use Rattle.fields.proofs.Laws.{declare-is}
 use Rattle.fields.specs.Fields.{Field, beforeStar, boundedLen, declare, fieldsF, fieldsThen, judge, kindOf, kinds, lenBefore, lenOf, lengthOf, nullOf, nullValue, readField}
 use Rattle.grammar.proofs.DeclarationsRead.{IsField, Pair, field-is, field-read, fieldAs}
 use Rattle.grammar.proofs.Fronts.{digit-is, digit-read, numeral-all, numeral-from, numeral-read, skip-all, skip-is, skip-stays, skip-white}
-use Rattle.grammar.proofs.WordsRead.{OneWord, integer-is, integer-read, integer-word, no-word, one-word, one-word-of, same-is, two-words, words-trimmed}
+use Rattle.grammar.proofs.WordsRead.{OneWord, integer-is, integer-read, integer-word, no-word, one-word, one-word-of, two-words, words-trimmed}
 use Rattle.grammar.specs.Declarations.{Arraysize, Datatype, Declares, FieldOf, FieldText, FieldsText, NullText, SizeText, datatype-bit, datatype-boolean}
 use Rattle.grammar.specs.Declarations.{datatype-char, datatype-int, datatype-long, datatype-short, datatype-unsignedByte, field-empty, field-of}
 use Rattle.grammar.specs.Declarations.{field-tags, fields-end, fields-then, null-absent, null-array, null-bits, null-chars, null-counts, null-truths}
 use Rattle.grammar.specs.Declarations.{size-absent, size-bounded, size-fixed, size-free, size-text}
 use Rattle.grammar.specs.Words.{Digit, White, figure, one-digit, trimmed}
 use Rattle.number.specs.Number.{digit, numeral}
+use Rattle.table.proofs.Bytes.{same-is}
 use Rattle.table.proofs.Laws.{and-both, between-is, between-yes, cond-cases, holds-as, holds-at, holds-bind, holds-cond, holds-weaken, no-white}
 use Rattle.table.specs.All.{All}
 use Rattle.table.specs.Bytes.{between, bytes, same, skipWhite}

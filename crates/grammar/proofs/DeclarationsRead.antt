@@ -13,12 +13,13 @@ use Rattle.fields.specs.Fields.{Attribute, Field, atMostOne, attributeComes, at
 use Rattle.fields.specs.Fields.{nameComes, readAttribute, readField, readValue, readValues, someName, spanName, spanValue, valuesOf}
 use Rattle.grammar.proofs.Fronts.{Front, after-is, ends-is, ends-word, skip-is, skip-stays, skip-white}
 use Rattle.grammar.proofs.TextRead.{Indented, ends-other}
-use Rattle.grammar.proofs.WordsRead.{same-is, same-read, three-bytes}
+use Rattle.grammar.proofs.WordsRead.{same-read, three-bytes}
 use Rattle.grammar.specs.Declarations.{AttributeText, AttributesText, FieldText, Inside, Name, NameByte, Quoted, ValueOf, ValuesTag, Without, attribute-text}
 use Rattle.grammar.specs.Declarations.{attributes-end, attributes-then, field-empty, field-tags, inside-nothing, inside-values, name-capital, name-colon}
 use Rattle.grammar.specs.Declarations.{name-dash, name-digit, name-dot, name-last, name-small, name-then, name-underscore, quoted-double, quoted-single}
 use Rattle.grammar.specs.Declarations.{value-here, value-none, value-skipped, values-tag, without-end, without-then}
 use Rattle.grammar.specs.Words.{Tag, White, a-tag, white-end, white-then}
+use Rattle.table.proofs.Bytes.{same-is}
 use Rattle.table.proofs.Laws.{and-both, between-is, between-yes, cond-cases, holds-bind, holds-cond, holds-else, holds-weaken, no-white, or-either}
 use Rattle.table.specs.Bytes.{after, between, bytes, ends, isWhite, same, skipWhite, tag}
 use Rattle.table.specs.Result.{Holds, Result, _>>=_, bad, good, holds, orElse, refuses}

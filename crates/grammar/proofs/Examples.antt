@@ -1,9 +1,9 @@
--- Some of 01's P cases in the grammar, derived by its constructors alone or through the theorems.
+-- Some of 01's P cases in the grammar, and of 02's line ends, derived by its constructors alone or through the theorems.
 use Prim.Native.Nat.{_<_, _≤_, ℕ}
 use native.Mathlib.Omega.{arith}
 use mathlib.Core.Bool.{Bool, false, true}
-use mathlib.Core.List.{List, [], _∷_}
-use mathlib.Core.Path.{refl}
+use mathlib.Core.List.{List, [], _++_, _∷_}
+use mathlib.Core.Path.{_≡_, ap, refl}
 use lib.Dec.{lit<, lit≤}
 use lib.IntN.{negsuc, ℤ}
 use lib.ListN.{length}
@@ -14,19 +14,20 @@ use Rattle.grammar.proofs.Base64Read.{undecoded-exactly}
 use Rattle.grammar.proofs.ColumnsRead.{datatype-read, declares-is}
 use Rattle.grammar.proofs.DeclarationsRefused.{not-declared-exactly}
 use Rattle.grammar.proofs.Exactly.{accepts-exactly, declares-columns, spells-is}
-use Rattle.grammar.proofs.TextRead.{elements-of-read}
+use Rattle.grammar.proofs.TextRead.{characters-read, elements-of-read}
 use Rattle.grammar.proofs.WordsRead.{integer-read}
 use Rattle.grammar.specs.Binaries.{Packed, big-endian, counted-fixed, packed-end, packed-then}
 use Rattle.grammar.specs.CellRefusals.{NoCell, has-bounded, no-text-value, over-bound, padding-not-0, padding-set}
 use Rattle.grammar.specs.DeclarationRefusals.{NotDeclared, no-column, not-declared}
 use Rattle.grammar.specs.Declarations.{Datatype, Declares}
 use Rattle.grammar.specs.Exact.{InGrammar, NotDecoded, tableOf}
-use Rattle.grammar.specs.Text.{Characters, Marked, char-amp, char-itself, chars-end, chars-then, marked-text}
+use Rattle.grammar.specs.Text.{Characters, Marked, char-amp, char-decimal, char-itself, char-line-end, chars-end, chars-return, chars-then, marked-text}
 use Rattle.grammar.specs.Valid.{Spells}
-use Rattle.grammar.specs.Words.{Hexadigit, IntegerWord, Itself, a-tag, hex-small, itself, one-digit, one-more, stands-negative, white-end, word-hexadecimal}
+use Rattle.grammar.specs.Words.{Hexadigit, IntegerWord, Itself, a-tag, figure, hex-small, itself, one-digit, one-more, stands-negative, white-end, word-hexadecimal}
 use Rattle.table.proofs.Laws.{bad-good}
 use Rattle.table.specs.Bytes.{bytes}
 use Rattle.table.specs.Cell.{AreColumns, Cell, columnOf}
+use Rattle.table.specs.Result.{Result, bad, good}
 use Rattle.table.specs.Shape.{half}
 use Rattle.table.specs.declared.Kind.{Kind}
 use Rattle.table.specs.declared.Kind.the-variants.{Bit, UnsignedByte}
@@ -45,8 +46,25 @@ short-ffff = word-hexadecimal (one-more (one-more (one-more (one-digit f) f) f) 
 -- the sample night's `a&amp;b`
 pub night-characters : Characters (bytes "a&amp;b") (bytes "a&b")
 night-characters =
-    chars-then (char-itself {b = 97} (λ e. omega arith) (λ e. omega arith))
-    (chars-then char-amp (chars-then (char-itself {b = 98} (λ e. omega arith) (λ e. omega arith)) chars-end))
+    chars-then (char-itself {b = 97} (λ e. omega arith) (λ e. omega arith) (λ e. omega arith))
+    (chars-then char-amp (chars-then (char-itself {b = 98} (λ e. omega arith) (λ e. omega arith) (λ e. omega arith)) chars-end))
+
+-- 13 13 10 `&#13;` 10: two line ends, a reference, and a line end; "only a numeric reference gives 13"
+pub line-ends-spelled : Characters (13 ∷ 13 ∷ 10 ∷ (bytes "&#13;" ++ (10 ∷ []))) (10 ∷ 10 ∷ 13 ∷ 10 ∷ [])
+line-ends-spelled =
+    chars-return {s = 13 ∷ 10 ∷ (bytes "&#13;" ++ (10 ∷ []))} (λ t e. let z : _≡_ {A = ℕ} 13 10 = cc in omega arith)
+    (chars-then char-line-end
+    (chars-then (char-decimal {s = bytes "13"} (one-more (one-digit (figure {d = 1} (lit< tt))) (figure {d = 3} (lit< tt))) (lit≤ tt))
+    (chars-then (char-itself {b = 10} (λ e. omega arith) (λ e. omega arith) (λ e. omega arith)) chars-end)))
+
+-- 13 10 is one character
+pub not-two : Characters (13 ∷ 10 ∷ []) (10 ∷ 10 ∷ []) → ⊥
+unfolding everything
+not-two h = let z : _≡_ {A = ℕ} 1 2 = ap read-count (characters-read h (a-tag white-end) []) in omega arith
+  where
+    read-count : Result ℕ (List ℕ × List ℕ) → ℕ
+    read-count (good p) = length (p .0)
+    read-count (bad n) = 0
 
 -- "`+5` good for int, 11 for unsignedByte"
 pub no-sign : (z : ℤ) → IntegerWord false 1 (bytes "+5") z → ⊥
@@ -133,7 +151,7 @@ no-byte-256 n flagged = no-text-value {cs = bytes "256"} {rest = []}
     (λ es a h. bad-good (elements-of-read a h))
   where
     plain : {b : ℕ} → 48 ≤ b → b ≤ 57 → {s cs : List ℕ} → Characters s cs → Characters (b ∷ s) (b ∷ cs)
-    plain {b} l m r = chars-then (char-itself {b = b} (λ e. omega arith) (λ e. omega arith)) r
+    plain {b} l m r = chars-then (char-itself {b = b} (λ e. omega arith) (λ e. omega arith) (λ e. omega arith)) r
 
     marked : Marked (bytes "<TD>256</TD>") (bytes "256")
     marked = marked-text (a-tag white-end) (plain (lit≤ tt) (lit≤ tt) (plain (lit≤ tt) (lit≤ tt) (plain (lit≤ tt) (lit≤ tt) chars-end))) (a-tag white-end)

@@ -2,7 +2,7 @@
 use Prim.Native.Nat.{_≤_, suc, ℕ}
 use native.Mathlib.Nat.{le-refl}
 use native.Mathlib.Omega.{arith}
-use mathlib.Core.Bool.{Bool, _&&_, _||_, cond, false, or-true, true}
+use mathlib.Core.Bool.{Bool, _&&_, _||_, cond, false, false≢true, or-true, true}
 use mathlib.Core.List.{List, [], _++_, _∷_, append-assoc, append-nil}
 use mathlib.Core.Path.{_∙_, _≡_, ap, refl, subst, sym}
 use lib.Dec.{eqb, leb, lit≤}
@@ -14,26 +14,30 @@ use Rattle.grammar.proofs.Fronts.{after-is, digit-is, digit-read, ends-
 use Rattle.grammar.proofs.Fronts.{sized-read, skip-is, skip-stays, skip-white, tag-is, tag-read}
 use Rattle.grammar.proofs.ShownRead.{shows-is, shows-read}
 use Rattle.grammar.proofs.WordsRead.{OneWord, bit-letters-dark, bits-are, bits-read, integer-is, integer-read, integer-word, no-word, one-word, one-word-of}
-use Rattle.grammar.proofs.WordsRead.{same-is, spaced-is, spaced-read, three-bytes, truth-is, truth-read, truth-word, two-words, words-blank, words-trimmed}
+use Rattle.grammar.proofs.WordsRead.{spaced-is, spaced-read, three-bytes, truth-is, truth-read, truth-word, two-words, words-blank, words-trimmed}
 use Rattle.grammar.proofs.WordsRead.{words-white}
 use Rattle.grammar.specs.Text.{Character, Characters, IsText, Many, Marked, TextCell, TextElements, TextShows, char-amp, char-apos, char-decimal}
-use Rattle.grammar.specs.Text.{char-gt, char-hexadecimal, char-itself, char-lt, char-quot, chars-end, chars-then, many-bounded, many-fixed, many-free}
+use Rattle.grammar.specs.Text.{char-gt, char-hexadecimal, char-itself, char-line-end, char-lt, char-quot, chars-end, chars-return, chars-then, many-bounded, many-fixed, many-free}
 use Rattle.grammar.specs.Text.{many-shorter, shows-elements, shows-empty, text-bits, text-chars, text-line-feed, text-other, text-return, text-tab, text-truths}
 use Rattle.grammar.specs.Text.{marked-empty, marked-text, text-cell, text-whole}
 use Rattle.grammar.specs.Words.{BitLetters, Digit, Hexadigit, IntegerWord, Numeral, Tag, Trimmed, TruthWord, White, a-tag, bits-0, bits-1, bits-end, figure}
 use Rattle.grammar.specs.Words.{hex-capital, hex-figure, hex-small, trimmed, white-end}
 use Rattle.number.specs.Number.{digit, hexadigit, numeral, sized}
+use Rattle.table.proofs.Bytes.{same-is}
 use Rattle.table.proofs.Laws.{and-both, between-is, between-yes, cond-cases, holds-as, holds-bind, holds-cond, holds-else, holds-weaken, nil-not-null, no-white, or-either}
+use Rattle.table.proofs.LineEnds.{first-cases}
 use Rattle.table.specs.All.{All}
 use Rattle.table.specs.Bytes.{after, between, bytes, ends, isWhite, same, skipWhite, tag, words}
 use Rattle.table.specs.Cell.{Cell, bound, emptyIsNull, isNullList, mostElements, null, roomFits, roomIn, show, shown, standsForNull}
+use Rattle.table.specs.LineEnds.{feedFirst}
 use Rattle.table.specs.Outcome.{at}
 use Rattle.table.specs.Result.{Holds, Result, _>>=_, bad, good, holds, orElse, refuses}
 use Rattle.table.specs.Shape.{Bits, Shape, Text, Truths, Whole, last, shape}
 use Rattle.table.specs.declared.Column.{Column}
 use Rattle.table.specs.declared.Len.{Len}
 use Rattle.table.specs.declared.Len.the-variants.{Bounded, Fixed, Free}
-use Rattle.tabledata.specs.TableData.{Step, Where, allText, bitWords, cellText, characters, close-TD, consText, countFits, emit, emitted, expanded, follow, goes}
+use Rattle.tabledata.proofs.LineEnds.{feed-read, return-alone-read, return-goes-read}
+use Rattle.tabledata.specs.TableData.{Step, Where, allText, bitWords, cellText, characters, close-TD, consText, countFits, emit, emitted, expanded, follow, goes, lineEnd}
 use Rattle.tabledata.specs.TableData.{integerWord, isText, named, names, numeric, open-TD, plain, readText, reference, step, tagBegins, textCell, textElements}
 use Rattle.tabledata.specs.TableData.{elementsOf, truthWord}
 
@@ -80,7 +84,8 @@ hex-read s t n a e = reference-read (35 ∷ 120 ∷ []) s t a ∙ rw e
 
 character-read : {b : List ℕ} {c : ℕ} → Character b c → (t : List ℕ) → characters plain (b ++ t) ≡ consText c (characters plain t)
 unfolding characters step follow emitted expanded numeric named names same sized numeral hexadigit between after
-character-read (char-itself {b = b} h k) t = rw (ne-eqb b 60 h, ne-eqb b 38 k)
+character-read (char-itself {b = b} h k r) t = rw (ne-eqb b 60 h, ne-eqb b 38 k, ne-eqb b 13 r)
+character-read char-line-end t = return-goes-read (10 ∷ t) (unfold feedFirst in refl) ∙ feed-read t
 character-read char-amp t = refl
 character-read char-lt t = refl
 character-read char-gt t = refl
@@ -100,10 +105,17 @@ tag-begins s = refl
 close-read : {z : List ℕ} → Tag (bytes "</TD") (bytes ">") z → (rest : List ℕ) → characters plain (z ++ rest) ≡ good ([], rest)
 close-read (a-tag {w = w} h) rest = tag-begins _ ∙ rw (tag-read 10 {word = bytes "</TD"} (a-tag h) rest)
 
+-- what is no 10 in a cell's text is none where its tag follows
+no-feed : (s : List ℕ) {z : List ℕ} → ((t : List ℕ) → s ≡ 10 ∷ t → ⊥) → Tag (bytes "</TD") (bytes ">") z → (rest : List ℕ) → feedFirst (s ++ (z ++ rest)) ≡ false
+unfolding feedFirst
+no-feed [] n (a-tag h) rest = refl
+no-feed (b ∷ s) n h rest = ne-eqb b 10 (λ e. n s (ap (λ (x : ℕ). x ∷ s) e))
+
 pub characters-read : {b cs z : List ℕ} → Characters b cs → Tag (bytes "</TD") (bytes ">") z → (rest : List ℕ) → characters plain (b ++ (z ++ rest)) ≡ good (cs, rest)
 unfolding consText
 characters-read chars-end h rest = close-read h rest
 characters-read {z = z} (chars-then {b = b} {s = s} c r) h rest = rw (append-assoc, character-read c (s ++ (z ++ rest)), characters-read r h rest)
+characters-read {z = z} (chars-return {s = s} n r) h rest = return-alone-read (s ++ (z ++ rest)) (no-feed s n h rest) ∙ rw (characters-read r h rest)
 
 -- what stands between `&` and `;`
 expanded-is : (name : List ℕ) → Holds (Character (38 ∷ (name ++ (59 ∷ [])))) (expanded name)
@@ -155,17 +167,63 @@ ended w b c s p k h = record {
   closed = h .closed;
 }
 
-plain-is : (b : ℕ) (s : List ℕ) → ((v : Where) → Holds (InCell v s) (characters v s)) → Holds (InCell plain (b ∷ s)) (follow (step plain b) (b ∷ s) (λ v. characters v s))
-unfolding step follow consText close-TD
-plain-is b s ih =
-    cond-cases (λ (x : Step). Holds (InCell plain (b ∷ s)) (follow x (b ∷ s) (λ v. characters v s))) (eqb b 60) tagBegins (cond (eqb b 38) (goes (reference [])) (emit b))
+-- a line end: a 13 with no 10 behind it, and one with a 10
+alone : (s : List ℕ) (p : List ℕ × List ℕ) → feedFirst s ≡ false → InCell plain s p → InCell plain (13 ∷ s) (10 ∷ p .0, p .1)
+unfolding feedFirst
+alone s p f h = record {
+  body = 13 ∷ h .body;
+  close = h .close;
+  whole = ap (λ (t : List ℕ). 13 ∷ t) (h .whole);
+  spelled = chars-return (λ t e. false≢true (sym f ∙ ap feedFirst (h .whole ∙ ap (λ (u : List ℕ). u ++ (h .close ++ p .1)) e))) (h .spelled);
+  closed = h .closed;
+}
+
+paired : (s : List ℕ) (p : List ℕ × List ℕ) → InCell plain s p → InCell plain (13 ∷ 10 ∷ s) (10 ∷ p .0, p .1)
+paired s p h = record {
+  body = 13 ∷ 10 ∷ h .body;
+  close = h .close;
+  whole = ap (λ (t : List ℕ). 13 ∷ 10 ∷ t) (h .whole);
+  spelled = chars-then char-line-end (h .spelled);
+  closed = h .closed;
+}
+
+-- what is known behind the first byte of s
+abbrev Behind : List ℕ → Type 0
+Behind [] = Unit {0}
+Behind (c ∷ t) = Holds (InCell plain t) (characters plain t)
+
+return-is : (s : List ℕ) → Holds (InCell plain s) (characters plain s) → Behind s → Holds (InCell plain (13 ∷ s)) (characters plain (13 ∷ s))
+return-is s ih behind = go (feedFirst s) refl
+  where
+    single : feedFirst s ≡ false → Holds (InCell plain (13 ∷ s)) (characters plain (13 ∷ s))
+    single f = unfold consText in rw (return-alone-read s f) (holds-bind ih (λ p h. holds (alone s p f h)))
+
+    double : (s : List ℕ) → Behind s → feedFirst s ≡ true → Holds (InCell plain (13 ∷ s)) (characters plain (13 ∷ s))
+    double [] b f = absurd (false≢true (unfold feedFirst in f))
+    double (c ∷ t) b f = unfold consText feedFirst in
+        rw (eqb-true c 10 f, return-goes-read (10 ∷ t) refl, feed-read t) (holds-bind b (λ p h. holds (paired t p h)))
+
+    go : (x : Bool) → feedFirst s ≡ x → Holds (InCell plain (13 ∷ s)) (characters plain (13 ∷ s))
+    go true f = double s behind f
+    go false f = single f
+
+plain-is : (b : ℕ) (s : List ℕ) → ((v : Where) → Holds (InCell v s) (characters v s)) → Behind s → Holds (InCell plain (b ∷ s)) (characters plain (b ∷ s))
+plain-is b s ih behind =
+    first-cases (λ (c : ℕ). Holds (InCell plain (c ∷ s)) (characters plain (c ∷ s))) b s
+    (λ _. return-is s (ih plain) behind)
+    (λ _. return-is s (ih plain) behind)
+    (λ n. unfold characters step follow consText close-TD in
+    cond-cases Within (eqb b 60) tagBegins _
     (λ _. holds-bind (tag-is 10 (bytes "</TD") (b ∷ s)) (λ rest r. holds (record { body = []; close = r .taken; whole = r .whole; spelled = chars-end; closed = r .spelled })))
-    (λ lt. cond-cases (λ (x : Step). Holds (InCell plain (b ∷ s)) (follow x (b ∷ s) (λ v. characters v s))) (eqb b 38) (goes (reference [])) (emit b)
+    (λ lt. cond-cases Within (eqb b 38) (goes (reference [])) _
     (λ amp. holds-weaken (ih (reference [])) (λ p h. on plain (reference []) b s p (λ t. ap (λ (x : ℕ). x ∷ t) (sym (eqb-true b 38 amp))) h))
-    (λ amp. holds-bind (ih plain) (λ p h. holds (ended plain b b s p (char-itself (eqb-false b 60 lt) (eqb-false b 38 amp)) h))))
+    (λ amp. rw (ne-eqb b 13 n) (holds-bind (ih plain) (λ p h. holds (ended plain b b s p (char-itself (eqb-false b 60 lt) (eqb-false b 38 amp) n) h))))))
+  where
+    Within : Step → Type 0
+    Within x = Holds (InCell plain (b ∷ s)) (follow x (b ∷ s) (λ v. characters v s))
 
 reference-is : (name : List ℕ) (b : ℕ) (s : List ℕ) → ((v : Where) → Holds (InCell v s) (characters v s))
-    → Holds (InCell (reference name) (b ∷ s)) (follow (step (reference name) b) (b ∷ s) (λ v. characters v s))
+    → Holds (InCell (reference name) (b ∷ s)) (follow (step (reference name) b s) (b ∷ s) (λ v. characters v s))
 unfolding step follow consText
 reference-is name b s ih =
     cond-cases (λ (x : Step). Holds (InCell (reference name) (b ∷ s)) (follow x (b ∷ s) (λ v. characters v s))) (eqb b 59) (emitted (expanded name)) (goes (reference (name ++ (b ∷ []))))
@@ -179,7 +237,8 @@ reference-is name b s ih =
 characters-is : (w : Where) (s : List ℕ) → Holds (InCell w s) (characters w s)
 unfolding characters
 characters-is w [] = refuses
-characters-is plain (b ∷ s) = plain-is b s (λ v. characters-is v s)
+characters-is plain (b ∷ []) = plain-is b [] (λ v. characters-is v []) tt
+characters-is plain (b ∷ c ∷ s) = plain-is b (c ∷ s) (λ v. characters-is v (c ∷ s)) (characters-is plain s)
 characters-is (reference name) (b ∷ s) = reference-is name b s (λ v. characters-is v s)
 
 -- ---- a cell's text

@@ -3,7 +3,7 @@ use Prim.Native.Nat.{_*_, _+_, _-_, _<_, _^_, _≤_, suc, zero, ℕ}
 use native.Mathlib.Nat.{le-refl, mul-one, pow-le-pow-right, pow-succ', pow-zero}
 use native.Mathlib.Numerals.{add-one}
 use native.Mathlib.Omega.{arith}
-use mathlib.Core.Bool.{Bool, _&&_, _||_, and-false, cond, false, false≢true, true}
+use mathlib.Core.Bool.{Bool, _&&_, _||_, and-false, cond, false, true}
 use mathlib.Core.List.{List, [], _++_, _∷_, append-nil, map}
 use mathlib.Core.Path.{_∙_, _≡_, ap, ap₂, refl, subst, subst₂, sym}
 use lib.Arith.{digits-lt}
@@ -20,6 +20,7 @@ use Rattle.grammar.specs.Words.{word-minus, word-plain, word-plus, words
 use Rattle.number.specs.Number.{decimal, digit, hexadecimal, hexadigit, ofPattern, ranged, readInteger, withSign}
 use Rattle.number.proofs.Laws.{pow-16}
 use Rattle.table.proofs.Words.{word-cut, words-one}
+use Rattle.table.proofs.Bytes.{same-is}
 use Rattle.table.proofs.Laws.{IsWord, NoWhite, and-both, between-is, cond-cases, holds-bind, holds-cond, no-white, or-either, pieces-word}
 use Rattle.table.specs.All.{All}
 use Rattle.table.specs.Bytes.{between, bytes, isWhite, notEmpty, pieces, same, words}
@@ -170,15 +171,6 @@ capitals-is : (w s : List ℕ) → map lower s ≡ w → AnyCapitals w s
 capitals-is w [] e = subst (λ (x : List ℕ). AnyCapitals x []) e capitals-end
 capitals-is w (c ∷ s) e =
     subst (λ (x : List ℕ). AnyCapitals x (c ∷ s)) e (capitals-then (case-is (lower c) c refl) (capitals-is (map lower s) s refl))
-
-pub same-is : (s t : List ℕ) → same s t ≡ true → s ≡ t
-unfolding same
-same-is [] [] h = refl
-same-is [] (b ∷ t) h = absurd (false≢true h)
-same-is (a ∷ s) [] h = absurd (false≢true h)
-same-is (a ∷ s) (b ∷ t) h =
-    let k = and-both (eqb a b) (same s t) h in
-    ap₂ (λ (x : ℕ) (y : List ℕ). x ∷ y) (eqb-true a b (k .0)) (same-is s t (k .1))
 
 pub same-read : (s : List ℕ) → same s s ≡ true
 unfolding same

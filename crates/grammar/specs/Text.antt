@@ -19,8 +19,10 @@ use Rattle.table.specs.declared.Len.the-variants.{Bounded, Fixed, Free}
 
 -- which bytes spell a character of a cell: "text is XML 1.0"; 000, 6: "the normal rules for encoding XML text"
 pub data Character : List ℕ → ℕ → Type 0 where
-  -- "In a cell `<` may only begin `</TD`; `>` is itself." "A carriage return in the text is read as itself." `&` begins a reference.
-  char-itself : {b : ℕ} → (b ≡ byte "<" → ⊥) → (b ≡ byte "&" → ⊥) → Character (b ∷ []) b
+  -- "In a cell `<` may only begin `</TD`; `>` is itself." `&` begins a reference, 13 ends a line.
+  char-itself : {b : ℕ} → (b ≡ byte "<" → ⊥) → (b ≡ byte "&" → ⊥) → (b ≡ 13 → ⊥) → Character (b ∷ []) b
+  -- XML 1.0, 2.11: "the two-character sequence #xD #xA" is "a single #xA character"
+  char-line-end : Character (13 ∷ 10 ∷ []) 10
   -- "References: amp, lt, gt, quot, apos"
   char-amp : Character (bytes "&amp;") (byte "&")
   char-lt : Character (bytes "&lt;") (byte "<")
@@ -46,6 +48,8 @@ pub data Characters : List ℕ → List ℕ → Type 0 where
   chars-end : Characters [] []
   -- 000, 5.1: "no separator should exist"
   chars-then : {b s : List ℕ} {c : ℕ} {cs : List ℕ} → Character b c → Characters s cs → Characters (b ++ s) (c ∷ cs)
+  -- XML 1.0, 2.11: and so is "any #xD that is not followed by #xA"
+  chars-return : {s cs : List ℕ} → ((t : List ℕ) → s ≡ 10 ∷ t → ⊥) → Characters s cs → Characters (13 ∷ s) (10 ∷ cs)
 
 -- ---- elements
 

@@ -6,7 +6,7 @@ use mathlib.Core.Path.{_≡_, refl}
 use lib.Dec.{eqb}
 use borrow.Author.Tests.{eq-eqb, eqb-false, eqb-true, ne-eqb, not-true}
 use Rattle.table.proofs.Bytes.{between-no}
-use Rattle.table.proofs.Laws.{and-both, between-yes, or-either}
+use Rattle.table.proofs.Laws.{and-both, between-is, between-yes, or-either}
 use Rattle.table.specs.Bytes.{between, isWhite}
 use Rattle.tabledata.specs.Contracts.{isPlain}
 use Rattle.tabledata.specs.TableData.{isText}
@@ -36,12 +36,14 @@ white-text c h =
 
 -- ---- characters that stand for themselves
 
-pub plain-is : (c : ℕ) → isPlain c ≡ true → ((c ≡ 60 → ⊥) × (c ≡ 38 → ⊥)) × (isText c ≡ true)
+pub plain-is : (c : ℕ) → isPlain c ≡ true → ((c ≡ 60 → ⊥) × (c ≡ 38 → ⊥) × (c ≡ 13 → ⊥)) × (isText c ≡ true)
 unfolding isPlain isText
 plain-is c h =
     let a : (not (eqb c 38) && not (eqb c 60) ≡ true) × (between 32 127 c ≡ true) = and-both _ _ h in
-    let b : (not (eqb c 38) ≡ true) × (not (eqb c 60) ≡ true) = and-both _ _ (a .0) in
-    ((eqb-false c 60 (not-true (eqb c 60) (b .1)), eqb-false c 38 (not-true (eqb c 38) (b .0))), rw (a .1, or-true))
+    let b : (not (eqb c 38) ≡ true) × (not (eqb c 60) ≡ true) = and-both _ _ (a .0) in (
+      (eqb-false c 60 (not-true (eqb c 60) (b .1)), eqb-false c 38 (not-true (eqb c 38) (b .0)), λ e. omega (arith, between-is 32 127 c (a .1), e)),
+      rw (a .1, or-true),
+    )
 
 pub plain-yes : (c : ℕ) → (c ≡ 38 → ⊥) → (c ≡ 60 → ⊥) → 32 ≤ c → c ≤ 127 → isPlain c ≡ true
 unfolding isPlain

@@ -40,13 +40,13 @@ words-spaced (w ∷ v ∷ ws) a =
 -- ---- characters that stand for themselves
 
 pub record Plain (b : ℕ) : Type 0 where
-  pub itself : step plain b ≡ emit b
+  pub itself : (s : List ℕ) → step plain b s ≡ emit b
   pub text : isText b ≡ true
 
 plain-of : (b : ℕ) → 32 ≤ b → b ≤ 127 → (b ≡ 60 → ⊥) → (b ≡ 38 → ⊥) → Plain b
 unfolding step isText
 plain-of b h k x y =
-    record { itself = rw (ne-eqb b 60 x, ne-eqb b 38 y); text = rw (between-yes 32 127 b h k, or-true) }
+    record { itself = λ s. rw (ne-eqb b 60 x, ne-eqb b 38 y, ne-eqb b 13 (λ e. omega arith)); text = rw (between-yes 32 127 b h k, or-true) }
 
 all-text : (s : List ℕ) → All Plain s → allText s ≡ true
 unfolding allText
@@ -64,15 +64,15 @@ closed-read rest = refl
 pub plain-read : (s rest : List ℕ) → All Plain s → characters plain (s ++ closed rest) ≡ good (s, rest)
 unfolding characters follow consText
 plain-read [] rest a = closed-read rest
-plain-read (b ∷ s) rest a = rw (a .0 .itself, plain-read s rest (a .1))
+plain-read (b ∷ s) rest a = rw (a .0 .itself (s ++ closed rest), plain-read s rest (a .1))
 
 -- ---- the words of elements
 
 -- a word of characters that stand for themselves
-abbrev PlainWord : List ℕ → Type 0
+abbrev pub PlainWord : List ℕ → Type 0
 PlainWord w = IsWord w × All Plain w
 
-plain-digit : (b : ℕ) → IsDigit b → Plain b
+pub plain-digit : (b : ℕ) → IsDigit b → Plain b
 plain-digit b h = plain-of b (omega arith) (omega arith) (λ e. omega arith) (λ e. omega arith)
 
 digits-word : (n : ℕ) → PlainWord (digits 20 n)
@@ -81,7 +81,7 @@ digits-word n = (
   all-weaken _ _ (digits 20 n) plain-digit (digits-are 20 n .0),
 )
 
-shortest-word : (z : ℤ) → PlainWord (shortest z)
+pub shortest-word : (z : ℤ) → PlainWord (shortest z)
 unfolding shortest
 shortest-word (pos n) = digits-word n
 shortest-word (negsuc n) = (
@@ -92,14 +92,14 @@ shortest-word (negsuc n) = (
 letter-word : (b : ℕ) → 33 ≤ b → b ≤ 127 → (b ≡ 60 → ⊥) → (b ≡ 38 → ⊥) → PlainWord (b ∷ [])
 letter-word b h k x y = ((lit≤ tt, (no-white b h, tt)), (plain-of b (omega arith) k x y, tt))
 
-truth-word : (z : ℤ) → PlainWord (truthText z)
+pub truth-word : (z : ℤ) → PlainWord (truthText z)
 unfolding truthText truthByte
 truth-word (pos zero) = letter-word 70 (lit≤ tt) (lit≤ tt) (λ e. omega arith) (λ e. omega arith)
 truth-word (pos (suc zero)) = letter-word 84 (lit≤ tt) (lit≤ tt) (λ e. omega arith) (λ e. omega arith)
 truth-word (pos (suc (suc n))) = letter-word 63 (lit≤ tt) (lit≤ tt) (λ e. omega arith) (λ e. omega arith)
 truth-word (negsuc n) = letter-word 63 (lit≤ tt) (lit≤ tt) (λ e. omega arith) (λ e. omega arith)
 
-spaced-plain : (ws : List (List ℕ)) → All PlainWord ws → All Plain (spaced ws)
+pub spaced-plain : (ws : List (List ℕ)) → All PlainWord ws → All Plain (spaced ws)
 unfolding spaced
 spaced-plain [] a = tt
 spaced-plain (w ∷ []) a = a .0 .1
@@ -138,7 +138,7 @@ bit-read (pos (suc zero)) h = refl
 bit-read (pos (suc (suc n))) h = absurd (omega (arith, ltb-true (suc (suc n)) 2 h))
 bit-read (negsuc n) h = absurd (false≢true h)
 
-bit-is : (e : ℤ) → IsDigit (bitText e)
+pub bit-is : (e : ℤ) → IsDigit (bitText e)
 unfolding bitText
 bit-is (pos zero) = (lit≤ tt, lit≤ tt)
 bit-is (pos (suc zero)) = (lit≤ tt, lit≤ tt)
@@ -168,7 +168,7 @@ escape-read c t =
     cond-cases P (eqb c 38) _ _ (λ e. rw (eqb-true c 38 e)) (λ amp.
     cond-cases P (eqb c 60) _ _ (λ e. rw (eqb-true c 60 e)) (λ lt.
     cond-cases P (eqb c 62) _ _ (λ e. rw (eqb-true c 62 e)) (λ _.
-    cond-cases P (eqb c 13) _ _ (λ e. rw (eqb-true c 13 e)) (λ _. rw (lt, amp)))))
+    cond-cases P (eqb c 13) _ _ (λ e. rw (eqb-true c 13 e)) (λ return. rw (lt, amp, return)))))
   where
     P : List ℕ → Type 0
     P s = characters plain (s ++ t) ≡ consText c (characters plain t)
@@ -229,7 +229,7 @@ follow-le broken b s more h = refuses
 characters-le : (w : Where) (s : List ℕ) → AtMost (length s) (characters w s)
 unfolding characters
 characters-le w [] = refuses
-characters-le w (b ∷ s) = follow-le (step w b) b s (λ v. characters v s) (λ v. characters-le v s)
+characters-le w (b ∷ s) = follow-le (step w b s) b s (λ v. characters v s) (λ v. characters-le v s)
 
 cell-less : (s : List ℕ) → Holds (λ (p : List ℕ × List ℕ). length (p .1) < length s) (cellText s)
 unfolding cellText open-TD ends
@@ -364,7 +364,7 @@ module _ {P : ℕ → Type 0} (ten : P 10) where
   characters-fails : (w : Where) (s : List ℕ) → Fails P (characters w s)
   unfolding characters
   characters-fails w [] = fails ten
-  characters-fails w (b ∷ s) = follow-fails (step w b) (b ∷ s) (λ v. characters v s) (λ v. characters-fails v s)
+  characters-fails w (b ∷ s) = follow-fails (step w b s) (b ∷ s) (λ v. characters v s) (λ v. characters-fails v s)
 
   pub cell-fails : (s : List ℕ) → Fails P (cellText s)
   unfolding cellText ends

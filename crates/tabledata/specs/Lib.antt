@@ -1,2 +1,3 @@
 pub mod TableData
+pub mod LineEnds
 pub mod Contracts

@@ -9,6 +9,7 @@ use Rattle.number.specs.Number.{Fault, digit, hexadigit, readInteger, shortest,
 use Rattle.table.specs.Bytes.{after, between, byte, bytes, ends, same, skipWhite, tag, words}
 use Rattle.table.specs.Cell.{Cell, bound, emptyIsNull, null, roomFits, roomIn, show, shown, truthByte}
 use Rattle.table.specs.Contracts.{formBytes}
+use Rattle.table.specs.LineEnds.{feedFirst}
 use Rattle.table.specs.Result.{Result, _>>=_, bad, every, good, orElse, refusedAs}
 use Rattle.table.specs.Shape.{Bits, Shape, Text, Truths, Whole, last, shape}
 use Rattle.table.specs.declared.Column.{Column}
@@ -66,10 +67,15 @@ unfoldable pub emitted : Result ℕ ℕ → Step
 emitted (good c) = emit c
 emitted (bad n) = broken
 
--- "In a cell `<` may only begin `</TD`; `>` is itself." "A carriage return in the text is read as itself."
-unfoldable pub step : Where → ℕ → Step
-step plain b = cond (eqb b (byte "<")) tagBegins (cond (eqb b (byte "&")) (goes (reference [])) (emit b))
-step (reference name) b = cond (eqb b (byte ";")) (emitted (expanded name)) (goes (reference (name ++ (b ∷ []))))
+-- XML 1.0, 2.11: "translating both the two-character sequence #xD #xA and any #xD that is not followed by #xA to a single #xA character".
+-- A literal 13 with s behind it: before a 10 it goes, and any other is a 10. "only a numeric reference gives 13"
+unfoldable pub lineEnd : List ℕ → Step
+lineEnd s = cond (feedFirst s) (goes plain) (emit 10)
+
+-- a byte with s behind it: "In a cell `<` may only begin `</TD`; `>` is itself."
+unfoldable pub step : Where → ℕ → List ℕ → Step
+step plain b s = cond (eqb b (byte "<")) tagBegins (cond (eqb b (byte "&")) (goes (reference [])) (cond (eqb b 13) (lineEnd s) (emit b)))
+step (reference name) b s = cond (eqb b (byte ";")) (emitted (expanded name)) (goes (reference (name ++ (b ∷ []))))
 
 unfoldable pub consText : ℕ → Result ℕ (List ℕ × List ℕ) → Result ℕ (List ℕ × List ℕ)
 consText c r = r >>= λ p. good (c ∷ p .0, p .1)
@@ -84,7 +90,7 @@ follow broken s more = bad 10
 -- characters up to the end tag, and what follows that
 unfoldable pub characters : Where → List ℕ → Result ℕ (List ℕ × List ℕ)
 characters w [] = bad 10
-characters w (b ∷ s) = follow (step w b) (b ∷ s) (λ v. characters v s)
+characters w (b ∷ s) = follow (step w b s) (b ∷ s) (λ v. characters v s)
 
 -- a cell after white space; "`<TD/>` is empty."
 unfoldable pub cellText : List ℕ → Result ℕ (List ℕ × List ℕ)

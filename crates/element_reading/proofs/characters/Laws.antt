@@ -3,13 +3,16 @@
 use Prim.Native.Nat.{_+_, _-_, _<_, _≤_, suc, ℕ}
 use native.Mathlib.Omega.{arith}
 use mathlib.Core.List.{List, [], _++_, _∷_}
+use mathlib.Core.Bool.{false}
 use mathlib.Core.Path.{_∙_, _≡_, ap, refl}
 use lib.ListN.{drop, getD, length, length-drop, take}
 use lib.Seq.{getD-drop, take-suc}
 use borrow.Author.Tests.{eq-eqb, ne-eqb}
 use Rattle.table.proofs.Places.{done, next1}
 use Rattle.table.specs.Bytes.{after, bytes, ends, isWhite, skipWhite, tag}
+use Rattle.table.specs.LineEnds.{feedFirst}
 use Rattle.table.specs.Result.{Result, bad, good}
+use Rattle.tabledata.proofs.LineEnds.{feed-read, return-alone-read, return-goes-read}
 use Rattle.tabledata.specs.TableData.{Where, characters, close-TD, consText, emitted, expanded, follow, plain, reference, step}
 use Rattle.element_reading.specs.Characters.{TextEnds, ItemIs, NameIs, charactersOf, ended, referred, spoiledNumber}
 use Rattle.element_reading.specs.declared.characters.Item.the-variants.{Code, End}
@@ -93,9 +96,13 @@ module _ (s : List ℕ) (i : ℕ) where
   unfolding characters step follow
   text-reference h n e = rw (next1 s i h) (rw (ne-eqb (getD s i 0) 60 n, eq-eqb (getD s i 0) 38 e))
 
-  text-plain : i < length s → (getD s i 0 ≡ 60 → ⊥) → (getD s i 0 ≡ 38 → ⊥) → characters plain (drop i s) ≡ consText (getD s i 0) (characters plain (drop (i + 1) s))
+  text-plain : i < length s → (getD s i 0 ≡ 60 → ⊥) → (getD s i 0 ≡ 38 → ⊥) → (getD s i 0 ≡ 13 → ⊥)
+      → characters plain (drop i s) ≡ consText (getD s i 0) (characters plain (drop (i + 1) s))
   unfolding characters step follow
-  text-plain h n e = rw (next1 s i h) (rw (ne-eqb (getD s i 0) 60 n, ne-eqb (getD s i 0) 38 e))
+  text-plain h n e r = rw (next1 s i h) (rw (ne-eqb (getD s i 0) 60 n, ne-eqb (getD s i 0) 38 e, ne-eqb (getD s i 0) 13 r))
+
+  pub text-return : i < length s → getD s i 0 ≡ 13 → characters plain (drop i s) ≡ characters plain (13 ∷ drop (i + 1) s)
+  text-return h e = ap (characters plain) (next1 s i h ∙ ap (λ (b : ℕ). b ∷ drop (i + 1) s) e)
 
   pub plain-end : i ≤ length s → length s ≤ i → ItemIs Plain (charactersOf Plain (drop i s)) s i (End i)
   plain-end l h = record { found = rw (done s i h); within = (omega arith, omega arith) }
@@ -110,11 +117,37 @@ module _ (s : List ℕ) (i : ℕ) where
     within = (omega arith, omega arith);
   }
 
-  -- a byte that neither begins a tag nor a reference stands for itself, wherever it is read
-  pub itself : (source : Source) → i < length s → (getD s i 0 ≡ 60 → ⊥) → (getD s i 0 ≡ 38 → ⊥)
+  -- a byte that begins no tag, no reference and no line end stands for itself, wherever it is read
+  pub itself : (source : Source) → i < length s → (getD s i 0 ≡ 60 → ⊥) → (getD s i 0 ≡ 38 → ⊥) → (getD s i 0 ≡ 13 → ⊥)
       → charactersOf source (drop i s) ≡ consText (getD s i 0) (charactersOf source (drop (i + 1) s))
-  itself Markup h n e = text-plain h n e
-  itself Plain h n e = plain-more h
+  itself Markup h n e r = text-plain h n e r
+  itself Plain h n e r = plain-more h
+
+-- ---- a line end, from its 13 on
+
+module _ (s : List ℕ) (i : ℕ) (h : i < length s) where
+  -- a 13 with no 10 behind it
+  pub return-alone-item : feedFirst (drop (i + 1) s) ≡ false → ItemIs Markup (characters plain (13 ∷ drop (i + 1) s)) s i (Code 10 (i + 1))
+  return-alone-item f = record { found = return-alone-read (drop (i + 1) s) f; within = (omega arith, omega arith) }
+
+  pub return-last : length s ≤ i + 1 → feedFirst (drop (i + 1) s) ≡ false
+  unfolding feedFirst
+  return-last k = rw (done s (i + 1) k)
+
+  module _ (k : i + 1 < length s) where
+    pub return-other : (getD s (i + 1) 0 ≡ 10 → ⊥) → feedFirst (drop (i + 1) s) ≡ false
+    unfolding feedFirst
+    return-other n = rw (next1 s (i + 1) k) (ne-eqb (getD s (i + 1) 0) 10 n)
+
+    -- a 13 with a 10 behind it
+    pub return-feed-item : getD s (i + 1) 0 ≡ 10 → ItemIs Markup (characters plain (13 ∷ drop (i + 1) s)) s i (Code 10 (i + 1 + 1))
+    unfolding feedFirst
+    return-feed-item e = record {
+      found =
+          let t : drop (i + 1) s ≡ 10 ∷ drop (i + 1 + 1) s = next1 s (i + 1) k ∙ ap (λ (b : ℕ). b ∷ drop (i + 1 + 1) s) e in
+          return-goes-read (drop (i + 1) s) (ap feedFirst t) ∙ ap (characters plain) t ∙ feed-read (drop (i + 1 + 1) s);
+      within = (omega arith, omega arith);
+    }
 
 pub ended-by : {s : List ℕ} {i next : ℕ} → TagIs (λ n. tag n (bytes "</TD") (drop i s)) s i (At next) → ItemIs Markup (ended (drop i s)) s i (End next)
 unfolding ended close-TD

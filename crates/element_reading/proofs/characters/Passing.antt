@@ -91,7 +91,7 @@ pub passed-code : {source : Source} {s : List ℕ} {i j c : ℕ} → charactersO
 passed-code {source} {s} {j = j} {c = c} e t = record { passes = λ g. ap (onward g) e ∙ onward-code g c (charactersOf source (drop j s)); text = text-one c t }
 
 pub passed-plain : (source : Source) (s : List ℕ) (i : ℕ) → i < length s → isPlain (getD s i 0) ≡ true → Passed source s i (i + 1) (getD s i 0 ∷ [])
-passed-plain source s i h p = let q = plain-is (getD s i 0) p in passed-code (itself s i source h (q .0 .0) (q .0 .1)) (q .1)
+passed-plain source s i h p = let q = plain-is (getD s i 0) p in passed-code (itself s i source h (q .0 .0) (q .0 .1) (q .0 .2)) (q .1)
 
 pub no-text : {source : Source} {s : List ℕ} {i c next : ℕ} → ItemIs source (charactersOf source (drop i s)) s i (Code c next) → isText c ≡ false → NoTextAt source s i next
 no-text {source} {s} {c = c} {next = next} t h = record {

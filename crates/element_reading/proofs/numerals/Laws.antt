@@ -157,7 +157,7 @@ module _ {k : Integer} {source : Source} {s : List 鈩晑 {from end : 鈩晑 {z : 鈩
       let both = and-both (ltb end (length s)) (eqb (getD s end 0) 32) b in
       let h = ltb-true end (length s) (both .0) in let e = eqb-true (getD s end 0) 32 (both .1) in
       let t : ItemIs source (charactersOf source (drop end s)) s end (Code (getD s end 0) (end + 1)) = record {
-        found = itself s end source h (位 x. omega (arith, e, x)) (位 x. omega (arith, e, x));
+        found = itself s end source h (位 x. omega (arith, e, x)) (位 x. omega (arith, e, x)) (位 x. omega (arith, e, x));
         within = (omega arith, omega arith);
       } in
       word-cuts quick-to t (ap isText e) (ap isWhite e)

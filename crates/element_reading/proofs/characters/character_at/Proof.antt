@@ -2,7 +2,7 @@
 use native.Mathlib.Omega.{arith}
 use borrow.Author.Needs.{needs}
 use denote.Ref.{now}
-use Rattle.element_reading.proofs.characters.Laws.{item-from, itself, plain-code, plain-end, text-end, text-reference, text-tag}
+use Rattle.element_reading.proofs.characters.Laws.{item-from, itself, plain-code, plain-end, text-end, text-reference, text-return, text-tag}
 use Rattle.element_reading.proofs.characters.character_at.Statement.{statement}
 use Rattle.element_reading.proofs.characters.character_at.Tie as tie
 
@@ -36,13 +36,27 @@ returns-6 c =
     let at-if3 = c .before .before in let a = at-if3 .before .before .before .before .before .args in
     rw (c .enum-told6 .given .1) (plain-code (now (a .s)) (a .at) 38 (omega arith) (at-if3 .if3 .taken))
 
-cast-t15 : tie.Need-cast-t15
-cast-t15 c = omega (arith, c .before .before .shared-slice-known2 .given (c .before .before .before .before .before .args .at))
-
 returns-7 : tie.Need-returns-7
 returns-7 c =
-    let a = c .before .before .before .before .before .args in
-    record { found = itself (now (a .s)) (a .at) (a .source) (omega arith) (c .before .if2 .left) (c .if3 .left); within = (omega arith, omega arith) }
+    let at-if4 = c .before .before .before in let at-if2 = at-if4 .before .before in let a = at-if2 .before .before .before .before .args in
+    rw (c .before .enum-told7 .given .1)
+    (item-from _ (omega arith) (text-return (now (a .s)) (a .at) (omega arith) (at-if4 .if4 .taken)) (c .line-end .ensures))
+
+returns-8 : tie.Need-returns-8
+returns-8 c =
+    let at-if4 = c .before .before in let a = at-if4 .before .before .before .before .before .before .args in
+    rw (c .enum-told8 .given .1) (plain-code (now (a .s)) (a .at) 13 (omega arith) (at-if4 .if4 .taken))
+
+cast-t17 : tie.Need-cast-t17
+cast-t17 c = omega (arith, c .before .before .before .shared-slice-known2 .given (c .before .before .before .before .before .before .args .at))
+
+returns-9 : tie.Need-returns-9
+returns-9 c =
+    let a = c .before .before .before .before .before .before .args in
+    record {
+      found = itself (now (a .s)) (a .at) (a .source) (omega arith) (c .before .before .if2 .left) (c .before .if3 .left) (c .if4 .left);
+      within = (omega arith, omega arith);
+    }
 
 pub character-at-spec : {M : Type 1} → statement M
 character-at-spec =
@@ -66,6 +80,12 @@ character-at-spec =
     (λ c. search needs)
     returns-5
     returns-6
-    cast-t15
     (λ c. search needs)
-    returns-7)
+    (λ c κs. search needs)
+    (λ c. search needs)
+    (λ c. search needs)
+    returns-7
+    returns-8
+    cast-t17
+    (λ c. search needs)
+    returns-9)
