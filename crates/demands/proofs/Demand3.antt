@@ -142,7 +142,7 @@ unfolding convert
 unseen-call decls to cs s t out d l h = ap (λ (o : Outcome). ending o out) (unseen-of decls to cs s t (length out) d l h)
 
 -- two calls that come to one outcome: what their buffers held is not seen
-same-ending : (o w : Outcome) (p q : List ℕ) → w ≡ o → SameOutput (ending o p) (ending w q)
+pub same-ending : (o w : Outcome) (p q : List ℕ) → w ≡ o → SameOutput (ending o p) (ending w q)
 same-ending o w p q e =
     record { same-answer = unfold ending in rw e; same-bytes = output-of w q ∙ ap written e ∙ sym (output-of o p) }
 

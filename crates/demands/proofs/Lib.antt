@@ -8,5 +8,6 @@ pub mod Demand1
 pub mod OnlyOne
 pub mod Demand2
 pub mod Demand3
+pub mod LineEnds
 pub mod Hidden
 pub mod Wrong

@@ -2,3 +2,4 @@ pub mod Tables
 pub mod Demands
 pub mod Places
 pub mod Cases
+pub mod LineEnds

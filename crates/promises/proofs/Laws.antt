@@ -2,7 +2,6 @@
 use Prim.Native.Nat.{_<_, _≤_, ℕ}
 use native.Mathlib.Nat.{le-refl}
 use native.Mathlib.Omega.{arith}
-use mathlib.Core.Bool.{true}
 use mathlib.Core.List.{List, [], _∷_}
 use mathlib.Core.Option.{Option, none, some}
 use mathlib.Core.Path.{_∙_, _≡_, ap, ap₂, refl, subst, subst⁻¹, sym}
@@ -10,9 +9,9 @@ use lib.ListN.{getD, length, length-append, take}
 use Rattle.demands.proofs.Demand1.{bytes-of, demand1, output-of}
 use Rattle.demands.proofs.Demand2.{demand2, lines-written}
 use Rattle.demands.proofs.Demand3.{demand3}
+use Rattle.demands.proofs.LineEnds.{processor-unseen}
 use Rattle.demands.proofs.Writing.{up-to-all}
 use Rattle.demands.specs.Demands.{SameFate, SameOutput, output}
-use Rattle.demands.specs.Places.{showsAt}
 use Rattle.demands.specs.Tables.{lines, upTo}
 use Rattle.fields.specs.Fields.{declare}
 use Rattle.grammar.proofs.ColumnsRead.{declares-read}
@@ -30,6 +29,7 @@ use Rattle.sailmortar.proofs.Numbers.{known, no-source, no-target}
 use Rattle.sailmortar.specs.Face.{Faced, betweenKinds, convertFace, faced, five, noSuchKind, rowsOf}
 use Rattle.table.specs.All.{AreBytes}
 use Rattle.table.specs.Cell.{Cell}
+use Rattle.table.specs.LineEnds.{lineEnds}
 use Rattle.table.specs.Outcome.{Call, Outcome, accepted, answerOf, bufferOf, ending, written}
 use Rattle.table.specs.Result.{good}
 use Rattle.table.specs.declared.Column.{Column}
@@ -103,6 +103,9 @@ module _ (decls : List ℕ) (from to : ℕ) (input out : List ℕ) {numbers exit
       record {
         exactly = accepts-exactly decls source target input out a;
         means = λ cs q. demand2 .means decls source target input out cs q a;
+        handed-on = λ t.
+            subst⁻¹ (λ (k : Rows). lineEnds (output (convert decls source k input out)) ≡ output (convert decls source k input out)) t
+            (processor-unseen .behind decls source input out);
         spelled = writes-spelled decls source target input out a;
         all-rows = accepts-rows decls source target input out;
       }
@@ -131,33 +134,23 @@ unfolding output callOf
 nothing-written numbers exit e = rw e
 
 module _ (decls : List ℕ) (to : ℕ) (first second : Made) (h : MadeBy decls to first) (k : MadeBy decls to second) where
-  module _ (e : first .from ≡ 2) (f : second .from ≡ 2) where
-    -- two calls that are the same but for what their buffers held
-    same-calls : (target : Rows) → rowsOf to ≡ some target
-        → SameOutput (convert decls Binary2 target (first .input) (first .entry)) (convert decls Binary2 target (second .input) (second .entry)) → SameMade first second
-    unfolding faced
-    same-calls target t s =
-        let one = faces-convert decls (first .from) to (first .input) (first .entry) h Binary2 target (ap rowsOf e ∙ binary2-named) t in
-        let other = faces-convert decls (second .from) to (second .input) (second .entry) k Binary2 target (ap rowsOf f ∙ binary2-named) t in (
-          other .numbers-are ∙ ap five (s .same-answer) ∙ sym (one .numbers-are),
-          ap output (call-is _ other) ∙ s .same-bytes ∙ sym (ap output (call-is _ one)),
-        )
-
-    -- the target's number names none
-    same-refusals : rowsOf to ≡ none → SameMade first second
-    same-refusals t =
-        let one = unnamed decls (first .from) to (first .input) (first .entry) h .no-target t .0 in
-        let other = unnamed decls (second .from) to (second .input) (second .entry) k .no-target t .0 in
-        (other ∙ sym one, nothing-written (second .numbers) (second .exit) other ∙ sym (nothing-written (first .numbers) (first .exit) one))
-
-    same-unseen : length (second .entry) ≡ length (first .entry) → (cs : List Column) → declare decls ≡ good cs → length (second .input) ≡ length (first .input)
-        → ((i : ℕ) → i < length (first .input) → showsAt cs (first .input) i ≡ true → getD (second .input) i 0 ≡ getD (first .input) i 0) → SameMade first second
-    same-unseen g cs q l unseen = by-target (rowsOf to) refl
-      where
-        by-target : (o : Option Rows) → rowsOf to ≡ o → SameMade first second
-        by-target none t = same-refusals t
-        by-target (some target) t =
-            same-calls target t (demand3 .unseen-bytes decls target cs (first .input) (second .input) (first .entry) (second .entry) q l g unseen)
+  -- two calls from one kind of rows, that are the same but for what their buffers held, whatever the target's number names
+  same-made : (source : Rows) → rowsOf (first .from) ≡ some source → rowsOf (second .from) ≡ some source
+      → ((target : Rows) → SameOutput (convert decls source target (first .input) (first .entry)) (convert decls source target (second .input) (second .entry)))
+      → SameMade first second
+  same-made source e f same = by-target (rowsOf to) refl
+    where
+      by-target : (o : Option Rows) → rowsOf to ≡ o → SameMade first second
+      by-target none t =
+          let one = unnamed decls (first .from) to (first .input) (first .entry) h .no-target t .0 in
+          let other = unnamed decls (second .from) to (second .input) (second .entry) k .no-target t .0 in
+          (other ∙ sym one, nothing-written (second .numbers) (second .exit) other ∙ sym (nothing-written (first .numbers) (first .exit) one))
+      by-target (some target) t = unfold faced in
+          let one = faces-convert decls (first .from) to (first .input) (first .entry) h source target e t in
+          let other = faces-convert decls (second .from) to (second .input) (second .entry) k source target f t in (
+            other .numbers-are ∙ ap five (same target .same-answer) ∙ sym (one .numbers-are),
+            ap output (call-is _ other) ∙ same target .same-bytes ∙ sym (ap output (call-is _ one)),
+          )
 
   pub nothing-else : AreBytes (first .input) → AreBytes (second .input) → NothingElse decls to first second
   nothing-else a b =
@@ -168,7 +161,13 @@ module _ (decls : List ℕ) (to : ℕ) (first second : Made) (h : MadeBy decls t
             (subst⁻¹ (SameFate target cs xs (rowOf source first i) (rowOf other second j) (c .before) (d .before) (convert decls source target (first .input) (first .entry)))
             (is-convert decls (second .from) to (second .input) (second .entry) k other target o t)
             (demand3 .same-rows decls target cs xs (rowOf source first i) (rowOf other second j) q a b c d));
-        unseen-bytes = same-unseen;
+        unseen-bytes = λ e f g cs q l unseen.
+            same-made Binary2 (ap rowsOf e ∙ binary2-named) (ap rowsOf f ∙ binary2-named) (λ target.
+            demand3 .unseen-bytes decls target cs (first .input) (second .input) (first .entry) (second .entry) q l g unseen);
+        line-ends = λ e f g l q.
+            same-made TableData (ap rowsOf e ∙ text-named) (ap rowsOf f ∙ text-named) (λ target.
+            subst⁻¹ (λ (t : List ℕ). SameOutput (convert decls TableData target (first .input) (first .entry)) (convert decls TableData target t (second .entry))) q
+            (processor-unseen .in-front decls target (first .input) (first .entry) (second .entry) l g));
       }
 
 -- ---- there and back

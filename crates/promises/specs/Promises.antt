@@ -20,7 +20,8 @@ use Rattle.rows.specs.Stream.{read}
 use Rattle.sailmortar.specs.Face.{rowsOf}
 use Rattle.table.specs.All.{AreBytes}
 use Rattle.table.specs.Cell.{Cell}
-use Rattle.table.specs.Outcome.{Call, accepted, at, ending, mostNumber, refused}
+use Rattle.table.specs.LineEnds.{lineEnds}
+use Rattle.table.specs.Outcome.{Call, accepted, at, ending, mostInput, mostNumber, refused}
 use Rattle.table.specs.Result.{good}
 use Rattle.table.specs.declared.Answer.{Answer}
 use Rattle.table.specs.declared.Column.{Column}
@@ -65,6 +66,8 @@ pub record MeansWhatWasRead (decls input out : List ℕ) (c : Call) (from to : R
   pub exactly : Accepted c ↔ InGrammar decls from to input (length out)
   -- "means what the row it read means": what is written reads back as the rows that were read, accepted or refused later
   pub means : (cs : List Column) → declare decls ≡ good cs → read to cs (output c) ≡ upTo (c .answer .rows) (read from cs input)
+  -- 02, #105: "what we wrote reads as before": an XML processor hands on what is written as TABLEDATA as it stands
+  pub handed-on : to ≡ TableData → lineEnds (output c) ≡ output c
   -- accepted: the output spells, in the target's grammar, the rows that the input spells, all of them
   pub spelled : (g : InGrammar decls from to input (length out)) → Spells to (g .columns) (output c) (g .rows)
   pub all-rows : (g : InGrammar decls from to input (length out)) → c .answer .rows ≡ length (g .rows)
@@ -102,6 +105,10 @@ pub record NothingElse (decls : List ℕ) (to : ℕ) (first second : Made) : Typ
   pub unseen-bytes : first .from ≡ 2 → second .from ≡ 2 → length (second .entry) ≡ length (first .entry) → (cs : List Column) → declare decls ≡ good cs
       → length (second .input) ≡ length (first .input)
       → ((i : ℕ) → i < length (first .input) → showsAt cs (first .input) i ≡ true → getD (second .input) i 0 ≡ getD (first .input) i 0)
+      → (second .numbers ≡ first .numbers) × (output (callOf (second .numbers) (second .exit)) ≡ output (callOf (first .numbers) (first .exit)))
+  -- 02, #105: "a literal 13 10, or a 13 alone, is handed on as one 10": TABLEDATA, and what an XML processor in front hands on of it
+  pub line-ends : first .from ≡ 0 → second .from ≡ 0 → length (second .entry) ≡ length (first .entry) → length (first .input) ≤ mostInput
+      → second .input ≡ lineEnds (first .input)
       → (second .numbers ≡ first .numbers) × (output (callOf (second .numbers) (second .exit)) ≡ output (callOf (first .numbers) (first .exit)))
 
 -- ---- there and back

@@ -1,4 +1,5 @@
 pub mod Sequences
+pub mod LineEnds
 pub mod Laws
 pub mod Calls
 pub mod Pieces

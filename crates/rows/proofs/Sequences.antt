@@ -1,16 +1,16 @@
 -- Laws of a stream over any row reader whose rows take at least a byte: the bound on rows never ends it, so it is its first row and what the
--- rest says; what holds of each row, or of each refusal, holds of the stream.
-use Prim.Native.Nat.{_<_, suc, zero, ℕ}
+-- rest says; what holds of each row, or of each refusal, holds of the stream; two texts whose rows are read alike say the same.
+use Prim.Native.Nat.{_<_, _≤_, suc, zero, ℕ}
 use native.Mathlib.Nat.{not-suc-le-zero}
 use native.Mathlib.Omega.{arith}
 use mathlib.Core.Bool.{Bool, cond}
 use mathlib.Core.List.{List}
-use mathlib.Core.Path.{_≡_, ap, refl}
+use mathlib.Core.Path.{_∙_, _≡_, ap, refl, sym}
 use lib.ListN.{length}
 use Rattle.rows.specs.Sequence.{Sequence, finished, row, rowThen, sequence, sequenceF, stopped}
 use Rattle.table.proofs.Laws.{cond-cases, holds-weaken}
 use Rattle.table.specs.Outcome.{Refusal, at}
-use Rattle.table.specs.Result.{Fails, Holds, Result, bad, fails, good, holds, refuses}
+use Rattle.table.specs.Result.{Fails, Holds, Result, _>>=_, bad, fails, good, holds, refuses}
 
 module _ {A : Type 0} where
   -- every row of a stream has the property
@@ -66,6 +66,28 @@ module _ {A : Type 0} where
           ap (cond (ended s) finished)
           (then-same (next s) (λ rest. sequenceF (length s) ended next rest) (sequence ended next)
           (holds-weaken (less s) (λ p h. sequence-fuel (length s) (p .1) h)))
+
+    -- a text and what g makes of it, whose rows are read alike: they say the same
+    module _ (g : List ℕ → List ℕ) (end-alike : (s : List ℕ) → ended (g s) ≡ ended s)
+        (row-alike : (s : List ℕ) → next (g s) ≡ (next s >>= λ p. good (p .0, g (p .1)))) where
+      then-alike : (r : Result Refusal (A × List ℕ)) (more : List ℕ → Sequence A) → ((s : List ℕ) → more (g s) ≡ more s)
+          → rowThen (r >>= λ p. good (p .0, g (p .1))) more ≡ rowThen r more
+      unfolding rowThen
+      then-alike (good p) more h = ap (row (p .0)) (h (p .1))
+      then-alike (bad e) more h = refl
+
+      alike-within : (f : ℕ) (s : List ℕ) → sequenceF f ended next (g s) ≡ sequenceF f ended next s
+      unfolding sequenceF
+      alike-within zero s = refl
+      alike-within (suc f) s =
+          rw (end-alike s, row-alike s)
+          (ap (cond (ended s) finished) (then-alike (next s) (λ rest. sequenceF f ended next rest) (alike-within f)))
+
+      pub sequence-alike : ((s : List ℕ) → Holds (λ (p : A × List ℕ). length (p .1) < length s) (next s)) → ((s : List ℕ) → length (g s) ≤ length s)
+          → (s : List ℕ) → sequence ended next (g s) ≡ sequence ended next s
+      sequence-alike less shorter s =
+          sym (sequence-fuel less (suc (length s)) (g s) (omega (arith, shorter s)))
+          ∙ (unfold sequence in alike-within (suc (length s)) s)
 
     module _ (P : A → Type 0) (In : List ℕ → Type 0) (each : (s : List ℕ) → In s → Holds (λ (p : A × List ℕ). P (p .0) × In (p .1)) (next s)) where
       all-within : (f : ℕ) (s : List ℕ) → In s → AllRows P (sequenceF f ended next s)
