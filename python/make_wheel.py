@@ -3,6 +3,7 @@
 import base64
 import hashlib
 import pathlib
+import platform
 import re
 import zipfile
 from typing import Dict, List, Optional
@@ -11,7 +12,7 @@ ROOT = pathlib.Path(__file__).resolve().parent.parent
 MODULE = ROOT / "python" / "sailmortar.py"
 LIBRARY = ROOT / "target" / "library" / "libsailmortar.so.0"
 STAMP = LIBRARY.with_name("stamp")  # The last thing that a build writes, and the first that it removes.
-TAG = "py3-none-linux_x86_64"  # Any Python 3: the library knows nothing of Python.
+TAG = f"py3-none-linux_{platform.machine()}"  # Any Python 3: the library knows nothing of Python.
 
 
 def build_wheel(wheel_directory: str, config_settings: Optional[dict] = None, metadata_directory: Optional[str] = None) -> str:

@@ -11,7 +11,7 @@ use std::process::{exit, Command, Output};
 use std::time::SystemTime;
 
 /// What the products are made of: files and whole folders.
-const SOURCES: [&str; 5] = ["crates", "crates.txt", "include/sailmortar.h", "tool/build.rs", "tool/version.c"];
+const SOURCES: [&str; 6] = ["crates", "crates.txt", "include/sailmortar.h", "tool/aarch64", "tool/build.rs", "tool/version.c"];
 
 const ARCHIVE: &str = "libsailmortar.a";
 /// The shared library by its soname, whose number goes up when programs that are linked to the old one cannot run with the new one.
@@ -35,13 +35,24 @@ fn main() {
     link(&library);
 }
 
-/// The archive is machine code for one kind of machine.
+/// The archive is machine code: for x86_64, as the toolchain makes it, or on an aarch64 for that machine itself.
 fn refuse_other_machines() {
     let of = |name| env::var(name).unwrap_or_default();
     let (machine, system) = (of("CARGO_CFG_TARGET_ARCH"), of("CARGO_CFG_TARGET_OS"));
-    if machine != "x86_64" || system != "linux" {
+    let of_host = of("HOST").starts_with(&machine);
+    if system != "linux" || !(machine == "x86_64" || machine == "aarch64" && of_host) {
         give_up(&format!("The Rattle toolchain makes archives for x86_64 linux; this build is for {machine} {system}."));
     }
+}
+
+/// The folder that rt takes for its toolchain's, where that is not its own: on aarch64, whose archive the toolchain does not make by itself.
+fn toolchain_for_this_machine(root: &Path) -> Option<PathBuf> {
+    if env::var("CARGO_CFG_TARGET_ARCH").is_ok_and(|machine| machine == "x86_64") {
+        return None;
+    }
+    let folder = root.join("target/library/kit");
+    run(Command::new(root.join("tool/aarch64/kit")).arg(&folder), "lay out a toolchain for aarch64");
+    Some(folder)
 }
 
 /// Cargo runs this again when one of these is changed or gone.
@@ -165,12 +176,15 @@ fn prove(root: &Path) {
     let listed = root.join("crates.txt");
     let text = done(fs::read_to_string(&listed), "read", &listed);
     let beneath = text.lines().find_map(|line| line.strip_prefix("sailmortar:")).unwrap_or_default();
-    ask_rt(root, &[&["check"], &beneath.split_whitespace().collect::<Vec<_>>()[..]].concat());
-    ask_rt(root, &["staticlib", "sailmortar"]);
+    ask_rt(root, Command::new("rt").arg("check").args(beneath.split_whitespace()));
+    let mut archive = Command::new("rt");
+    archive.args(["staticlib", "sailmortar"]).envs(toolchain_for_this_machine(root).map(|folder| ("RATTLE_HOME", folder)));
+    ask_rt(root, &mut archive);
 }
 
-fn ask_rt(root: &Path, words: &[&str]) {
-    match Command::new("rt").args(words).current_dir(root).output() {
+fn ask_rt(root: &Path, command: &mut Command) {
+    let words = command.get_args().map(|word| word.to_string_lossy().into_owned()).collect::<Vec<_>>();
+    match command.current_dir(root).output() {
         Ok(output) if output.status.success() => {}
         Ok(output) => give_up(&format!(
             "{}\n'rt {}' did not prove the converter ({}), and only a proved converter is built. What it said stands above.",

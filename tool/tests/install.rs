@@ -280,6 +280,7 @@ fn the_library_is_dated_no_later_than_its_newest_source() {
     let root = Path::new(ROOT);
     let date = |place: &PathBuf| fs::metadata(place).and_then(|data| data.modified()).expect("a date");
     let mut sources = files(&root.join("crates"));
+    sources.extend(files(&root.join("tool/aarch64")));
     sources.extend(["crates.txt", "include/sailmortar.h", "tool/build.rs", "tool/version.c"].map(|source| root.join(source)));
     let newest = sources.iter().map(date).max().expect("a source");
     for product in ["libsailmortar.a", "libsailmortar.so.0", "libsailmortar.so"] {
