@@ -2,7 +2,7 @@
 use Prim.Native.Nat.{_≤_, suc, ℕ}
 use native.Mathlib.Nat.{le-refl}
 use native.Mathlib.Omega.{arith}
-use mathlib.Core.Bool.{Bool, _&&_, _||_, cond, false, false≢true, or-true, true}
+use mathlib.Core.Bool.{Bool, _&&_, _||_, false, false≢true, or-true, true}
 use mathlib.Core.List.{List, [], _++_, _∷_, append-assoc, append-nil}
 use mathlib.Core.Path.{_∙_, _≡_, ap, refl, subst, sym}
 use lib.Dec.{eqb, leb, lit≤}
@@ -36,8 +36,8 @@ use Rattle.table.specs.Shape.{Bits, Shape, Text, Truths, Whole, last, shape}
 use Rattle.table.specs.declared.Column.{Column}
 use Rattle.table.specs.declared.Len.{Len}
 use Rattle.table.specs.declared.Len.the-variants.{Bounded, Fixed, Free}
-use Rattle.tabledata.proofs.LineEnds.{feed-read, return-alone-read, return-goes-read}
-use Rattle.tabledata.specs.TableData.{Step, Where, allText, bitWords, cellText, characters, close-TD, consText, countFits, emit, emitted, expanded, follow, goes, lineEnd}
+use Rattle.tabledata.proofs.LineEnds.{feed-read, itself-read, return-alone-read, return-goes-read}
+use Rattle.tabledata.specs.TableData.{Step, Where, allText, bitWords, cellText, characters, close-TD, consText, countFits, emitted, expanded, follow, goes}
 use Rattle.tabledata.specs.TableData.{integerWord, isText, named, names, numeric, open-TD, plain, readText, reference, step, tagBegins, textCell, textElements}
 use Rattle.tabledata.specs.TableData.{elementsOf, truthWord}
 
@@ -84,7 +84,7 @@ hex-read s t n a e = reference-read (35 ∷ 120 ∷ []) s t a ∙ rw e
 
 character-read : {b : List ℕ} {c : ℕ} → Character b c → (t : List ℕ) → characters plain (b ++ t) ≡ consText c (characters plain t)
 unfolding characters step follow emitted expanded numeric named names same sized numeral hexadigit between after
-character-read (char-itself {b = b} h k r) t = rw (ne-eqb b 60 h, ne-eqb b 38 k, ne-eqb b 13 r)
+character-read (char-itself {b = b} h k r) t = itself-read t b h k r
 character-read char-line-end t = return-goes-read (10 ∷ t) (unfold feedFirst in refl) ∙ feed-read t
 character-read char-amp t = refl
 character-read char-lt t = refl

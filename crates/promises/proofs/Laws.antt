@@ -13,7 +13,6 @@ use Rattle.demands.proofs.LineEnds.{processor-unseen}
 use Rattle.demands.proofs.Writing.{up-to-all}
 use Rattle.demands.specs.Demands.{SameFate, SameOutput, output}
 use Rattle.demands.specs.Tables.{lines, upTo}
-use Rattle.fields.specs.Fields.{declare}
 use Rattle.grammar.proofs.ColumnsRead.{declares-read}
 use Rattle.grammar.proofs.Cut.{cut-file}
 use Rattle.grammar.proofs.Refused.{refuses-exactly}

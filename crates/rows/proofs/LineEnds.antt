@@ -8,7 +8,7 @@ use mathlib.Core.List.{List, [], _++_, _∷_}
 use mathlib.Core.Path.{_∙_, _≡_, ap, refl}
 use lib.ListN.{length}
 use Rattle.rows.proofs.Sequences.{sequence-alike}
-use Rattle.rows.specs.Stream.{atEnd, flag, flagsLeft, isEmpty, read, readCell, readCells, readEnd, readRow, readStart, writeCell, writeCells, writeEnd, writeRow, writeStart}
+use Rattle.rows.specs.Stream.{atEnd, flagsLeft, isEmpty, read, readCell, readCells, readEnd, readRow, readStart, writeCell, writeCells, writeEnd, writeRow, writeStart}
 use Rattle.table.proofs.Laws.{after-le, holds-as, holds-bind, holds-weaken, skip-le, tag-le}
 use Rattle.table.proofs.LineEnds.{NoReturn, first-cases, givenAs, line-ends-le, no-return-append, none-has-return, other-kept, rest-as, rest-then, restEnds}
 use Rattle.table.proofs.LineEnds.{return-first, skip-ends, tag-ends, tag-then}

@@ -10,7 +10,7 @@ use lib.Dec.{eqb, lit≤}
 use lib.IntN.{negsuc, pos, ℤ}
 use borrow.Author.Tests.{eqb-false, eqb-true, ne-eqb}
 use Rattle.number.proofs.Laws.{IsFigure, digit-figure, hexadigit-figure, sized-figures}
-use Rattle.number.specs.Number.{Fault, digit, hexadigit, shortest, sized}
+use Rattle.number.specs.Number.{digit, hexadigit, shortest, sized}
 use Rattle.table.proofs.Bytes.{same-is}
 use Rattle.table.proofs.Laws.{NoWhite, after-fails, all-map, all-weaken, cond-cases, fails-always, fails-at, fails-bind, fails-cond, fails-else}
 use Rattle.table.proofs.Laws.{holds-as, holds-at, holds-bind, holds-cond, holds-else, holds-weaken, no-white}

@@ -12,7 +12,7 @@ use Rattle.table.proofs.Places.{done, next1}
 use Rattle.table.specs.Bytes.{after, bytes, ends, isWhite, skipWhite, tag}
 use Rattle.table.specs.LineEnds.{feedFirst}
 use Rattle.table.specs.Result.{Result, bad, good}
-use Rattle.tabledata.proofs.LineEnds.{feed-read, return-alone-read, return-goes-read}
+use Rattle.tabledata.proofs.LineEnds.{feed-read, itself-read, return-alone-read, return-goes-read}
 use Rattle.tabledata.specs.TableData.{Where, characters, close-TD, consText, emitted, expanded, follow, plain, reference, step}
 use Rattle.element_reading.specs.Characters.{TextEnds, ItemIs, NameIs, charactersOf, ended, referred, spoiledNumber}
 use Rattle.element_reading.specs.declared.characters.Item.the-variants.{Code, End}
@@ -98,8 +98,7 @@ module _ (s : List ℕ) (i : ℕ) where
 
   text-plain : i < length s → (getD s i 0 ≡ 60 → ⊥) → (getD s i 0 ≡ 38 → ⊥) → (getD s i 0 ≡ 13 → ⊥)
       → characters plain (drop i s) ≡ consText (getD s i 0) (characters plain (drop (i + 1) s))
-  unfolding characters step follow
-  text-plain h n e r = rw (next1 s i h) (rw (ne-eqb (getD s i 0) 60 n, ne-eqb (getD s i 0) 38 e, ne-eqb (getD s i 0) 13 r))
+  text-plain h n e r = rw (next1 s i h) (itself-read (drop (i + 1) s) (getD s i 0) n e r)
 
   pub text-return : i < length s → getD s i 0 ≡ 13 → characters plain (drop i s) ≡ characters plain (13 ∷ drop (i + 1) s)
   text-return h e = ap (characters plain) (next1 s i h ∙ ap (λ (b : ℕ). b ∷ drop (i + 1) s) e)
