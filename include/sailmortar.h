@@ -78,6 +78,9 @@ enum {
 /*
  * Converts the rows of `input`, of the kind `from`, to rows of the kind `to`, into `out`. `decls` is the text of the FIELD elements.
  * At SAILMORTAR_NO_ROOM the rows before are written; call again with more room.
+ *
+ * In a text of TABLEDATA a line end is one character, 10, whether it was written as 13 10, as 13 or as 10 (XML 1.0, section 2.11); a
+ * carriage return is kept only where it is written as &#13; or &#xD;, and is written as &#xD;.
  */
 void sailmortar_convert(const uint8_t *decls, size_t decls_length, uint32_t from, uint32_t to, const uint8_t *input, size_t input_length,
                         uint8_t *out, size_t out_length, uint64_t answer[5]);

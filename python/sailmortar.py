@@ -164,6 +164,9 @@ def convert(fields: Buffer, source: Union[Rows, str], target: Union[Rows, str], 
     `fields` is the text of the FIELD elements, `rows` the rows without the tags around them, base64 already decoded. A refusal is raised as
     Refused, with the rows before the bad one in its `output`. Where the system has no memory for the output it is a MemoryError.
 
+    In a text of TABLEDATA a line end is one character, 10, whether it was written as 13 10, as 13 or as 10 (XML 1.0, section 2.11); a
+    carriage return is kept only where it is written as &#13; or &#xD;, and is written as &#xD;.
+
     `rows` may be a piece of a table, such as its front while the rest is still to come: a row that is cut is refused (8, of TABLEDATA 10),
     and the next piece begins at the refusal's `offset`, with what has come since.
     """

@@ -75,7 +75,7 @@ def word(kind: str, long: bool) -> str:
     if kind in BITS:
         least = 0 if kind == "unsignedByte" else -(1 << BITS[kind] - 1)
         return random.choice([str(least), hex(1 << BITS[kind] - 1)]) if long else "7"
-    short, longer = {"boolean": ("T?", ["true", "F"]), "bit": ("01", ["1"]), "char": (">\ra\t", ["&amp;", "&#60;", "&#xD;"])}[kind]
+    short, longer = {"boolean": ("T?", ["true", "F"]), "bit": ("01", ["1"]), "char": (">\ra\t", ["&amp;", "&#60;", "&#xD;", "\r\n"])}[kind]
     return random.choice(longer if long else short)
 
 

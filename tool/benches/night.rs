@@ -32,6 +32,7 @@ fn main() {
     // First, while the stack has not been used yet; it is told last.
     let memory = memory(&night);
     nine_ways(&night);
+    line_ends(&table::night(size / 10));
     base64(&night);
     growth(&night, size);
     println!("{memory}");
@@ -123,6 +124,32 @@ fn convert_both(night: &Night, from: Rows, to: Rows) -> (f64, f64) {
 fn convert(night: &Night, from: Rows, to: Rows, out: &mut [u8]) {
     let answer = sailmortar::convert(&night.declarations, from, to, form(night, from), out);
     assert_eq!(answer.map(|done| done.rows), Ok(night.rows as u64));
+}
+
+/// A shorter night with line ends in its texts, each of them a 10 and then a 13 10: both are the same rows.
+fn line_ends(night: &Night) {
+    println!("| line ends, TABLEDATA to BINARY2 | MB | Sailmortar MB/s | plain MB/s | Sailmortar / plain | Sailmortar, thousand rows/s |");
+    println!("|---|--:|--:|--:|--:|--:|");
+    let columns = plain::columns(std::str::from_utf8(&night.declarations).expect("ASCII"));
+    let mut outputs = Vec::new();
+    for (name, line_end) in [("10", "\n"), ("13 10", "\r\n")] {
+        let text = table::with_line_ends(&night.text, line_end);
+        // A space is a byte of text as a 10 is: there is as much to write as without line ends.
+        let (mut out, mut plain_out) = (vec![0xff; night.binary2.len()], vec![0xff; night.binary2.len()]);
+        let (ours, plain) = best_of_both(
+            || assert!(sailmortar::convert(&night.declarations, Rows::TableData, Rows::Binary2, &text, &mut out).is_ok()),
+            || {
+                // Sound here: the rows are valid, and the room is what they take.
+                let (rows, _) = unsafe { plain::convert(&columns, plain::Rows::TableData, plain::Rows::Binary2, &text, &mut plain_out) };
+                assert_eq!(rows, night.rows);
+            },
+        );
+        let (size, rows) = (mega(text.len()), night.rows as f64 / ours / 1e3);
+        println!("| {name} | {size:.1} | {:.0} | {:.0} | {:.2} | {rows:.0} |", size / ours, size / plain, plain / ours);
+        outputs.extend([out, plain_out]);
+    }
+    assert!(outputs.windows(2).all(|pair| pair[0] == pair[1]), "a line end of 13 10 is read as a 10 is");
+    println!();
 }
 
 fn base64(night: &Night) {

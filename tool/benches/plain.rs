@@ -314,12 +314,21 @@ fn read_characters(source: &mut Source, out: &mut Output) -> usize {
                 out.put(character);
                 *source = after;
             }
+            13 => *source = line_end(*source, out),
             byte => {
                 out.put(byte);
                 source.step(1);
             }
         }
     }
+}
+
+/// A 13 10, or a 13 alone, is one 10. Apart from the loop, so that the ways without one are compiled as if there were none.
+#[cold]
+#[inline(never)]
+fn line_end(source: Source, out: &mut Output) -> Source {
+    out.put(10);
+    source.after(if source.ahead(1) == 10 { 2 } else { 1 })
 }
 
 /// The character that is meant, and where the text goes on.

@@ -122,6 +122,21 @@ pub fn night(bytes_of_text: usize) -> Night {
     night
 }
 
+/// Rows of text with this line end behind each row and, in the cells of text, for each space.
+pub fn with_line_ends(text: &[u8], line_end: &str) -> Vec<u8> {
+    let mut lines = String::with_capacity(text.len() * 2);
+    for row in std::str::from_utf8(text).expect("ASCII").lines() {
+        let mut cells = row.split("<TD");
+        lines += cells.next().expect("the start of the row");
+        for (column, cell) in COLUMNS.iter().zip(cells) {
+            lines += "<TD";
+            lines += &if column.datatype == "char" { cell.replace(' ', line_end) } else { cell.to_string() };
+        }
+        lines += line_end;
+    }
+    lines.into_bytes()
+}
+
 fn declarations() -> Vec<u8> {
     let mut text = String::new();
     for column in &COLUMNS {

@@ -15,6 +15,7 @@ mod agreement {
     mod compare;
     mod declarations;
     mod library;
+    mod line_ends;
     mod pieces;
     mod room;
     mod rows;

@@ -39,6 +39,34 @@ fn the_sample_night_through_pipes_in_all_nine_ways() {
     assert_eq!(scratch.run_with("convert --fields fields --from binary --to binary2", b""), Said::good(b""), "no rows");
 }
 
+/// Every line of these files ends in 13 10, in a text and among numbers, too.
+#[test]
+fn a_night_as_windows_writes_it_goes_to_binary2_and_back() {
+    let scratch = Scratch::new("windows");
+    let fields = "<FIELD name='note' datatype='char' arraysize='*'/>\n<FIELD name='site' datatype='char' arraysize='3'/>\n\
+        <FIELD name='counts' datatype='short' arraysize='3'/>\n";
+    let night = "<TR>\n  <TD>fog\nthen clear\n</TD>\n  <TD>a\nb</TD>\n  <TD>1\n2\n3</TD>\n</TR>\n\
+        <TR\n><TD>&#13;\n</TD><TD/><TD>\n4 5\n6\n</TD></TR>\n";
+    let binary2 = b"\x00\x00\x00\x00\x0Ffog\nthen clear\na\nb\x00\x01\x00\x02\x00\x03\
+        \x40\x00\x00\x00\x02\r\n\x00\x00\x00\x00\x04\x00\x05\x00\x06";
+    let back = "<TR><TD>fog\nthen clear\n</TD><TD>a\nb</TD><TD>1 2 3</TD></TR>\n<TR><TD>&#xD;\n</TD><TD/><TD>4 5 6</TD></TR>\n";
+    for line_end in ["\r\n", "\r", "\n"] {
+        scratch.put("windows.fields", fields.replace('\n', line_end).as_bytes());
+        scratch.put("windows.tabledata", night.replace('\n', line_end).as_bytes());
+        let words = "convert --fields windows.fields --from tabledata --to binary2 windows.tabledata -o windows.binary2";
+        assert_eq!(scratch.run(words), Said::good(b""), "{line_end:?}");
+        assert_eq!(scratch.get("windows.binary2"), binary2, "{line_end:?}");
+        let words = "convert --fields windows.fields --from binary2 --to tabledata windows.binary2";
+        assert_eq!(scratch.run(words), Said::good(back.as_bytes()), "{line_end:?}");
+        let words = "convert --fields windows.fields --from tabledata --to tabledata";
+        assert_eq!(scratch.run_with(words, night.replace('\n', line_end).as_bytes()), Said::good(back.as_bytes()), "{line_end:?}");
+    }
+    let long = "<TR><TD/><TD>ab\r\nc</TD><TD/></TR>\r\n";
+    let said = scratch.run_with("convert --fields windows.fields --from tabledata --to binary2", long.as_bytes());
+    let words = "char 3 'ab\\r\\nc', 4 characters where the column takes at most 3 (a line end \\r\\n counts as one)";
+    assert!(said.status == 1 && said.err.contains(words), "{}", said.err);
+}
+
 #[test]
 fn options_in_every_spelling() {
     let scratch = Scratch::new("spellings");

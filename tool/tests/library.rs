@@ -453,6 +453,55 @@ fn pieces_of_text_with_white_space_everywhere() {
     }
 }
 
+/// Rows as a logger on Windows writes them: every line ends in 13 10, in a text and among numbers, too.
+const WINDOWS_FIELDS: &[u8] = b"<FIELD name='sky' datatype='short'><VALUES null='-99'/></FIELD>\r\n\
+    <FIELD name='note' datatype='char' arraysize='*'/>\r\n<FIELD name='site' datatype='char' arraysize='3'/>\r\n\
+    <FIELD name='counts' datatype='int' arraysize='3*'/>\r\n<FIELD name='open' datatype='bit' arraysize='4'/>\r\n\
+    <FIELD name='clear' datatype='boolean' arraysize='2'/>\r\n";
+const WINDOWS: &str = "<TR>\r\n  <TD>7</TD>\r\n  <TD>wind\r\n\r\nfrom west\r\n</TD>\r\n  <TD>a\r\nb</TD>\r\n\
+    <TD>1\r\n2\r\n3</TD>\r\n  <TD>\r\n0110\r\n</TD>\r\n  <TD>T\r\n?</TD>\r\n</TR>\r\n\
+    <TR\r\n><TD>\r\n-99\r\n</TD><TD>&#13;\r\n</TD><TD/><TD>\r\n</TD><TD/><TD/></TR>\r\n";
+const WINDOWS_BINARY2: &[u8] = b"\x00\x00\x07\x00\x00\x00\x10wind\n\nfrom west\na\nb\
+    \x00\x00\x00\x03\x00\x00\x00\x01\x00\x00\x00\x02\x00\x00\x00\x03\x60T?\
+    \xBC\x00\x00\x00\x00\x00\x02\r\n\x00\x00\x00\x00\x00\x00\x00\x00\x00\x00";
+const WINDOWS_BACK: &str = "<TR><TD>7</TD><TD>wind\n\nfrom west\n</TD><TD>a\nb</TD><TD>1 2 3</TD><TD>0110</TD><TD>T ?</TD></TR>\n\
+    <TR><TD/><TD>&#xD;\n</TD><TD/><TD/><TD/><TD/></TR>\n";
+
+#[test]
+fn a_night_as_windows_writes_it_goes_to_binary2_and_back() {
+    // Each line end as it stands, as a 10, and as a 13.
+    for line_end in ["\r\n", "\n", "\r"] {
+        let input = WINDOWS.replace("\r\n", line_end);
+        assert_eq!(good(WINDOWS_FIELDS, Rows::TableData, Rows::Binary2, input.as_bytes()), WINDOWS_BINARY2, "{input:?}");
+        assert_eq!(good(WINDOWS_FIELDS, Rows::TableData, Rows::TableData, input.as_bytes()), WINDOWS_BACK.as_bytes(), "{input:?}");
+    }
+    for (input, to) in [(WINDOWS_BINARY2, Rows::TableData), (WINDOWS_BACK.as_bytes(), Rows::Binary2)] {
+        let (from, output) =
+            if to == Rows::TableData { (Rows::Binary2, WINDOWS_BACK.as_bytes()) } else { (Rows::TableData, WINDOWS_BINARY2) };
+        assert_eq!(good(WINDOWS_FIELDS, from, to, input), output, "{from} to {to}");
+    }
+}
+
+#[test]
+fn pieces_of_a_night_as_windows_writes_it() {
+    let (input, rows) = (WINDOWS.repeat(20), 40);
+    for room in [1, 33, 60, 100, 1000] {
+        for to in [Rows::TableData, Rows::Binary2] {
+            let (answer, read) = assert_same(WINDOWS_FIELDS, Rows::TableData, to, input.as_bytes(), room);
+            let output = if to == Rows::TableData { WINDOWS_BACK.as_bytes() } else { WINDOWS_BINARY2 }.repeat(20);
+            assert_eq!((answer, read), ([0, 0, 0, rows, output.len() as u64], input.len()));
+            assert_eq!(in_pieces(WINDOWS_FIELDS, Rows::TableData, to, input.as_bytes(), room).2, output);
+        }
+    }
+    // Cut anywhere, between 13 and 10 too, the rows before stand and the rest goes on from the row that is cut.
+    let whole = good(WINDOWS_FIELDS, Rows::TableData, Rows::Binary2, WINDOWS.as_bytes());
+    for cut in 0..WINDOWS.len() {
+        let (_, read, mut bytes) = in_pieces(WINDOWS_FIELDS, Rows::TableData, Rows::Binary2, &WINDOWS.as_bytes()[..cut], 1);
+        bytes.extend(good(WINDOWS_FIELDS, Rows::TableData, Rows::Binary2, &WINDOWS.as_bytes()[read..]));
+        assert_eq!(bytes, whole, "cut at {cut}");
+    }
+}
+
 #[test]
 fn pieces_where_nothing_is_read() {
     for (decls, input, number) in [(&b"<FIELD/>"[..], BINARY, 1), (FIELDS, b"", 0), (b"", b"", 5)] {

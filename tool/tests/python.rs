@@ -101,6 +101,11 @@ fn columns_are_told_as_they_were_understood() {
 }
 
 #[test]
+fn line_ends_in_texts_are_one_character() {
+    assert_tests_pass("test_line_ends");
+}
+
+#[test]
 fn the_room_is_enough_from_the_start() {
     assert_tests_pass("test_room");
 }

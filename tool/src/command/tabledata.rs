@@ -8,6 +8,9 @@ use crate::report::Stream;
 use crate::shown::{character, plain, quoted};
 use crate::text::{after_tag, is_space, tag_or_text, without_space};
 
+/// A line end that has two bytes and is read as one character.
+const LINE_END: &[u8] = b"\r\n";
+
 pub fn standing<'a>(stream: &Stream<'a>, refused: &Refused) -> Option<Standing<'a>> {
     let row = without_space(stream.input.get(refused.offset..)?);
     let at = |place, here: &'a [u8], said: Said<'a>| {
@@ -108,12 +111,13 @@ fn parts<'a>(kind: Kind, text: &'a [u8]) -> Box<dyn Iterator<Item = &'a [u8]> + 
     }
 }
 
-/// The characters and references of a text, one by one.
+/// The characters and references of a text, one by one; a line end of 13 10 is one character.
 fn characters(text: &[u8]) -> impl Iterator<Item = &[u8]> {
     let mut rest = text;
     std::iter::from_fn(move || {
         let length = match rest.first()? {
             b'&' => rest.iter().position(|byte| *byte == b';').map_or(rest.len(), |end| end + 1),
+            b'\r' if rest.starts_with(LINE_END) => LINE_END.len(),
             _ => character(rest).len(),
         };
         let (part, after) = rest.split_at(length);
@@ -126,11 +130,25 @@ fn characters(text: &[u8]) -> impl Iterator<Item = &[u8]> {
 fn wrong_element(kind: Kind, text: &[u8]) -> String {
     let probe = Probe { number: 11, kind, from: Rows::TableData, to: Rows::Binary2 };
     match probe.first(parts(kind, text)) {
-        Some((place, part)) if part != text => element_is(kind, place, &quoted(part)),
+        Some((place, part)) if part != text => {
+            let has_line_end = kind == Kind::Char && parts(kind, text).take(place).any(|part| part == LINE_END);
+            element_is(kind, place, &quoted(part)) + counted_as_one(has_line_end)
+        }
         _ => String::new(),
     }
 }
 
 fn wrong_count(column: &Column, text: &[u8]) -> String {
-    probe::elements(column.kind, text).map(|count| elements_are(column, count)).unwrap_or_default()
+    let has_line_end = column.kind == Kind::Char && text.windows(LINE_END.len()).any(|part| part == LINE_END);
+    let words = |count| elements_are(column, count) + counted_as_one(has_line_end);
+    probe::elements(column.kind, text).map(words).unwrap_or_default()
+}
+
+/// Words behind a number of characters, for a reader who would count two in a line end as it is shown.
+fn counted_as_one(has_line_end: bool) -> &'static str {
+    if has_line_end {
+        " (a line end \\r\\n counts as one)"
+    } else {
+        ""
+    }
 }

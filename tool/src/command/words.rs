@@ -280,7 +280,9 @@ that is none of T t 1 F f 0 ? blank and NUL."
             "\
 A column of arraysize n takes n elements in each cell that is not empty (char
 may be shorter), one of n* or * at most n or 4096. Look for a value missing or
-too many, or a text longer than its column: 'dawns' where arraysize is 4."
+too many, or a text longer than its column: 'dawns' where arraysize is 4.
+In a text a line end counts as one character, 10, whether the file has 13 10,
+13 or 10 there (XML reads it so); only &#13; or &#xD; is a carriage return."
         }
     }
 }

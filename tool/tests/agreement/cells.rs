@@ -18,7 +18,7 @@ fn every_text_of_few_letters() {
     for kind in EVERY_KIND {
         let scalar = declarations(&[column(kind, Length::Fixed(1))]);
         let array = declarations(&[column(kind, Length::Bounded(2))]);
-        for word in words(b"01 9-+xfT?&#;<>\n", 3) {
+        for word in words(b"01 9-+xfT?&#;<>\n\r", 3) {
             agree_on_text(&scalar, &word, 0);
             agree_on_text(&array, &word, 0);
         }
@@ -209,7 +209,7 @@ fn text_of_more_elements_than_any_cell_may_have() {
 fn words_and_white_space_without_end() {
     let field = b"<FIELD datatype='long'/>";
     for size in [20, 21, 1_000, 100_000] {
-        for filling in ["0", "1", " ", "\n", "&#48;", "&#32;", "0x", "-", "&"] {
+        for filling in ["0", "1", " ", "\n", "\r\n", "&#48;", "&#32;", "0x", "-", "&"] {
             agree_on_text(field, filling.repeat(size).as_bytes(), 0);
             agree_on_text(field, (filling.repeat(size) + "7").as_bytes(), 0);
             agree_on_text(field, ("7".to_string() + &filling.repeat(size)).as_bytes(), 0);

@@ -1,8 +1,9 @@
 //! One call of the proved code beside one of the model.
 
 use super::archive;
+use super::line_ends::translated;
 use crate::model::converter::{self, Piece, Rows};
-use crate::model::{base64, Answer, Written};
+use crate::model::{base64, Answer, Written, MOST_INPUT};
 use std::fmt::Write;
 
 /// How many bytes on each side of the room must stay as they are, too; odd, so that the room begins anywhere.
@@ -49,21 +50,38 @@ impl Case<'_> {
     }
 }
 
-/// Compares the archive's two calls between kinds of rows by their numbers, whether they are any's or not; hands out
-/// what the model says.
+/// Compares the archive's two calls between kinds of rows by their numbers, whether they are any's or not, and what the
+/// archive says of the same text with its line ends translated; hands out what the model says.
 pub fn agree_by_numbers(declarations: &[u8], from: u32, to: u32, input: &[u8], room: usize, seed: u64) -> Piece {
     let model = converter::convert_numbered(declarations, from, to, input, room);
     let (bytes, both) = (&model.written.bytes, &FILLINGS);
     let of_six = compare(model.six(), bytes, room, both, |out| archive::convert_piece(declarations, from, to, input, out));
     // It has the same loop: a byte that is written would have to be the one that stands there, each time, not to show.
     let of_five = compare(model.written.answer, bytes, room, &both[..1], |out| archive::convert(declarations, from, to, input, out));
-    for (call, compared) in [("convert_piece", of_six), ("convert", of_five)] {
+    let of_lines = agree_on_line_ends(&model, declarations, from, to, input, room);
+    for (call, compared) in [("convert_piece", of_six), ("convert", of_five), ("convert_piece of other line ends", of_lines)] {
         if let Err(difference) = compared {
             let call = format!("{call} from {from} to {to}, room {room}");
             panic!("{}", report(&call, seed, &[("declarations", declarations), ("input", input)], &difference));
         }
     }
     model
+}
+
+/// An XML processor in front changes nothing: rows of text are read as the text with its line ends translated is. And no
+/// row of text is written with a 13, which such a processor would translate.
+fn agree_on_line_ends(model: &Piece, declarations: &[u8], from: u32, to: u32, input: &[u8], room: usize) -> Result<(), String> {
+    let (text, bytes) = (Rows::TableData.number(), &model.written.bytes);
+    if to == text && bytes.contains(&13) {
+        return Err("a literal 13 is written".to_string());
+    }
+    // What is too long may be so by its line ends alone.
+    if from != text || input.len() > MOST_INPUT || !input.contains(&13) {
+        return Ok(());
+    }
+    let moved = Piece { place: translated(&input[..model.place]).len(), ..model.clone() };
+    let input = translated(input);
+    compare(moved.six(), bytes, room, &FILLINGS[..1], |out| archive::convert_piece(declarations, from, to, &input, out))
 }
 
 /// Compares what `declare` and a conversion say of these declarations; hands out what `declare` does.

@@ -210,6 +210,8 @@ const PIECES: &[&str] = &[
     "/",
     " ",
     "\n",
+    "\r",
+    "\r\n",
     "<TD",
     "</TD",
     "<TR",
@@ -226,6 +228,8 @@ const PIECES: &[&str] = &[
     "&#49;",
     "&#x31;",
     "&#0;",
+    "&#10;",
+    "&#13;",
     "&#128;",
     "&",
     ";",
@@ -264,7 +268,7 @@ fn each_piece_of_text_dropped_doubled_or_moved() {
     let fields =
         ["int", "char", "boolean", "bit"].map(|first| format!("<FIELD datatype='{first}'/><FIELD datatype='char' arraysize='3*'/>"));
     for field in fields {
-        for cell in ["1", " 0\n", "&#49;", "\x0b"] {
+        for cell in ["1", " 0\n", "\r\n1\r", "&#49;", "\x0b"] {
             let first = ["<TR", ">", " ", "<TD", " ", ">", cell, "</TD", "\t", ">"];
             let rest = ["<TD", "/>", "</TR", "\r", ">", "\n", "<TR><TD/><TD>x</TD></TR>"];
             for text in rearranged(&[&first[..], &rest].concat()) {

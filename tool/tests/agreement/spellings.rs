@@ -152,7 +152,8 @@ const CELLS: &[(&str, &[(&str, &str)])] = &[
             ("<TD>a]]>b</TD>", "<TD>a]]&gt;b</TD>"),
             ("<TD>&amp;&lt;&gt;&quot;&apos;</TD>", "<TD>&amp;&lt;&gt;\"'</TD>"),
             ("<TD>&#65;&#x41;&#x4a;&#x4A;</TD>", "<TD>AAJJ</TD>"),
-            ("<TD>&#9;&#10;&#13;\r</TD>", "<TD>\t\n&#xD;&#xD;</TD>"),
+            ("<TD>&#9;&#10;&#13;\r</TD>", "<TD>\t\n&#xD;\n</TD>"),
+            ("<TD>a\r\nb\rc\nd</TD>", "<TD>a\nb\nc\nd</TD>"),
             ("<TD>&#127;</TD>", "<TD>\x7f</TD>"),
             ("<TD>&#;</TD>", "10"),
             ("<TD>&#x;</TD>", "10"),
@@ -178,6 +179,7 @@ const CELLS: &[(&str, &[(&str, &str)])] = &[
         &[
             ("<TD>  a</TD>", "<TD>  a</TD>"),
             ("<TD>   </TD>", "<TD>   </TD>"),
+            ("<TD>a\r\nb</TD>", "<TD>a\nb</TD>"),
             ("<TD>abcd</TD>", "12"),
             ("<TD>abcd\x01</TD>", "11"),
             ("<TD>abcd\x01", "10"),

@@ -49,6 +49,8 @@ fn character(random: &mut Random, rows: Rows) -> i64 {
     match random.below(200) {
         0 if rows != Rows::TableData => random.between(1, 127) as i64,
         1..=40 => i64::from(random.pick(b"\t\n\r &<>\"'];x#\x7f")),
+        // Often enough for two of them side by side.
+        41..=56 => i64::from(random.pick(b"\n\n\r")),
         _ => random.between(32, 127) as i64,
     }
 }

@@ -21,7 +21,7 @@ fn change(random: &mut Random, bytes: &mut Vec<u8>) {
     let at = random.below(bytes.len());
     let other = random.below(bytes.len());
     let longest = random.pick(&[4, 12, 40]);
-    match random.below(9) {
+    match random.below(10) {
         0 => bytes[at] ^= 1 << random.below(8),
         1 => bytes[at] = random.pick(TELLING),
         2 => bytes[at] = random.next() as u8,
@@ -30,11 +30,17 @@ fn change(random: &mut Random, bytes: &mut Vec<u8>) {
         5 => drop(bytes.remove(at)),
         6 => bytes.swap(at, other),
         7 => bytes.truncate(at),
+        8 => *bytes = with_line_ends(bytes, random.pick(&[b"\r\n", b"\r"])),
         _ => {
             let piece = bytes[at..bytes.len().min(at + 1 + random.below(longest))].to_vec();
             bytes.splice(other..other, piece);
         }
     }
+}
+
+/// As a copy between two systems has it: another line end for each 10.
+pub fn with_line_ends(bytes: &[u8], line_end: &[u8]) -> Vec<u8> {
+    bytes.split(|byte| *byte == b'\n').collect::<Vec<_>>().join(line_end)
 }
 
 /// Every text that comes of dropping one piece, or of putting one a second time, or instead, in another place.

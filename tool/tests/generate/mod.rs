@@ -37,6 +37,11 @@ impl Random {
         self.below(times) == 0
     }
 
+    /// The same; never for 0.
+    pub fn one_in_or_never(&mut self, times: usize) -> bool {
+        times > 0 && self.one_in(times)
+    }
+
     pub fn pick<T: Copy>(&mut self, from: &[T]) -> T {
         from[self.below(from.len())]
     }

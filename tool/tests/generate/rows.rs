@@ -54,10 +54,25 @@ fn text_cell(random: &mut Random, column: &Column, cell: &Cell) -> Vec<u8> {
     let mut text = tag(random, b"<TD", b">");
     let references = random.pick(&[0, 0, 20, 2]);
     for character in characters {
-        text.extend(spelled_character(random, character, references));
+        let spelled = match character {
+            _ if random.one_in_or_never(references) => reference(random, character),
+            b'&' | b'<' => reference(random, character),
+            // Literal it would be a line end. Where white space is only skipped that is as good.
+            13 if column.kind == Kind::Char => reference(random, character),
+            10 => line_end(random, text.last() == Some(&13)),
+            _ => vec![character],
+        };
+        text.extend(spelled);
     }
     text.extend(tag(random, b"</TD", b">"));
     text
+}
+
+/// A character 10 as a literal line end, such as Windows and old machines have. Behind a literal 13, which is a line end by itself, a 10
+/// would be no second one.
+fn line_end(random: &mut Random, is_behind_13: bool) -> Vec<u8> {
+    let ends: [&[u8]; 4] = [b"\n", b"\n", b"\r\n", b"\r"];
+    random.pick(&ends[if is_behind_13 { 2 } else { 0 }..]).to_vec()
 }
 
 /// Nothing, white space alone where it is trimmed, or a value that is null.
@@ -90,12 +105,8 @@ fn shown_characters(random: &mut Random, kind: Kind, elements: &[i64]) -> Vec<u8
     characters
 }
 
-/// The character itself where it can stand, or, one time in `references` (never for 0), a reference to it.
-fn spelled_character(random: &mut Random, character: u8, references: usize) -> Vec<u8> {
-    let must = character == b'&' || character == b'<';
-    if !must && (references == 0 || !random.one_in(references)) {
-        return vec![character];
-    }
+/// A reference to a character, by a name that it has or by its number.
+fn reference(random: &mut Random, character: u8) -> Vec<u8> {
     let named = match character {
         b'&' => Some("&amp;"),
         b'<' => Some("&lt;"),

@@ -206,6 +206,52 @@ fn a_wrong_number_of_elements_is_said_with_what_the_column_takes() {
     );
 }
 
+/// A text that is shown with its \r\n, of which each is one character: else a reader who counts finds another number.
+#[test]
+fn a_line_end_is_counted_as_one_character_and_that_is_said() {
+    say(
+        FIELDS,
+        TEXT,
+        12,
+        &[
+            (
+                b"<TR><TD/><TD>ab\r\ncd</TD>",
+                "at row 0, column 1 (note): char 4 'ab\\r\\ncd', 5 characters where the column takes at most 4 \
+                 (a line end \\r\\n counts as one)",
+            ),
+            (b"<TR><TD/><TD>ab\rcd</TD>", "at row 0, column 1 (note): char 4 'ab\\rcd', 5 characters where the column takes at most 4"),
+            (
+                b"<TR><TD/><TD>ab&#13;\nc</TD>",
+                "at row 0, column 1 (note): char 4 'ab&#13;\\nc', 5 characters where the column takes at most 4",
+            ),
+            (b"<TR><TD>1\r\n2</TD>", "at row 0, column 0 (sky): short '1\\r\\n2', 2 elements where the column takes 1"),
+        ],
+    );
+    say(
+        FIELDS,
+        TEXT,
+        11,
+        &[
+            (
+                b"<TR><TD/><TD>\r\n\r\r\n\xB0</TD>",
+                "at row 0, column 1 (note): char 4 '\\r\\n\\r\\r\\n\\xB0', its 4th character is '\\xB0' (a line end \\r\\n counts as one)",
+            ),
+            (b"<TR><TD/><TD>a\xB0\r\n</TD>", "at row 0, column 1 (note): char 4 'a\\xB0\\r\\n', its 2nd character is '\\xB0'"),
+            (b"<TR><TD/><TD>a\r\xB0</TD>", "at row 0, column 1 (note): char 4 'a\\r\\xB0', its 3rd character is '\\xB0'"),
+            (b"<TR><TD>1\r\nx</TD>", "at row 0, column 0 (sky): short '1\\r\\nx', its 2nd element is 'x'"),
+        ],
+    );
+    let long = [b"<TR><TD/><TD>1 2</TD><TD>", &b"\r\n".repeat(4097)[..], b"</TD>"].concat();
+    let words = format!(
+        "at row 0, column 2 (remark): char * '{}..', more than 4,096 characters where the column takes at most 4,096 \
+         (a line end \\r\\n counts as one)",
+        "\\r\\n".repeat(10)
+    );
+    say(ARRAYS, TEXT, 12, &[(&long, &words)]);
+    let reference = b"<TR><TD/><TD>a&#1\r\n3;</TD>";
+    say(FIELDS, TEXT, 10, &[(reference, "at row 0, column 1 (note): char 4, '&#1\\r\\n3;' where a reference should stand")]);
+}
+
 #[test]
 fn a_padding_bit_is_said_with_its_byte() {
     let arrays = b"\x00\x00\x00\x00\x00\x01\x00\x02\x00\x00\x00\x00\xFF\x81";

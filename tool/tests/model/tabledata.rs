@@ -66,11 +66,20 @@ fn cell_characters(text: &mut Text) -> Option<Vec<u32>> {
         match text.peek()? {
             b'<' => return tag(text, b"</TD").then_some(characters),
             b'&' => characters.push(reference(text)?),
-            byte => {
-                characters.push(u32::from(byte));
-                text.next();
-            }
+            _ => characters.push(u32::from(literal(text)?)),
         }
+    }
+}
+
+/// The next byte as it is meant: XML 1.0, section 2.11, hands on a literal 13 10, or a 13 alone, as one 10, before references are
+/// looked at.
+fn literal(text: &mut Text) -> Option<u8> {
+    match text.next()? {
+        13 => {
+            text.take(b"\n");
+            Some(10)
+        }
+        byte => Some(byte),
     }
 }
 
