@@ -1,6 +1,6 @@
 -- Line ends in a table of TABLEDATA: it says the same as what 2.11 makes of it, row by row, with the same refusal at the same column, for every text;
 -- and no row that is written has a 13.
-use Prim.Native.Nat.{_+_, _<_, _≤_, ℕ}
+use Prim.Native.Nat.{_+_, _<_, _≤_, suc, zero, ℕ}
 use native.Mathlib.Nat.{le-refl}
 use native.Mathlib.Omega.{arith}
 use mathlib.Core.Bool.{Bool, false}
@@ -8,6 +8,7 @@ use mathlib.Core.List.{List, [], _++_, _∷_}
 use mathlib.Core.Path.{_∙_, _≡_, ap, refl}
 use lib.ListN.{length}
 use Rattle.rows.proofs.Sequences.{sequence-alike}
+use Rattle.rows.specs.Pieces.{behindRow, behindRows}
 use Rattle.rows.specs.Stream.{atEnd, flagsLeft, isEmpty, read, readCell, readCells, readEnd, readRow, readStart, writeCell, writeCells, writeEnd, writeRow, writeStart}
 use Rattle.table.proofs.Laws.{after-le, holds-as, holds-bind, holds-weaken, skip-le, tag-le}
 use Rattle.table.proofs.LineEnds.{NoReturn, first-cases, givenAs, line-ends-le, no-return-append, none-has-return, other-kept, rest-as, rest-then, restEnds}
@@ -114,6 +115,19 @@ text-row-less cs s =
 pub read-ends : (cs : List Column) (s : List ℕ) → read TableData cs (lineEnds s) ≡ read TableData cs s
 unfolding read
 read-ends cs s = sequence-alike (atEnd TableData) (readRow TableData cs) lineEnds at-end-ends (row-ends cs) (text-row-less cs) line-ends-le s
+
+-- what is left behind so many rows is what 2.11 makes of what was left: a table in pieces goes on at the same row
+pub behind-ends : (cs : List Column) (m : ℕ) (s : List ℕ) → behindRows TableData cs m (lineEnds s) ≡ lineEnds (behindRows TableData cs m s)
+unfolding behindRows
+behind-ends cs zero s = refl
+behind-ends cs (suc m) s =
+    ap (λ (r : Result Refusal (List Cell × List ℕ)). behindRow r (lineEnds s) (behindRows TableData cs m)) (row-ends cs s)
+    ∙ go (readRow TableData cs s) (behind-ends cs m)
+  where
+    go : (r : Result Refusal (List Cell × List ℕ)) → ((t : List ℕ) → behindRows TableData cs m (lineEnds t) ≡ lineEnds (behindRows TableData cs m t))
+        → behindRow (restEnds r) (lineEnds s) (behindRows TableData cs m) ≡ lineEnds (behindRow r s (behindRows TableData cs m))
+    go (good p) ih = unfold behindRow in ih (p .1)
+    go (bad e) ih = unfold behindRow in refl
 
 -- ---- what is written
 
