@@ -1,28 +1,29 @@
 -- Words of a cell that is read a character at a time, for `truths` and `integers`. `Clean w` says that w ends between words, so that its
--- words and those of what follows stand apart; `WordsAt` has the elements so far.
+-- words and those of what follows stand apart; `CarriedAs` has what they come to: the elements so far, or the number of the first bad one.
 use Prim.Native.Nat.{_≤_, ℕ}
+use native.Mathlib.Nat.{le-refl}
 use native.Mathlib.Omega.{arith}
 use mathlib.Core.Bool.{true}
 use mathlib.Core.List.{List, [], _++_, _∷_, append-assoc, append-nil}
 use mathlib.Core.Path.{_∙_, _≡_, ap, refl, sym}
+use lib.Dec.{eqb}
 use lib.IntN.{ℤ}
 use lib.ListN.{drop, length}
-use Rattle.table.proofs.Laws.{NoWhite}
+use borrow.Author.Tests.{eq-eqb, eqb-true, ne-eqb}
+use Rattle.table.proofs.Laws.{NoWhite, cond-cases}
 use Rattle.table.proofs.Words.{words-cut, words-last, words-none}
 use Rattle.table.specs.Bytes.{isWhite, notEmpty, words}
 use Rattle.table.specs.Result.{Result, _>>=_, bad, every, good}
 use Rattle.table.specs.Shape.{Shape}
 use Rattle.tabledata.specs.TableData.{textElements}
-use Rattle.element_reading.proofs.characters.Passing.{passed-then}
-use Rattle.element_reading.proofs.elements.Laws.{ReadTo, read-on, spoilt}
-use Rattle.element_reading.specs.Characters.{charactersOf, spoiledNumber}
-use Rattle.element_reading.specs.Elements.{TakesElements, elementsFrom}
-use Rattle.element_reading.specs.Words.{Adds, CutAt, LastAt, withLast}
-use Rattle.element_reading.specs.declared.elements.Added.the-variants.{Refused, To}
-use Rattle.element_reading.specs.declared.elements.Added.{Added}
-use Rattle.element_reading.specs.declared.elements.Taken.the-variants.{Held}
-use Rattle.element_reading.specs.declared.elements.Taken.{Taken}
+use Rattle.element_reading.proofs.characters.Passing.{onward-broken, passed-none, passed-then}
+use Rattle.element_reading.proofs.elements.Laws.{stored-none}
+use Rattle.element_reading.specs.Characters.{charactersOf}
+use Rattle.element_reading.specs.Elements.{Passed, Stored, TakenAs, TakesElements, elementsFrom, onward}
+use Rattle.element_reading.specs.Words.{AddedAs, Adds, CutAt, LastAt, firstBad, is-added, is-refused, judgedAs}
 use Rattle.element_reading.specs.declared.characters.Source.{Source}
+use Rattle.element_reading.specs.declared.elements.Added.{Added}
+use Rattle.element_reading.specs.declared.elements.Taken.{Taken}
 
 -- ---- the words of a text in two parts
 
@@ -64,31 +65,6 @@ module _ {A B : Type 0} (f : A → Result ℕ B) where
   every-append [] b = none-more (every f b)
   every-append (c ∷ a) b = rw (every-append a b) (one-more (f c) (every f a) (every f b))
 
--- ---- a turn of the loop over words: w was passed over with the elements es, then comes the word u
-
-pub record WordsAt (f : List ℕ → Result ℕ ℤ) (w : List ℕ) (es : List ℤ) : Type 0 where
-  pub clean : Clean w
-  pub elements : every f (words w) ≡ good es
-
-pub words-start : (f : List ℕ → Result ℕ ℤ) → WordsAt f [] []
-unfolding every
-words-start f = record { clean = clean-none; elements = rw words-none }
-
-module _ {f : List ℕ → Result ℕ ℤ} {w : List ℕ} {es : List ℤ} (p : WordsAt f w es) (u : List ℕ) (a : NoWhite u) where
-  words-end : {r : Result ℕ (List ℤ)} → every f (notEmpty (u ∷ [])) ≡ r → every f (words (w ++ u)) ≡ (r >>= λ fs. good (es ++ fs))
-  words-end e = rw (p .clean u, words-last u a, every-append f (words w) (notEmpty (u ∷ [])), p .elements, e)
-
-  module _ (c : ℕ) (h : isWhite c ≡ true) where
-    words-turn : {fs : List ℤ} → every f (notEmpty (u ∷ [])) ≡ good fs → WordsAt f (w ++ (u ++ (c ∷ []))) (es ++ fs)
-    words-turn e = record {
-      clean = clean-cut w u c (p .clean) a h;
-      elements = rw (words-to w u c (p .clean) a h, every-append f (words w) (notEmpty (u ∷ [])), p .elements, e);
-    }
-
-    words-bad : {number : ℕ} (v : List ℕ) → every f (notEmpty (u ∷ [])) ≡ bad number → every f (words (w ++ (u ++ (c ∷ [])) ++ v)) ≡ bad number
-    words-bad v e =
-        rw (words-more w u c v (p .clean) a h, every-append f (words w) (notEmpty (u ∷ []) ++ words v), p .elements, every-append f (notEmpty (u ∷ [])) (words v), e)
-
 pub added-none : (f : List ℕ → Result ℕ ℤ) → every f (notEmpty ([] ∷ [])) ≡ good []
 unfolding every notEmpty
 added-none f = refl
@@ -98,54 +74,91 @@ unfolding every notEmpty
 added-word f [] r h e = absurd (omega arith)
 added-word f (c ∷ w) r h e = rw e
 
--- ---- a cell of words that was read up to the place i, and the word that comes there: it adds its element, or there is none
+-- ---- what was read so far, with the number of the first bad element
 
-module _ (k : Shape) {f : List ℕ → Result ℕ ℤ} (q : (w : List ℕ) → textElements k w ≡ every f (words w)) {source : Source} {s : List ℕ} {from i n : ℕ} {entry l : List ℤ}
-    (r : ReadTo (WordsAt f) source s from i n entry l) where
-  module _ {Stands : List ℕ → Type 0} {next : ℕ} (u : LastAt Stands source s i next) where
-    last-is : {x : Result ℕ (List ℤ)} → textElements k (r .w ++ u .w) ≡ x → elementsFrom source k (drop from s) ≡ (x >>= λ es. good (es, drop next s))
-    last-is e = read-on r k ∙ u .ends (λ cs. textElements k (r .w ++ cs)) ∙ rw e
+pub data CarriedAs (number count : ℕ) (scratch : List ℤ) : Result ℕ (List ℤ) → Type 0 where
+  no-bad : {es : List ℤ} → number ≡ 0 → Stored es count scratch → CarriedAs number count scratch (good es)
+  one-bad : {n : ℕ} → number ≡ n → 1 ≤ n → CarriedAs number count scratch (bad n)
 
-    pub word-last : {all : Added} {m : List ℤ} → Adds f Stands n l m all → TakesElements (elementsFrom source k (drop from s)) s from entry m (withLast all next)
-    word-last {all = To all} d =
-        let x = d .found (u .w) (u .stands) in
-        record {
-          found = (
-            r .es ++ x .0,
-            last-is (q (r .w ++ u .w) ∙ words-end (r .means) (u .w) (u .word) (x .1)),
-            x .2 (r .es) (r .stored),
-            omega (arith, r .low, u .low),
-            u .high,
-          );
-          long = d .long ∙ r .long;
-        }
-    word-last {all = Refused number} d = record {
-      found = last-is (q (r .w ++ u .w) ∙ words-end (r .means) (u .w) (u .word) (d .found (u .w) (u .stands)));
+-- the elements of a word behind those there are
+abbrev behind : Result ℕ (List ℤ) → Result ℕ (List ℤ) → Result ℕ (List ℤ)
+behind r t = r >>= λ x. t >>= λ y. good (x ++ y)
+
+pub bad-stays : (number later : ℕ) → 1 ≤ number → firstBad number later ≡ number
+unfolding firstBad
+bad-stays number later h = rw (ne-eqb number 0 (λ e. omega arith))
+
+pub none-bad : (number : ℕ) → firstBad number 0 ≡ number
+unfolding firstBad
+none-bad number = cond-cases (λ (n : ℕ). n ≡ number) (eqb number 0) 0 number (λ e. sym (eqb-true number 0 e)) (λ _. refl)
+
+carried-more : {r t : Result ℕ (List ℤ)} {number count : ℕ} {l m : List ℤ} {added : Added} → CarriedAs number count l r → AddedAs count l m added t
+    → CarriedAs (firstBad number (added .number)) (added .count) m (behind r t)
+unfolding firstBad
+carried-more (no-bad z p) (is-added y a) = no-bad (rw (z, y)) (a _ p)
+carried-more (no-bad z p) (is-refused {n = n} y h) = one-bad {n = n} (rw z y) h
+carried-more {number = number} {added = added} (one-bad {n = n} y h) a = one-bad {n = n} (unfold firstBad in bad-stays number (added .number) (omega (arith, y, h)) ∙ y) h
+
+-- the text that ends with it
+carried-judged : (s : List ℕ) (place next : ℕ) {r : Result ℕ (List ℤ)} {definition : Result ℕ (List ℤ × List ℕ)} {number count : ℕ} {l : List ℤ} → CarriedAs number count l r
+    → definition ≡ (r >>= λ es. good (es, drop next s)) → place ≤ next → next ≤ length s → TakenAs definition s place l (judgedAs number count next)
+unfolding judgedAs
+carried-judged s place next {number = number} (no-bad z p) e low high = rw (eq-eqb number 0 z) (_, e, p, low, high)
+carried-judged s place next {number = number} (one-bad y h) e low high = rw (ne-eqb number 0 (λ z. omega (arith, y, h, z))) (e ∙ ap bad (sym y))
+
+-- ---- a cell of words that was read up to the place i
+
+pub record WordsTo (f : List ℕ → Result ℕ ℤ) (source : Source) (s : List ℕ) (from i number count : ℕ) (entry scratch : List ℤ) : Type 0 where
+  pub w : List ℕ
+  pub clean : Clean w
+  pub passed : Passed source s from i w
+  pub carried : CarriedAs number count scratch (every f (words w))
+  pub long : length scratch ≡ length entry
+  pub few : count ≤ i
+  pub low : from ≤ i
+  pub high : i ≤ length s
+
+pub words-start : (f : List ℕ → Result ℕ ℤ) {source : Source} {s : List ℕ} {from : ℕ} {entry : List ℤ} → from ≤ length s → WordsTo f source s from from 0 0 entry entry
+unfolding every
+words-start f {from = from} h = record {
+  w = [];
+  clean = clean-none;
+  passed = passed-none;
+  carried = rw words-none (no-bad refl (stored-none _));
+  long = refl;
+  few = omega arith;
+  low = le-refl from;
+  high = h;
+}
+
+-- the word that comes there, with what it adds
+module _ (k : Shape) {f : List ℕ → Result ℕ ℤ} (q : (w : List ℕ) → textElements k w ≡ every f (words w)) {source : Source} {s : List ℕ} {from i number n : ℕ} {entry l : List ℤ}
+    (r : WordsTo f source s from i number n entry l) where
+  pub words-broken : charactersOf source (drop i s) ≡ bad 10 → TakesElements (elementsFrom source k (drop from s)) s from entry l (Taken.Refused 10)
+  unfolding elementsFrom
+  words-broken e = record { found = r .passed .passes (textElements k) ∙ ap (onward (λ cs. textElements k (r .w ++ cs))) e ∙ onward-broken _; long = r .long }
+
+  module _ {Stands : List ℕ → Type 0} {next : ℕ} {m : List ℤ} {added : Added} (d : Adds f Stands n l m added) where
+    pub word-last : {t : Taken} → LastAt Stands source s i next → t ≡ judgedAs (firstBad number (added .number)) (added .count) next
+        → TakesElements (elementsFrom source k (drop from s)) s from entry m t
+    unfolding elementsFrom
+    word-last u e = record {
+      found = rw e (carried-judged s from next (carried-more (r .carried) (d .found (u .w) (u .stands)))
+          (r .passed .passes (textElements k) ∙ u .ends (λ cs. textElements k (r .w ++ cs)) ∙ rw (q (r .w ++ u .w), r .clean (u .w), words-last (u .w) (u .word), every-append f (words (r .w)) (notEmpty (u .w ∷ []))))
+          (omega (arith, r .low, u .low)) (u .high));
       long = d .long ∙ r .long;
     }
 
-  module _ {Stands : List ℕ → Type 0} {next : ℕ} (u : CutAt Stands source s i next) where
-    pub word-cut : {all : ℕ} {m : List ℤ} → Adds f Stands n l m (To all) → ReadTo (WordsAt f) source s from next all entry m
-    word-cut d =
-        let x = d .found (u .w) (u .stands) in
-        record {
-          w = _;
-          es = _;
-          means = words-turn (r .means) (u .w) (u .word) (u .white) (u .is-white) (x .1);
-          passed = passed-then (r .passed) (u .passed);
-          stored = x .2 (r .es) (r .stored);
-          long = d .long ∙ r .long;
-          few = omega (arith, d .most, r .few, u .low);
-          low = omega (arith, r .low, u .low);
-          high = u .high;
-        }
-
-    pub word-cut-none : {x number : ℕ} {m : List ℤ} → Adds f Stands n l m (Refused number) → x ≡ spoiledNumber number (charactersOf source (drop next s))
-        → TakesElements (elementsFrom source k (drop from s)) s from entry m (Taken.Refused x)
-    word-cut-none d e = record {
-      found =
-          spoilt k (passed-then (r .passed) (u .passed)) (λ v.
-          q (r .w ++ (u .w ++ (u .white ∷ [])) ++ v) ∙ words-bad (r .means) (u .w) (u .word) (u .white) (u .is-white) v (d .found (u .w) (u .stands)))
-          ∙ ap bad (sym e);
+    pub word-cut : {later : ℕ} → CutAt Stands source s i next → later ≡ firstBad number (added .number) → WordsTo f source s from next later (added .count) entry m
+    word-cut u e = record {
+      w = r .w ++ (u .w ++ (u .white ∷ []));
+      clean = clean-cut (r .w) (u .w) (u .white) (r .clean) (u .word) (u .is-white);
+      passed = passed-then (r .passed) (u .passed);
+      carried =
+          rw (e, words-to (r .w) (u .w) (u .white) (r .clean) (u .word) (u .is-white), every-append f (words (r .w)) (notEmpty (u .w ∷ [])))
+          (carried-more (r .carried) (d .found (u .w) (u .stands)));
       long = d .long ∙ r .long;
+      few = omega (arith, d .most, r .few, u .low);
+      low = omega (arith, r .low, u .low);
+      high = u .high;
     }

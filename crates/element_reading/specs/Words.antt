@@ -15,7 +15,6 @@ use Rattle.tabledata.specs.TableData.{integerWord, lower}
 use Rattle.element_reading.specs.Characters.{charactersOf}
 use Rattle.element_reading.specs.Elements.{Passed, Stored, onward}
 use Rattle.element_reading.specs.declared.characters.Source.{Source}
-use Rattle.element_reading.specs.declared.elements.Added.the-variants.{Refused, To}
 use Rattle.element_reading.specs.declared.elements.Added.{Added}
 use Rattle.element_reading.specs.declared.elements.Taken.the-variants.{Held}
 use Rattle.element_reading.specs.declared.elements.Taken.{Taken}
@@ -72,25 +71,24 @@ PieceAs source s from Piece.Broken = charactersOf source (drop from s) ≡ bad 1
 pub record PieceIs (source : Source) (s : List ℕ) (from : ℕ) (r : Piece) : Type 0 where
   pub found : PieceAs source s from r
 
-abbrev pub AddedAs : (List ℕ → Result ℕ ℤ) → List ℕ → ℕ → List ℤ → List ℤ → Added → Type 0
-AddedAs f w count entry exit (To n) =
-    (fs : List ℤ) × (every f (notEmpty (w ∷ [])) ≡ good fs) × ((es : List ℤ) → Stored es count entry → Stored (es ++ fs) n exit)
-AddedAs f w count entry exit (Refused n) = every f (notEmpty (w ∷ [])) ≡ bad n
-
-abbrev pub AddedMost : ℕ → Added → Type 0
-AddedMost count (To n) = n ≤ count + 1
-AddedMost count (Refused n) = Unit {0}
+-- what a word's elements are in the code: they follow those that are stored, or there is a number
+pub data AddedAs (count : ℕ) (entry exit : List ℤ) (r : Added) : Result ℕ (List ℤ) → Type 0 where
+  is-added : {fs : List ℤ} → r .number ≡ 0 → ((es : List ℤ) → Stored es count entry → Stored (es ++ fs) (r .count) exit) → AddedAs count entry exit r (good fs)
+  is-refused : {n : ℕ} → r .number ≡ n → 1 ≤ n → AddedAs count entry exit r (bad n)
 
 -- the element of each word that `Stands` for what was read
 pub record Adds (f : List ℕ → Result ℕ ℤ) (Stands : List ℕ → Type 0) (count : ℕ) (entry exit : List ℤ) (r : Added) : Type 0 where
-  pub found : (w : List ℕ) → Stands w → AddedAs f w count entry exit r
-  pub most : AddedMost count r
+  pub found : (w : List ℕ) → Stands w → AddedAs count entry exit r (every f (notEmpty (w ∷ [])))
+  pub most : r .count ≤ count + 1
   pub long : length exit ≡ length entry
 
--- what a text comes to with its last word
-abbrev pub withLast : Added → ℕ → Taken
-withLast (To count) next = Held count next
-withLast (Refused n) next = Taken.Refused n
+-- 02, #104: "in one cell the first bad element decides": the number of the first of two refusals, 0 being none
+unfoldable pub firstBad : ℕ → ℕ → ℕ
+firstBad first later = cond (eqb first 0) later first
+
+-- so many elements and what follows them, where none was refused
+unfoldable pub judgedAs : ℕ → ℕ → ℕ → Taken
+judgedAs number count next = cond (eqb number 0) (Held count next) (Taken.Refused number)
 
 abbrev pub NumeralAs : Source → List ℕ → ℕ → Numeral → Type 0
 NumeralAs source s from (Numeral.Cut x next) = CutAt (λ w. x ≡ feed fresh w) source s from next

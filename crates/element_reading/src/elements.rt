@@ -1,5 +1,5 @@
 // A text's elements: read so far, they stand in the scratch as far as it has room, and are counted on.
-ghost use Rattle.element_reading.specs.Words.{withLast};
+ghost use Rattle.element_reading.specs.Words.{firstBad, judgedAs};
 ghost use lib.IntN.{pos};
 ghost use lib.ListN.{set};
 ghost use mathlib.Core.Path.{_≡_};
@@ -16,20 +16,39 @@ pub enum Counted {
     Refused(u64),
 }
 
-// How many elements there are with a word's, or the number of its refusal.
-pub enum Added {
-    To(usize),
-    Refused(u64),
+// How many elements there are with a word's, and the number of its refusal, or 0.
+pub struct Added {
+    pub count: usize,
+    pub number: u64,
 }
 
-// What a text comes to with its last word, which ends at `next`.
-pub(crate) fn with_last(added: Added, next: usize) -> Taken
-    ensures { λ r. ⌜ r ≡ withLast added next ⌝ }
+// "in one cell the first bad element decides": the number of the first of two refusals, 0 being none.
+pub(crate) fn first_bad(first: u64, later: u64) -> u64
+    ensures { λ r. ⌜ r ≡ firstBad first later ⌝ }
 {
-    match added {
-        Added::To(count) => Taken::Held(count, next),
-        Added::Refused(n) => Taken::Refused(n),
+    if first == 0 {
+        return later;
     }
+    first
+}
+
+// A text whose elements were all read, up to the place `next`: they are held, or one of them was refused.
+pub(crate) fn judged(number: u64, count: usize, next: usize) -> Taken
+    ensures { λ r. ⌜ r ≡ judgedAs number count next ⌝ }
+{
+    if number == 0 {
+        return Taken::Held(count, next);
+    }
+    Taken::Refused(number)
+}
+
+// The same with what the last word adds.
+pub(crate) fn with_last(number: u64, added: Added, next: usize) -> Taken
+    ensures { λ r. ⌜ r ≡ judgedAs (firstBad number (added .number)) (added .count) next ⌝ }
+{
+    let refused = added.number;
+    let count = added.count;
+    judged(first_bad(number, refused), count, next)
 }
 
 // An element is stored where there is room for it.

@@ -2,9 +2,10 @@
 use super::characters::Item;
 use super::characters::Source;
 use super::characters::character_at;
-use super::characters::spoiled;
 use super::elements::Added;
 use super::elements::Taken;
+use super::elements::first_bad;
+use super::elements::judged;
 use super::elements::put;
 use super::elements::with_last;
 use number::Integer;
@@ -87,14 +88,17 @@ fn add_integer(word: Word, kind: Integer, scratch: &mut [i64], count: usize) -> 
 {
     let form = word.form;
     if !is_begun(form) {
-        return Added::To(count);
+        return Added { count, number: 0 };
     }
     match word.read(kind) {
-        IntegerRead::Outside => Added::Refused(18),
-        IntegerRead::Unwritten => Added::Refused(11),
+        IntegerRead::Outside => Added { count, number: 18 },
+        IntegerRead::Unwritten => Added { count, number: 11 },
         IntegerRead::Value(z) => {
             put(scratch, count, z);
-            Added::To(count + 1)
+            Added {
+                count: count + 1,
+                number: 0,
+            }
         }
     }
 }
@@ -167,6 +171,7 @@ pub(crate) fn integers(
 {
     let mut i = from;
     let mut count = 0;
+    let mut number = 0;
     loop {
         match quick_word(s, i, source, kind) {
             QuickWord::Cut(z, next) => {
@@ -176,20 +181,19 @@ pub(crate) fn integers(
             }
             QuickWord::Last(z, next) => {
                 put(scratch, count, z);
-                return Taken::Held(count + 1, next);
+                return judged(number, count + 1, next);
             }
             QuickWord::Careful => match integer_piece(s, i, source) {
                 Numeral::Broken => return Taken::Refused(10),
                 Numeral::Last(word, next) => {
-                    return with_last(add_integer(word, kind, scratch, count), next);
+                    return with_last(number, add_integer(word, kind, scratch, count), next);
                 }
-                Numeral::Cut(word, next) => match add_integer(word, kind, scratch, count) {
-                    Added::Refused(n) => return Taken::Refused(spoiled(s, next, source, n)),
-                    Added::To(more) => {
-                        count = more;
-                        i = next;
-                    }
-                },
+                Numeral::Cut(word, next) => {
+                    let added = add_integer(word, kind, scratch, count);
+                    number = first_bad(number, added.number);
+                    count = added.count;
+                    i = next;
+                }
             },
         }
     }

@@ -2,10 +2,10 @@
 use super::characters::Item;
 use super::characters::Source;
 use super::characters::character_at;
-use super::characters::spoiled;
 use super::elements::Added;
 use super::elements::Taken;
 use super::elements::as_element;
+use super::elements::first_bad;
 use super::elements::put;
 use super::elements::with_last;
 use text::is_white;
@@ -96,14 +96,17 @@ fn add_truth(word: u64, scratch: &mut [i64], count: usize) -> Added
     ensures { λ r. ⌜ Adds truthWord (λ w. word ≡ spelling w) count (now (scratch .entry)) (now (scratch .exit)) r ⌝ }
 {
     if word == 1 {
-        return Added::To(count);
+        return Added { count, number: 0 };
     }
     let x = truth_of(word);
     if x == 3 {
-        return Added::Refused(11);
+        return Added { count, number: 11 };
     }
     put(scratch, count, as_element(x));
-    Added::To(count + 1)
+    Added {
+        count: count + 1,
+        number: 0,
+    }
 }
 
 // The elements of a boolean cell, word by word.
@@ -113,17 +116,19 @@ pub(crate) fn truths(s: &[u8], from: usize, source: Source, scratch: &mut [i64])
 {
     let mut i = from;
     let mut count = 0;
+    let mut number = 0;
     loop {
         match truth_piece(s, i, source) {
             Piece::Broken => return Taken::Refused(10),
-            Piece::Last(word, next) => return with_last(add_truth(word, scratch, count), next),
-            Piece::Cut(word, next) => match add_truth(word, scratch, count) {
-                Added::Refused(n) => return Taken::Refused(spoiled(s, next, source, n)),
-                Added::To(more) => {
-                    count = more;
-                    i = next;
-                }
-            },
+            Piece::Last(word, next) => {
+                return with_last(number, add_truth(word, scratch, count), next);
+            }
+            Piece::Cut(word, next) => {
+                let added = add_truth(word, scratch, count);
+                number = first_bad(number, added.number);
+                count = added.count;
+                i = next;
+            }
         }
     }
 }

@@ -173,7 +173,7 @@ module _ {source : Source} {s : List ℕ} {from i n : ℕ} {closed : Bool} {entr
     high = t .within .1;
   }
 
-  pub bits-spoilt : {x m : ℕ} → isWhite c ≡ false → BitIs closed c x → x ≡ 2 → m ≡ spoiledNumber 11 (charactersOf source (drop next s))
+  pub bits-spoilt : {x m : ℕ} → isWhite c ≡ false → BitIs closed c x → x ≡ 2 → m ≡ spoiledNumber (charactersOf source (drop next s))
       → TakesElements (elementsFrom source Bits (drop from s)) s from entry l (Taken.Refused m)
   bits-spoilt {x} h b k e = read-spoilt r Bits t (bits-bad (r .w) (r .means .0) (r .es) closed n c x (r .means .1) h b k) e
 

@@ -35,10 +35,10 @@ unfolding onward consText
 onward-code g c (good p) = refl
 onward-code g c (bad n) = refl
 
-pub onward-bad : (g : List ℕ → Result ℕ (List ℤ)) (number : ℕ) (r : Result ℕ (List ℕ × List ℕ)) → ((cs : List ℕ) → g cs ≡ bad number) → onward g r ≡ bad (spoiledNumber number r)
+pub onward-bad : (g : List ℕ → Result ℕ (List ℤ)) (r : Result ℕ (List ℕ × List ℕ)) → ((cs : List ℕ) → g cs ≡ bad 11) → onward g r ≡ bad (spoiledNumber r)
 unfolding onward spoiledNumber
-onward-bad g number (good p) e = rw (e (p .0))
-onward-bad g number (bad n) e = refl
+onward-bad g (good p) e = rw (e (p .0))
+onward-bad g (bad n) e = refl
 
 pub onward-end : (g : List ℕ → Result ℕ (List ℤ)) (t : List ℕ) → onward g (good ([], t)) ≡ (g [] >>= λ es. good (es, t))
 unfolding onward

@@ -49,14 +49,6 @@ stored-more es n l x p = record { all = omega (arith, p .all, length-append es (
 pub put-more : {es : List ℤ} {n : ℕ} {l m : List ℤ} {y x : ℤ} → Stored es n l → m ≡ set l n y → y ≡ x → Stored (es ++ (x ∷ [])) (n + 1) m
 put-more {es} {n} {l} {x = x} p e q = rw (e, q) (stored-more es n l x p)
 
--- ---- what was passed over has no value of the kind, whatever follows
-
-pub spoilt : (k : Shape) {source : Source} {s : List ℕ} {from i number : ℕ} {w : List ℕ} → Passed source s from i w → ((v : List ℕ) → textElements k (w ++ v) ≡ bad number)
-    → elementsFrom source k (drop from s) ≡ bad (spoiledNumber number (charactersOf source (drop i s)))
-unfolding elementsFrom
-spoilt k {source} {s} {i = i} {number = number} {w = w} p f =
-    p .passes (textElements k) ∙ onward-bad (λ cs. textElements k (w ++ cs)) number (charactersOf source (drop i s)) f
-
 -- ---- a cell that was read up to a place: the characters w passed over have come to the elements es, which stand in the scratch
 
 pub record ReadTo (As : List ℕ → List ℤ → Type 0) (source : Source) (s : List ℕ) (from i count : ℕ) (entry scratch : List ℤ) : Type 0 where
@@ -107,10 +99,13 @@ module _ {As : List ℕ → List ℤ → Type 0} {source : Source} {s : List ℕ
   }
 
   -- a character with which there is no value of the kind, whatever follows
-  pub read-spoilt : (k : Shape) {c next m number : ℕ} → ItemIs source (charactersOf source (drop i s)) s i (Code c next)
-      → ((v : List ℕ) → textElements k (r .w ++ (c ∷ []) ++ v) ≡ bad number) → m ≡ spoiledNumber number (charactersOf source (drop next s))
+  pub read-spoilt : (k : Shape) {c next m : ℕ} → ItemIs source (charactersOf source (drop i s)) s i (Code c next)
+      → ((v : List ℕ) → textElements k (r .w ++ (c ∷ []) ++ v) ≡ bad 11) → m ≡ spoiledNumber (charactersOf source (drop next s))
       → TakesElements (elementsFrom source k (drop from s)) s from entry l (Taken.Refused m)
-  read-spoilt k {c} {next} t f e = record { found = spoilt k {s = s} {from = from} {i = next} (passed-then (r .passed) (passed-code {s = s} {i = i} {j = next} {c = c} (t .found))) f ∙ ap bad (sym e); long = r .long }
+  unfolding elementsFrom
+  read-spoilt k {c} {next} t f e =
+      let p : Passed source s from next (r .w ++ (c ∷ [])) = passed-then (r .passed) (passed-code {s = s} {i = i} {j = next} {c = c} (t .found)) in
+      record { found = p .passes (textElements k) ∙ onward-bad (λ cs. textElements k (r .w ++ (c ∷ []) ++ cs)) (charactersOf source (drop next s)) f ∙ ap bad (sym e); long = r .long }
 
   -- a character more, which is stored
   pub read-more : {Next : List ℕ → List ℤ → Type 0} {c next : ℕ} {m : List ℤ} {x y : ℤ} → ItemIs source (charactersOf source (drop i s)) s i (Code c next)

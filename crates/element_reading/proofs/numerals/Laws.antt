@@ -29,9 +29,8 @@ use Rattle.element_reading.proofs.characters.Passing.{WordTo, passed-no
 use Rattle.element_reading.proofs.elements.Laws.{put-more}
 use Rattle.element_reading.specs.Characters.{TextEnds, ItemIs, charactersOf}
 use Rattle.element_reading.specs.Elements.{Passed}
-use Rattle.element_reading.specs.Words.{Adds, CutAt, LastAt, WordOf, begunForm, spaceAt}
+use Rattle.element_reading.specs.Words.{Adds, CutAt, LastAt, WordOf, begunForm, is-added, spaceAt}
 use Rattle.element_reading.specs.declared.characters.Item.the-variants.{Code}
-use Rattle.element_reading.specs.declared.elements.Added.the-variants.{To}
 use Rattle.text.specs.declared.Tag.the-variants.{At}
 use Rattle.words.proofs.WordLaws.{fed-reads, feed-more}
 use Rattle.words.specs.Contracts.{IsPlain, QuickAt}
@@ -191,9 +190,10 @@ module _ {k : Integer} {source : Source} {s : List ℕ} {from end : ℕ} {z : �
   quick-last t = word-ends quick-to (t .found)
 
 -- a word that was read at once adds its integer
-pub quick-adds : (k : Integer) {z y : ℤ} {n : ℕ} {l m : List ℤ} → m ≡ set l n y → y ≡ z → Adds (integerWord (isSigned k) (size k)) (WordOf k z) n l m (To (n + 1))
+pub quick-adds : (k : Integer) {z y : ℤ} {n : ℕ} {l m : List ℤ} → m ≡ set l n y → y ≡ z
+    → Adds (integerWord (isSigned k) (size k)) (WordOf k z) n l m (record { count = n + 1; number = 0 })
 quick-adds k {z} e q = record {
-  found = λ w h. (_, added-word (integerWord (isSigned k) (size k)) w (good z) (h .0) (h .1), λ es p. put-more p e q);
+  found = λ w h. rw (added-word (integerWord (isSigned k) (size k)) w (good z) (h .0) (h .1)) (is-added refl (λ es p. put-more p e q));
   most = omega arith;
   long = ap length e ∙ simp length-set;
 }

@@ -1,16 +1,15 @@
--- `element_reading::elements::with_last` meets its contract: by what the last word added.
-use mathlib.Core.Path.{ap, sym}
+-- `element_reading::elements::with_last` meets its contract: the number of the first bad element judges.
+use Prim.Native.Nat.{ℕ}
+use mathlib.Core.Path.{_∙_, ap}
 use borrow.Author.Needs.{needs}
-use Rattle.element_reading.specs.Words.{withLast}
-use Rattle.element_reading.specs.declared.elements.Added.{Added}
+use Rattle.element_reading.specs.Words.{judgedAs}
 use Rattle.element_reading.proofs.elements.with_last.Statement.{statement}
 use Rattle.element_reading.proofs.elements.with_last.Tie as tie
 
 returns : tie.Need-returns
-returns c = sym (ap (λ (a : Added). withLast a (c .before .before .before .args .next)) (c .before .added .given .1))
-
-returns-2 : tie.Need-returns-2
-returns-2 c = sym (ap (λ (a : Added). withLast a (c .before .before .before .args .next)) (c .before .added2 .given .1))
+returns c =
+    let a = c .before .before .args in
+    c .judged .ensures ∙ ap (λ (n : ℕ). judgedAs n (a .added .count) (a .next)) (c .before .first-bad .ensures)
 
 pub with-last-spec : {M : Type 1} → statement M
-with-last-spec = tie.close (tie.spec (λ c. search needs) (λ c. search needs) returns returns-2)
+with-last-spec = tie.close (tie.spec (λ c κs. search needs) (λ c κs. search needs) returns)

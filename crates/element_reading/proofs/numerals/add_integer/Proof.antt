@@ -3,6 +3,7 @@ use Prim.Native.Nat.{ℕ}
 use native.Mathlib.Omega.{arith}
 use mathlib.Core.List.{List, [], _∷_, append-nil}
 use mathlib.Core.Path.{_∙_, _≡_, ap, refl, sym}
+use lib.Dec.{lit≤}
 use lib.IntN.{ℤ}
 use lib.ListN.{length, length-set}
 use borrow.Author.Needs.{needs}
@@ -15,7 +16,7 @@ use Rattle.tabledata.specs.TableData.{faultNumber, integerWord}
 use Rattle.element_reading.proofs.Words.{added-none, added-word}
 use Rattle.element_reading.proofs.elements.Laws.{put-more}
 use Rattle.element_reading.proofs.numerals.Laws.{fed-none, fed-some, integer-as}
-use Rattle.element_reading.specs.Words.{begunForm}
+use Rattle.element_reading.specs.Words.{begunForm, is-added, is-refused}
 use Rattle.words.specs.Contracts.{readingOf}
 use Rattle.words.specs.Words.{feed, fresh, reading}
 use Rattle.words.specs.declared.Word.{Word}
@@ -41,28 +42,24 @@ returns c =
     let k = c .before .before .args .kind in
     let f = integerWord (isSigned k) (size k) in
     record {
-      found = λ w e. (
-        [],
-        ap (λ (u : List ℕ). every f (notEmpty (u ∷ []))) (fed-none w (begun (c .before) w e ∙ not-true _ (c .if1 .taken))) ∙ added-none f,
-        λ es p. rw append-nil p,
-      );
+      found = λ w e. rw (fed-none w (begun (c .before) w e ∙ not-true _ (c .if1 .taken)), added-none f) (is-added {fs = []} refl (λ es p. rw append-nil p));
       most = omega arith;
       long = refl;
     }
 
 returns-2 : tie.Need-returns-2
 unfolding faultNumber
-returns-2 c = record { found = λ w e. read-word (c .before .before) w _ e (ap readingOf (c .enum-told .given .1)); most = tt; long = refl }
+returns-2 c = record { found = λ w e. rw (read-word (c .before .before) w _ e (ap readingOf (c .enum-told .given .1))) (is-refused refl (lit≤ tt)); most = omega arith; long = refl }
 
 returns-3 : tie.Need-returns-3
 unfolding faultNumber
-returns-3 c = record { found = λ w e. read-word (c .before .before) w _ e (ap readingOf (c .enum-told2 .given .1)); most = tt; long = refl }
+returns-3 c = record { found = λ w e. rw (read-word (c .before .before) w _ e (ap readingOf (c .enum-told2 .given .1))) (is-refused refl (lit≤ tt)); most = omega arith; long = refl }
 
 returns-4 : tie.Need-returns-4
 returns-4 c =
     let at-z = c .before .before .before .before in let at-read = at-z .before .before in
     record {
-      found = λ w e. (_, read-word at-read w _ e (ap readingOf (at-z .z .given .1)), λ es p. put-more p (c .before .put .ensures) (search needs));
+      found = λ w e. rw (read-word at-read w _ e (ap readingOf (at-z .z .given .1))) (is-added {fs = at-z .z .given .0 .0 ∷ []} refl (λ es p. put-more p (c .before .put .ensures) (search needs)));
       most = omega arith;
       long = ap length (c .before .put .ensures) ∙ simp length-set;
     }

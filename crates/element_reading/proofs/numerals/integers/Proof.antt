@@ -1,5 +1,5 @@
--- `element_reading::numerals::integers` meets its contract. The invariant: the words passed over are the elements so far; a word read at
--- once adds its one element.
+-- `element_reading::numerals::integers` meets its contract. The invariant: the words passed over are the elements so far, or
+-- the first bad one has the number that is held; a word read at once adds its one element.
 use Prim.Native.Nat.{_-_}
 use native.Mathlib.Omega.{arith}
 use mathlib.Core.Path.{_∙_, _≡_, ap, subst, sym}
@@ -8,20 +8,19 @@ use borrow.Author.Needs.{needs}
 use denote.Ref.{now}
 use Rattle.number.specs.Contracts.{isSigned, size}
 use Rattle.tabledata.specs.TableData.{integerWord}
-use Rattle.element_reading.proofs.Words.{WordsAt, word-cut, word-cut-none, word-last, words-start}
-use Rattle.element_reading.proofs.elements.Laws.{ReadTo, read-broken, read-none}
+use Rattle.element_reading.proofs.Words.{WordsTo, none-bad, word-cut, word-last, words-broken, words-start}
 use Rattle.element_reading.proofs.numerals.Laws.{integers-are, quick-adds, whole}
-use Rattle.element_reading.specs.Elements.{TakesElements}
-use Rattle.element_reading.specs.Words.{Adds, CutAt, LastAt, NumeralIs, QuickWordIs, WordOf}
+use Rattle.element_reading.specs.Words.{CutAt, LastAt, NumeralIs, QuickWordIs, WordOf}
 use Rattle.words.specs.Words.{feed, fresh}
 use Rattle.element_reading.proofs.numerals.integers.Statement.{statement}
 use Rattle.element_reading.proofs.numerals.integers.Tie as tie
 
 abbrev Inv-loop : tie.InvT-loop
-Inv-loop s from source kind scratch₀ i₀ count₀ scratch i count = ReadTo (WordsAt (integerWord (isSigned kind) (size kind))) source s from i count scratch₀ scratch
+Inv-loop s from source kind scratch₀ i₀ count₀ number₀ scratch i count number =
+    WordsTo (integerWord (isSigned kind) (size kind)) source s from i number count scratch₀ scratch
 
 abbrev μ-loop : tie.MeasureT-loop
-μ-loop s from source kind scratch₀ i₀ count₀ scratch i count = length s - i
+μ-loop s from source kind scratch₀ i₀ count₀ number₀ scratch i count number = length s - i
 
 -- a word that was read at once
 quick-cut : (c : tie.After-put-arg Inv-loop μ-loop) →
@@ -46,7 +45,7 @@ cut : (c : tie.After-add-integer-arg2 Inv-loop μ-loop) →
 cut c = subst (NumeralIs _ _ _) (c .before .before .word2 .given .1) (c .before .before .before .before .integer-piece .ensures) .found
 
 loop-holds : tie.Need-loop-holds Inv-loop μ-loop
-loop-holds c = read-none (words-start _) (search needs)
+loop-holds c = words-start _ (search needs)
 
 quick-word-requires : tie.Need-quick-word-requires Inv-loop μ-loop
 quick-word-requires c κs = c .loop .inv .high
@@ -61,19 +60,21 @@ loop-again : tie.Need-loop-again Inv-loop μ-loop
 loop-again c =
     let at-loop = c .before .before .before .before .before .before .before in let at-start = at-loop .before .before in
     let kind = at-start .args .kind in
-    word-cut (whole kind) (integers-are kind) (at-loop .loop .inv) (quick-cut (c .before .before)) (quick-adds kind (c .before .put .ensures) (search needs))
+    word-cut (whole kind) (integers-are kind) (at-loop .loop .inv) (quick-adds kind (c .before .put .ensures) (search needs)) (quick-cut (c .before .before)) (sym (none-bad _))
 
-add-t25 : tie.Need-add-t25 Inv-loop μ-loop
-add-t25 c = let r = c .before .before .before .before .before .before .before .loop .inv in omega (arith, r .few, r .high)
+add-judged : tie.Need-add-judged Inv-loop μ-loop
+add-judged c = let r = c .before .before .before .before .before .before .before .loop .inv in omega (arith, r .few, r .high)
 
 same-length : tie.Need-same-length Inv-loop μ-loop
-same-length c = ap length (c .before .put2 .ensures) ∙ simp length-set (c .before .before .before .before .before .before .before .loop .inv .long)
+same-length c = ap length (c .before .before .put2 .ensures) ∙ simp length-set (c .before .before .before .before .before .before .before .before .loop .inv .long)
 
 returns : tie.Need-returns Inv-loop μ-loop
 returns c =
-    let at-loop = c .before .before .before .before .before .before .before in let at-start = at-loop .before .before in
+    let at-loop = c .before .before .before .before .before .before .before .before in let at-start = at-loop .before .before in
     let kind = at-start .args .kind in
-    word-last (whole kind) (integers-are kind) (at-loop .loop .inv) (quick-last (c .before .before)) (quick-adds kind (c .before .put2 .ensures) (search needs))
+    let number = at-loop .loop .number in
+    word-last (whole kind) (integers-are kind) (at-loop .loop .inv) (quick-adds kind (c .before .before .put2 .ensures) (search needs)) (quick-last (c .before .before .before))
+    (rw (none-bad number) (c .judged .ensures))
 
 integer-piece-requires : tie.Need-integer-piece-requires Inv-loop μ-loop
 integer-piece-requires c κs = c .before .before .before .loop .inv .high
@@ -83,8 +84,8 @@ same-length-2 c = c .before .before .before .before .before .before .loop .inv .
 
 returns-2 : tie.Need-returns-2 Inv-loop μ-loop
 returns-2 c =
-    let at-loop = c .before .before .before .before .before .before in
-    read-broken (at-loop .loop .inv) _ (subst (NumeralIs _ _ _) (c .enum-told2 .given .1) (c .before .before .integer-piece .ensures) .found)
+    let at-loop = c .before .before .before .before .before .before in let at-start = at-loop .before .before in
+    words-broken _ (integers-are (at-start .args .kind)) (at-loop .loop .inv) (subst (NumeralIs _ _ _) (c .enum-told2 .given .1) (c .before .before .integer-piece .ensures) .found)
 
 add-integer-requires : tie.Need-add-integer-requires Inv-loop μ-loop
 add-integer-requires c κs = let r = c .before .before .before .before .before .before .before .before .loop .inv in omega (arith, r .few, r .high)
@@ -98,36 +99,19 @@ returns-3 : tie.Need-returns-3 Inv-loop μ-loop
 returns-3 c =
     let at-add-integer = c .before .before in let at-add-integer-lent = at-add-integer .before in
     let at-loop = at-add-integer-lent .before .before .before .before .before .before .before .before in let at-start = at-loop .before .before in
-    subst (TakesElements _ _ _ _ _) (sym (c .with-last .ensures))
-    (word-last _ (integers-are (at-start .args .kind)) (at-loop .loop .inv) (last at-add-integer-lent) (at-add-integer .add-integer .ensures))
+    word-last _ (integers-are (at-start .args .kind)) (at-loop .loop .inv) (at-add-integer .add-integer .ensures) (last at-add-integer-lent) (c .with-last .ensures)
 
 add-integer-requires-2 : tie.Need-add-integer-requires-2 Inv-loop μ-loop
 add-integer-requires-2 c κs = let r = c .before .before .before .before .before .before .before .before .loop .inv in omega (arith, r .few, r .high)
 
-spoiled-requires : tie.Need-spoiled-requires Inv-loop μ-loop
-spoiled-requires c κs = cut (c .before .before .before .before .before) .high
-
-same-length-4 : tie.Need-same-length-4 Inv-loop μ-loop
-same-length-4 c =
-    let at-add-integer2 = c .before .before .before .before .before in let at-loop = at-add-integer2 .before .before .before .before .before .before .before .before .before in
-    at-add-integer2 .add-integer2 .ensures .long ∙ at-loop .loop .inv .long
-
-returns-4 : tie.Need-returns-4 Inv-loop μ-loop
-returns-4 c =
-    let at-add-integer2 = c .before .before .before .before .before in let at-add-integer2-lent = at-add-integer2 .before in
-    let at-loop = at-add-integer2-lent .before .before .before .before .before .before .before .before in let at-start = at-loop .before .before in
-    let none = subst (Adds _ _ _ _ _) (c .before .before .n .given .1) (at-add-integer2 .add-integer2 .ensures) in
-    word-cut-none _ (integers-are (at-start .args .kind)) (at-loop .loop .inv) (cut at-add-integer2-lent) none (c .spoiled .ensures)
-
 loop-less-2 : tie.Need-loop-less-2 Inv-loop μ-loop
-loop-less-2 c = let u = cut (c .before .before .before .before .before) in omega (arith, u .low, u .high)
+loop-less-2 c = let u = cut (c .before .before .before) in omega (arith, u .low, u .high)
 
 loop-again-2 : tie.Need-loop-again-2 Inv-loop μ-loop
 loop-again-2 c =
-    let at-add-integer2 = c .before .before .before .before in let at-add-integer2-lent = at-add-integer2 .before in
+    let at-add-integer2 = c .before .before in let at-add-integer2-lent = at-add-integer2 .before in
     let at-loop = at-add-integer2-lent .before .before .before .before .before .before .before .before in let at-start = at-loop .before .before in
-    let added = subst (Adds _ _ _ _ _) (c .before .more .given .1) (at-add-integer2 .add-integer2 .ensures) in
-    word-cut _ (integers-are (at-start .args .kind)) (at-loop .loop .inv) (cut at-add-integer2-lent) added
+    word-cut _ (integers-are (at-start .args .kind)) (at-loop .loop .inv) (at-add-integer2 .add-integer2 .ensures) (cut at-add-integer2-lent) (c .first-bad .ensures)
 
 pub integers-spec : {M : Type 1} → statement M
 integers-spec =
@@ -144,7 +128,8 @@ integers-spec =
     loop-again
     (λ c. search needs)
     (λ c κs. search needs)
-    add-t25
+    add-judged
+    (λ c κs. search needs)
     same-length
     returns
     (λ c. search needs)
@@ -159,10 +144,6 @@ integers-spec =
     returns-3
     (λ c. search needs)
     add-integer-requires-2
-    (λ c. search needs)
-    spoiled-requires
-    same-length-4
-    returns-4
-    (λ c. search needs)
+    (λ c κs. search needs)
     loop-less-2
     loop-again-2)

@@ -3,6 +3,7 @@ use Prim.Native.Nat.{ℕ}
 use native.Mathlib.Omega.{arith}
 use mathlib.Core.List.{List, [], _∷_, append-nil}
 use mathlib.Core.Path.{_∙_, _≡_, ap, refl, sym}
+use lib.Dec.{lit≤}
 use lib.ListN.{length, length-set}
 use borrow.Author.Needs.{needs}
 use mir.Facts.{toZ-ofZ}
@@ -13,7 +14,7 @@ use Rattle.tabledata.specs.TableData.{truthWord}
 use Rattle.element_reading.proofs.Words.{added-none, added-word}
 use Rattle.element_reading.proofs.elements.Laws.{put-more}
 use Rattle.element_reading.proofs.truths.Laws.{spelling-none, spelling-some, truth-none, truth-some, truth-value, truthAs}
-use Rattle.element_reading.specs.Words.{spelling, truthNumber}
+use Rattle.element_reading.specs.Words.{is-added, is-refused, spelling, truthNumber}
 use Rattle.element_reading.proofs.truths.add_truth.Statement.{statement}
 use Rattle.element_reading.proofs.truths.add_truth.Tie as tie
 
@@ -24,11 +25,8 @@ some-word c w e =
 
 returns : tie.Need-returns
 returns c = record {
-  found = λ w e. (
-    [],
-    ap (λ (u : List ℕ). every truthWord (notEmpty (u ∷ []))) (spelling-none w (sym e ∙ c .if1 .taken)) ∙ added-none truthWord,
-    λ es p. rw append-nil p,
-  );
+  found = λ w e.
+      rw (spelling-none w (sym e ∙ c .if1 .taken), added-none truthWord) (is-added {fs = []} refl (λ es p. rw append-nil p));
   most = omega arith;
   long = refl;
 }
@@ -36,8 +34,10 @@ returns c = record {
 returns-2 : tie.Need-returns-2
 returns-2 c =
     record {
-      found = λ w e. added-word truthWord w _ (spelling-some w (λ n. c .before .before .if1 .left (e ∙ n))) (some-word (c .before) w e ∙ truth-none _ (c .if2 .taken));
-      most = tt;
+      found = λ w e.
+          rw (added-word truthWord w _ (spelling-some w (λ n. c .before .before .if1 .left (e ∙ n))) (some-word (c .before) w e ∙ truth-none _ (c .if2 .taken)))
+          (is-refused refl (lit≤ tt));
+      most = omega arith;
       long = refl;
     }
 
@@ -47,11 +47,9 @@ returns-3 c =
     let at-if1 = at-truth-of .before in
     let stored = toZ-ofZ {w = w64} (record { sfits = at-as-element .as-element .ok }) ∙ at-as-element .as-element .ensures in
     record {
-      found = λ w e. (
-        _,
-        added-word truthWord w _ (spelling-some w (λ n. at-if1 .if1 .left (e ∙ n))) (some-word at-truth-of w e ∙ truth-some _ (at-if2 .if2 .left)),
-        λ es p. put-more p (c .before .put .ensures) stored,
-      );
+      found = λ w e.
+          rw (added-word truthWord w _ (spelling-some w (λ n. at-if1 .if1 .left (e ∙ n))) (some-word at-truth-of w e ∙ truth-some _ (at-if2 .if2 .left)))
+          (is-added refl (λ es p. put-more p (c .before .put .ensures) stored));
       most = omega arith;
       long = ap length (c .before .put .ensures) ∙ simp length-set;
     }
