@@ -3,3 +3,4 @@ pub mod LineEnds
 pub mod Laws
 pub mod Calls
 pub mod Pieces
+pub mod AllEleven

@@ -1,5 +1,6 @@
 pub mod Bounds
 pub mod Sequence
 pub mod Stream
+pub mod AllEleven
 pub mod Convert
 pub mod Pieces
