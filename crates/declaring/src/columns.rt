@@ -1,6 +1,6 @@
 // The column that a FIELD declares: its kind, its length, its null value.
 ghost use mathlib.Core.Path.{_≡_};
-ghost use Rattle.tabledata.specs.TableData.{elementsOf};
+ghost use Rattle.tabledata.specs.TableData.{textElements};
 ghost use Rattle.table.specs.Shape.{shape};
 ghost use Rattle.fields.specs.Fields.{beforeStar, boundedLen, judge, kindOf, kinds, lenBefore, lenOf, lengthOf, nullOf};
 ghost use Rattle.declaring.specs.Readers.{ElementIn, ValueIn, asWritten, elementOf, fixedLen, judged, kindRead, lenRead, lengthRead, nullOfScalar, nullRead, oneNull};
@@ -149,7 +149,7 @@ fn read_len(s: &[u8], v: Value) -> LenRead
 
 // "read as a cell of that kind; an empty one is refused", and so is more than one element.
 fn null_value(t: &[u8], kind: Kind) -> NullRead
-    ensures { λ r. ⌜ oneNull (elementsOf (shape kind) (now (t .entry))) ≡ nullRead r ⌝ }
+    ensures { λ r. ⌜ oneNull (textElements (shape kind) (now (t .entry))) ≡ nullRead r ⌝ }
 {
     let mut element = [0i64; 1];
     match plain_elements(t, kind, &mut element) {

@@ -24,7 +24,7 @@ use Rattle.rows.specs.Convert.{convert, converting, underColumns}
 use Rattle.rows.specs.Stream.{Table, read, run, writeCell}
 use Rattle.table.proofs.Laws.{each-weaken, fails-at, holds-at, the}
 use Rattle.table.specs.Cell.{AreColumns, Each, Fits}
-use Rattle.table.specs.Outcome.{Call, Outcome, Refusal, accepted, answerOf, at, ending, mostInput}
+use Rattle.table.specs.Outcome.{Call, Outcome, Refusal, accepted, answerOf, at, ending, mostInput, mostNumber}
 use Rattle.table.specs.Result.{Result, bad, good}
 use Rattle.table.specs.declared.Column.{Column}
 use Rattle.table.specs.declared.Rows.{Rows}
@@ -58,11 +58,11 @@ lines-written decls from to input out cs q = go (ltb mostInput (length input)) (
 -- ---- what was accepted
 
 -- a call that is accepted has done all the rows: no refusal has the number 0
-all-done : (to : Rows) (cs : List Column) (room : ℕ) (t : Table) (rows size n r k : ℕ) → Stops (Placed 8 13 (length cs)) t → Why to cs room t rows size n r k
+all-done : (to : Rows) (cs : List Column) (room : ℕ) (t : Table) (rows size n r k : ℕ) → Stops (Placed 8 mostNumber (length cs)) t → Why to cs room t rows size n r k
     → n ≡ 0 → Ends t × (rows ≡ count t)
 all-done to cs room t rows size n r k s (all-rows e q) z = (e, q)
 all-done to cs room t rows size n r k s (in-reading {e = e} q) z =
-    let p : Placed 8 13 (length cs) e = stops-behind (Placed 8 13 (length cs)) (stop-behind rows t e q) s in absurd (omega (arith, p .0 .0, z))
+    let p : Placed 8 mostNumber (length cs) e = stops-behind (Placed 8 mostNumber (length cs)) (stop-behind rows t e q) s in absurd (omega (arith, p .0 .0, z))
 all-done to cs room t rows size n r k s (in-writing {e = e} {xs = xs} q w) z =
     let p : Placed 14 16 (length cs) e = fails-at (write-row-fails to cs xs) w in absurd (omega (arith, p .0 .0, z))
 all-done to cs room t rows size n r k s (no-space q w h) z = absurd (omega (arith, z))

@@ -26,7 +26,7 @@ use Rattle.table.specs.Result.{every}
 use Rattle.table.specs.Shape.{half, inRange}
 use Rattle.tabledata.specs.TableData.{allText, bitLetter, bitText, bitWords, cellText, characters, close-TD, close-TR, consText, countFits, elementBytes, elementText}
 use Rattle.tabledata.specs.TableData.{emitted, escaped, expanded, follow, formOf, forms, integerWord, isText, lineEnd, lower, named, names, numeric, open-TD, open-TR, readText}
-use Rattle.tabledata.specs.TableData.{elementsOf, spaced, step, tagged, textCell, textElements, truthLetter, truthText, truthWord, writeText}
+use Rattle.tabledata.specs.TableData.{faultNumber, spaced, step, tagged, textCell, textElements, truthLetter, truthText, truthWord, writeText}
 
 unfoldable pub everything : ℕ
 unfolding
@@ -37,7 +37,7 @@ unfolding
     truthByte bitOf element number bitBytes bitsOf packed pack allZero unpack readFlags contentBytes numbers beforeNul numbersIn content
     firstBytes atMost counted countIn shows readBinary2 readBinary countBytes groups bytesOf elementsBytes zeros writeBinary2 canBeEmpty
     nullForm writeBinary open-TD close-TD open-TR close-TR names named numeric expanded emitted feedFirst lineEnds lineEnd step consText follow characters cellText isText
-    allText lower truthLetter truthWord bitLetter bitWords integerWord textElements countFits elementsOf textCell readText escaped formOf forms truthText
+    allText lower truthLetter truthWord bitLetter bitWords integerWord textElements countFits faultNumber textCell readText escaped formOf forms truthText
     bitText spaced elementText tagged writeText isNameByte spanName someName spanValue readValue readAttribute nameComes attributeComes
     attributesF attributes valuesOf atMostOne exactlyOne readValues begins fieldBody readField kinds kindOf lengthOf beforeStar boundedLen
     lenBefore lenOf nullValue nullOf judge fieldsThen fieldsF declare front underColumns converting convert readCell flag flagsLeft readCells

@@ -174,10 +174,10 @@ one-more to cs room xs t done (refused e r out) h = (h .0, later to cs room xs t
 
 -- the room is never passed, whatever was written before
 pub done-of : (to : Rows) (cs : List Column) (room : ℕ) {r : ℕ} {out : List ℕ} {t : Table} {o : Outcome} → Writes to cs room r out t o
-    → Stops (Placed 8 13 (length cs)) t → Done to cs room r out t o
+    → Stops (Placed 8 mostNumber (length cs)) t → Done to cs room r out t o
 unfolding rowsDone written count upTo lines at stopAt rowAt
 done-of to cs room {r} {out} {t} {o} all-written s = none-done to cs room r out t o refl refl (tt, refl)
-done-of to cs room {r} {out} {t} {o} unread s = none-done to cs room r out t o refl refl (((s .0 .0, omega (arith, s .0 .1)), s .1), not-read refl)
+done-of to cs room {r} {out} {t} {o} unread s = none-done to cs room r out t o refl refl (s, not-read refl)
 done-of to cs room {r} {out} {t} {o} (unwritten {xs = xs} q) s =
     let w : Placed 14 16 (length cs) _ = fails-at (write-row-fails to cs xs) q in
     none-done to cs room r out t o refl refl (((omega (arith, w .0 .0), omega (arith, w .0 .1)), w .1), no-form refl q)

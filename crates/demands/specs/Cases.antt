@@ -63,6 +63,11 @@ reads kind text line = gives-rows (column kind) TableData TableData (bytes (cell
 abbrev refuses-text : String → String → ℕ → Case
 refuses-text kind text number = refuses-it (column kind) TableData TableData (bytes (cell text)) number
 
+abbrev refuses-texts : String → String → String → ℕ → Case
+refuses-texts kind size text number =
+    refuses-it (Prim.Native.String._++_ "<FIELD datatype='" (Prim.Native.String._++_ kind (Prim.Native.String._++_ "' arraysize='" (Prim.Native.String._++_ size "'/>"))))
+    TableData TableData (bytes (cell text)) number
+
 unfoldable pub cases : List Case
 cases =
     -- "P the sample night, all ways"
@@ -75,18 +80,31 @@ cases =
     ∷ night Binary2 nightBinary2 TableData nightText
     ∷ night Binary2 nightBinary2 Binary nightBinary
     ∷ night Binary2 nightBinary2 Binary2 nightBinary2
-    -- "P short `0xffff` is -1; P short `32768` 11, `-32768` good"
+    -- "P short `0xffff` is -1; P short .. `-32768` good"; #104: "P cases `32768` and `256` become 18"
     ∷ reads "short" "0xffff" "-1"
-    ∷ refuses-text "short" "32768" 11
+    ∷ refuses-text "short" "32768" 18
     ∷ reads "short" "-32768" "-32768"
     -- "P long `-9223372036854775808` good"
     ∷ reads "long" "-9223372036854775808" "-9223372036854775808"
-    -- "P unsignedByte `256` 11, `0xff` 255"
-    ∷ refuses-text "unsignedByte" "256" 11
+    -- "P unsignedByte .. `0xff` 255"; #104: "`256`" 18
+    ∷ refuses-text "unsignedByte" "256" 18
     ∷ reads "unsignedByte" "0xff" "255"
     -- "P `+5` good for int, 11 for unsignedByte"
     ∷ reads "int" "+5" "5"
     ∷ refuses-text "unsignedByte" "+5" 11
+    -- #104: "11 stays for text that isn't written as an integer", "in one cell the first bad element decides", "Both come before 12"
+    ∷ refuses-text "short" "1.5" 11
+    ∷ refuses-texts "short" "2" "99999 x" 18
+    ∷ refuses-texts "short" "2" "x 99999" 11
+    ∷ refuses-texts "short" "2" "1 99999 &#1;" 18
+    ∷ refuses-texts "short" "2" "1 &#1; 99999" 11
+    -- "More than 20 digits stays 11, and so do too many hexadigits"
+    ∷ refuses-text "long" "99999999999999999999" 18
+    ∷ refuses-text "long" "000000000000000000001" 11
+    ∷ refuses-text "short" "0x12345" 11
+    -- "A declared null of either sort is still 4"
+    ∷ refuses-it "<FIELD datatype='short'><VALUES null='99999'/></FIELD>" TableData TableData [] 4
+    ∷ refuses-it "<FIELD datatype='short'><VALUES null='1.5'/></FIELD>" TableData TableData [] 4
     -- "P nine bits `FF 80` good, `FF 81` 13"
     ∷ gives-rows "<FIELD datatype='bit' arraysize='9'/>" Binary TableData (0xFF ∷ 0x80 ∷ []) 1 (bytes (cell "111111111"))
     ∷ refuses-it "<FIELD datatype='bit' arraysize='9'/>" Binary TableData (0xFF ∷ 0x81 ∷ []) 13

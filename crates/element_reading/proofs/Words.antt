@@ -12,13 +12,14 @@ use Rattle.table.proofs.Words.{words-cut, words-last, words-none}
 use Rattle.table.specs.Bytes.{isWhite, notEmpty, words}
 use Rattle.table.specs.Result.{Result, _>>=_, bad, every, good}
 use Rattle.table.specs.Shape.{Shape}
-use Rattle.tabledata.specs.TableData.{elementsOf, textElements}
-use Rattle.element_reading.proofs.characters.Passing.{passed-then, text-append}
+use Rattle.tabledata.specs.TableData.{textElements}
+use Rattle.element_reading.proofs.characters.Passing.{passed-then}
 use Rattle.element_reading.proofs.elements.Laws.{ReadTo, read-on, spoilt}
 use Rattle.element_reading.specs.Characters.{charactersOf, spoiledNumber}
 use Rattle.element_reading.specs.Elements.{TakesElements, elementsFrom}
-use Rattle.element_reading.specs.Words.{Adds, CutAt, LastAt}
-use Rattle.element_reading.specs.declared.elements.Added.the-variants.{NoWord, To}
+use Rattle.element_reading.specs.Words.{Adds, CutAt, LastAt, withLast}
+use Rattle.element_reading.specs.declared.elements.Added.the-variants.{Refused, To}
+use Rattle.element_reading.specs.declared.elements.Added.{Added}
 use Rattle.element_reading.specs.declared.elements.Taken.the-variants.{Held}
 use Rattle.element_reading.specs.declared.elements.Taken.{Taken}
 use Rattle.element_reading.specs.declared.characters.Source.{Source}
@@ -84,7 +85,7 @@ module _ {f : List ℕ → Result ℕ ℤ} {w : List ℕ} {es : List ℤ} (p : W
       elements = rw (words-to w u c (p .clean) a h, every-append f (words w) (notEmpty (u ∷ [])), p .elements, e);
     }
 
-    words-bad : (v : List ℕ) → every f (notEmpty (u ∷ [])) ≡ bad 11 → every f (words (w ++ (u ++ (c ∷ [])) ++ v)) ≡ bad 11
+    words-bad : {number : ℕ} (v : List ℕ) → every f (notEmpty (u ∷ [])) ≡ bad number → every f (words (w ++ (u ++ (c ∷ [])) ++ v)) ≡ bad number
     words-bad v e =
         rw (words-more w u c v (p .clean) a h, every-append f (words w) (notEmpty (u ∷ []) ++ words v), p .elements, every-append f (notEmpty (u ∷ [])) (words v), e)
 
@@ -103,12 +104,11 @@ module _ (k : Shape) {f : List ℕ → Result ℕ ℤ} (q : (w : List ℕ) → t
     (r : ReadTo (WordsAt f) source s from i n entry l) where
   module _ {Stands : List ℕ → Type 0} {next : ℕ} (u : LastAt Stands source s i next) where
     last-is : {x : Result ℕ (List ℤ)} → textElements k (r .w ++ u .w) ≡ x → elementsFrom source k (drop from s) ≡ (x >>= λ es. good (es, drop next s))
-    unfolding elementsOf
-    last-is e = read-on r k ∙ u .ends (λ cs. elementsOf k (r .w ++ cs)) ∙ rw (text-append (r .w) (u .w) (r .passed .text) (u .text), e)
+    last-is e = read-on r k ∙ u .ends (λ cs. textElements k (r .w ++ cs)) ∙ rw e
 
-    pub word-last : {all : ℕ} {m : List ℤ} → Adds f Stands n l m (To all) → TakesElements (elementsFrom source k (drop from s)) s from entry m (Held all next)
-    word-last d =
-        let x = d .found (u .w) (u .text) (u .stands) in
+    pub word-last : {all : Added} {m : List ℤ} → Adds f Stands n l m all → TakesElements (elementsFrom source k (drop from s)) s from entry m (withLast all next)
+    word-last {all = To all} d =
+        let x = d .found (u .w) (u .stands) in
         record {
           found = (
             r .es ++ x .0,
@@ -119,17 +119,15 @@ module _ (k : Shape) {f : List ℕ → Result ℕ ℤ} (q : (w : List ℕ) → t
           );
           long = d .long ∙ r .long;
         }
-
-    pub word-last-none : {m : List ℤ} → Adds f Stands n l m NoWord → TakesElements (elementsFrom source k (drop from s)) s from entry m (Taken.Refused 11)
-    word-last-none d = record {
-      found = last-is (q (r .w ++ u .w) ∙ words-end (r .means) (u .w) (u .word) (d .found (u .w) (u .text) (u .stands)));
+    word-last {all = Refused number} d = record {
+      found = last-is (q (r .w ++ u .w) ∙ words-end (r .means) (u .w) (u .word) (d .found (u .w) (u .stands)));
       long = d .long ∙ r .long;
     }
 
   module _ {Stands : List ℕ → Type 0} {next : ℕ} (u : CutAt Stands source s i next) where
     pub word-cut : {all : ℕ} {m : List ℤ} → Adds f Stands n l m (To all) → ReadTo (WordsAt f) source s from next all entry m
     word-cut d =
-        let x = d .found (u .w) (u .text) (u .stands) in
+        let x = d .found (u .w) (u .stands) in
         record {
           w = _;
           es = _;
@@ -142,12 +140,12 @@ module _ (k : Shape) {f : List ℕ → Result ℕ ℤ} (q : (w : List ℕ) → t
           high = u .high;
         }
 
-    pub word-cut-none : {x : ℕ} {m : List ℤ} → Adds f Stands n l m NoWord → x ≡ spoiledNumber (charactersOf source (drop next s))
+    pub word-cut-none : {x number : ℕ} {m : List ℤ} → Adds f Stands n l m (Refused number) → x ≡ spoiledNumber number (charactersOf source (drop next s))
         → TakesElements (elementsFrom source k (drop from s)) s from entry m (Taken.Refused x)
     word-cut-none d e = record {
       found =
           spoilt k (passed-then (r .passed) (u .passed)) (λ v.
-          q (r .w ++ (u .w ++ (u .white ∷ [])) ++ v) ∙ words-bad (r .means) (u .w) (u .word) (u .white) (u .is-white) v (d .found (u .w) (u .text) (u .stands)))
+          q (r .w ++ (u .w ++ (u .white ∷ [])) ++ v) ∙ words-bad (r .means) (u .w) (u .word) (u .white) (u .is-white) v (d .found (u .w) (u .stands)))
           ∙ ap bad (sym e);
       long = d .long ∙ r .long;
     }

@@ -63,7 +63,7 @@ TextEndsAs source s place Broken = Unit {0}
 pub record TextEnds (source : Source) (s : List ℕ) (place : ℕ) (r : Tag) : Type 0 where
   pub found : TextEndsAs source s place r
 
--- "a text cell 10, 11, 12": 10 where its text is broken, or else 11
-unfoldable pub spoiledNumber : Result ℕ (List ℕ × List ℕ) → ℕ
-spoiledNumber (good p) = 11
-spoiledNumber (bad n) = n
+-- "a text cell 10, 11, 12": 10 where its text is broken, or else the number of its first bad element
+unfoldable pub spoiledNumber : ℕ → Result ℕ (List ℕ × List ℕ) → ℕ
+spoiledNumber number (good p) = number
+spoiledNumber number (bad n) = n

@@ -8,7 +8,7 @@ use lib.IntN.{pos, ℤ}
 use lib.ListN.{drop, length, take}
 use Rattle.table.specs.Result.{Result, _>>=_, bad, good}
 use Rattle.table.specs.Shape.{Shape}
-use Rattle.tabledata.specs.TableData.{allText, bitLetter, elementsOf}
+use Rattle.tabledata.specs.TableData.{allText, bitLetter, textElements}
 use Rattle.element_reading.specs.Characters.{charactersOf}
 use Rattle.element_reading.specs.declared.characters.Source.{Source}
 use Rattle.element_reading.specs.declared.elements.Counted.the-variants.{All}
@@ -22,7 +22,7 @@ onward g r = r >>= λ p. g (p .0) >>= λ es. good (es, p .1)
 
 -- a text's elements from its first character on, and what follows it
 unfoldable pub elementsFrom : Source → Shape → List ℕ → Result ℕ (List ℤ × List ℕ)
-elementsFrom source k s = onward (elementsOf k) (charactersOf source s)
+elementsFrom source k s = onward (textElements k) (charactersOf source s)
 
 -- the elements are counted; the scratch has those that it has room for
 pub record Stored (es : List ℤ) (count : ℕ) (scratch : List ℤ) : Type 0 where
@@ -47,17 +47,16 @@ pub record CountsElements (definition : Result ℕ (List ℤ)) (entry exit : Lis
   pub found : CountedAs definition exit r
   pub long : length exit ≡ length entry
 
--- the text from one place to another has the characters w, which a cell may have: whatever is made of the text from the one is made of w
--- and the text from the other
+-- the text from one place to another has the characters w: whatever is made of the text from the one is made of w and the text from the other
 pub record Passed (source : Source) (s : List ℕ) (from next : ℕ) (w : List ℕ) : Type 0 where
   pub passes : (g : List ℕ → Result ℕ (List ℤ))
       → onward g (charactersOf source (drop from s)) ≡ onward (λ cs. g (w ++ cs)) (charactersOf source (drop next s))
-  pub text : allText w ≡ true
 
 -- ---- char
 
 pub record Copied (s : List ℕ) (from count : ℕ) (entry exit : List ℤ) (next : ℕ) : Type 0 where
   pub passed : (source : Source) → Passed source s from next (take (next - from) (drop from s))
+  pub text : allText (take (next - from) (drop from s)) ≡ true
   pub stored : (es : List ℤ) → Stored es count entry → Stored (es ++ map pos (take (next - from) (drop from s))) (count + (next - from)) exit
   pub low : from ≤ next
   pub high : next ≤ length s

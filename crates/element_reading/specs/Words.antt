@@ -1,6 +1,6 @@
 -- What the contracts of the functions on a text's words say: how a word ends, what it is held as, and what it adds.
 use Prim.Native.Nat.{_*_, _+_, _<_, _≤_, ℕ}
-use mathlib.Core.Bool.{Bool, _&&_, cond, false, true}
+use mathlib.Core.Bool.{Bool, _&&_, _||_, cond, false, true}
 use mathlib.Core.List.{List, [], _++_, _∷_}
 use mathlib.Core.Path.{_≡_}
 use lib.Dec.{eqb, leb, ltb}
@@ -11,23 +11,25 @@ use Rattle.number.specs.declared.Integer.{Integer}
 use Rattle.table.specs.All.{All}
 use Rattle.table.specs.Bytes.{isWhite, notEmpty}
 use Rattle.table.specs.Result.{Result, _>>=_, bad, every, good}
-use Rattle.tabledata.specs.TableData.{allText, integerWord, lower}
-use Rattle.element_reading.specs.Characters.{charactersOf, spoiledNumber}
+use Rattle.tabledata.specs.TableData.{integerWord, lower}
+use Rattle.element_reading.specs.Characters.{charactersOf}
 use Rattle.element_reading.specs.Elements.{Passed, Stored, onward}
 use Rattle.element_reading.specs.declared.characters.Source.{Source}
-use Rattle.element_reading.specs.declared.elements.Added.the-variants.{NoWord, To}
+use Rattle.element_reading.specs.declared.elements.Added.the-variants.{Refused, To}
 use Rattle.element_reading.specs.declared.elements.Added.{Added}
+use Rattle.element_reading.specs.declared.elements.Taken.the-variants.{Held}
+use Rattle.element_reading.specs.declared.elements.Taken.{Taken}
 use Rattle.element_reading.specs.declared.numerals.Numeral.{Numeral}
 use Rattle.element_reading.specs.declared.numerals.QuickWord.{QuickWord}
-use Rattle.element_reading.specs.declared.truths.Piece.the-variants.{Cut, Last, NoText}
+use Rattle.element_reading.specs.declared.truths.Piece.the-variants.{Cut, Last}
 use Rattle.element_reading.specs.declared.truths.Piece.{Piece}
 use Rattle.words.specs.Words.{feed, fresh}
 use Rattle.words.specs.declared.Form.the-variants.{Decimal, Hexadecimal, Minus, Plus, Start, Zero}
 use Rattle.words.specs.declared.Form.{Form}
 
--- one letter more of a word that is spelled as a number
+-- one letter more of a word that is spelled as a number; a letter that is not ASCII spells what no word does
 unfoldable pub spell : ℕ → ℕ → ℕ
-spell q c = cond (leb 281474976710656 q) 281474976710656 (q * 256 + lower c)
+spell q c = cond (leb 281474976710656 q || leb 128 c) 281474976710656 (q * 256 + lower c)
 
 unfoldable pub spelled : ℕ → List ℕ → ℕ
 spelled q [] = q
@@ -48,7 +50,6 @@ pub record CutAt (Stands : List ℕ → Type 0) (source : Source) (s : List ℕ)
   pub w : List ℕ
   pub stands : Stands w
   pub word : All (λ (c : ℕ). isWhite c ≡ false) w
-  pub text : allText w ≡ true
   pub white : ℕ
   pub is-white : isWhite white ≡ true
   pub passed : Passed source s from next (w ++ (white ∷ []))
@@ -59,21 +60,13 @@ pub record LastAt (Stands : List ℕ → Type 0) (source : Source) (s : List ℕ
   pub w : List ℕ
   pub stands : Stands w
   pub word : All (λ (c : ℕ). isWhite c ≡ false) w
-  pub text : allText w ≡ true
   pub ends : (g : List ℕ → Result ℕ (List ℤ)) → onward g (charactersOf source (drop from s)) ≡ (g w >>= λ es. good (es, drop next s))
   pub low : from ≤ next
-  pub high : next ≤ length s
-
--- a character that no cell may have, before the place `next`
-pub record NoTextAt (source : Source) (s : List ℕ) (from next : ℕ) : Type 0 where
-  pub refuses : (g : List ℕ → Result ℕ (List ℤ)) → ((cs : List ℕ) → allText cs ≡ false → g cs ≡ bad 11)
-      → onward g (charactersOf source (drop from s)) ≡ bad (spoiledNumber (charactersOf source (drop next s)))
   pub high : next ≤ length s
 
 abbrev pub PieceAs : Source → List ℕ → ℕ → Piece → Type 0
 PieceAs source s from (Cut q next) = CutAt (λ w. q ≡ spelling w) source s from next
 PieceAs source s from (Last q next) = LastAt (λ w. q ≡ spelling w) source s from next
-PieceAs source s from (NoText next) = NoTextAt source s from next
 PieceAs source s from Piece.Broken = charactersOf source (drop from s) ≡ bad 10
 
 pub record PieceIs (source : Source) (s : List ℕ) (from : ℕ) (r : Piece) : Type 0 where
@@ -82,22 +75,26 @@ pub record PieceIs (source : Source) (s : List ℕ) (from : ℕ) (r : Piece) : T
 abbrev pub AddedAs : (List ℕ → Result ℕ ℤ) → List ℕ → ℕ → List ℤ → List ℤ → Added → Type 0
 AddedAs f w count entry exit (To n) =
     (fs : List ℤ) × (every f (notEmpty (w ∷ [])) ≡ good fs) × ((es : List ℤ) → Stored es count entry → Stored (es ++ fs) n exit)
-AddedAs f w count entry exit NoWord = every f (notEmpty (w ∷ [])) ≡ bad 11
+AddedAs f w count entry exit (Refused n) = every f (notEmpty (w ∷ [])) ≡ bad n
 
 abbrev pub AddedMost : ℕ → Added → Type 0
 AddedMost count (To n) = n ≤ count + 1
-AddedMost count NoWord = Unit {0}
+AddedMost count (Refused n) = Unit {0}
 
 -- the element of each word that `Stands` for what was read
 pub record Adds (f : List ℕ → Result ℕ ℤ) (Stands : List ℕ → Type 0) (count : ℕ) (entry exit : List ℤ) (r : Added) : Type 0 where
-  pub found : (w : List ℕ) → allText w ≡ true → Stands w → AddedAs f w count entry exit r
+  pub found : (w : List ℕ) → Stands w → AddedAs f w count entry exit r
   pub most : AddedMost count r
   pub long : length exit ≡ length entry
+
+-- what a text comes to with its last word
+abbrev pub withLast : Added → ℕ → Taken
+withLast (To count) next = Held count next
+withLast (Refused n) next = Taken.Refused n
 
 abbrev pub NumeralAs : Source → List ℕ → ℕ → Numeral → Type 0
 NumeralAs source s from (Numeral.Cut x next) = CutAt (λ w. x ≡ feed fresh w) source s from next
 NumeralAs source s from (Numeral.Last x next) = LastAt (λ w. x ≡ feed fresh w) source s from next
-NumeralAs source s from (Numeral.NoText next) = NoTextAt source s from next
 NumeralAs source s from Numeral.Broken = charactersOf source (drop from s) ≡ bad 10
 
 pub record NumeralIs (source : Source) (s : List ℕ) (from : ℕ) (r : Numeral) : Type 0 where

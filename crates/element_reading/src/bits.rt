@@ -46,7 +46,7 @@ pub(crate) fn bits(s: &[u8], from: usize, source: Source, scratch: &mut [i64]) -
                 }
                 let x = bit_of(c, closed);
                 if x == 2 {
-                    return Taken::Refused(spoiled(s, next, source));
+                    return Taken::Refused(spoiled(s, next, source, 11));
                 }
                 put(scratch, count, as_element(x));
                 count += 1;

@@ -113,16 +113,16 @@ pub(crate) fn character_at(s: &[u8], at: usize, source: Source) -> Item
     Item::Code(c as u32, at + 1)
 }
 
-// A text that has a character or an element it should not have: 10 is still to be looked for through its end.
-pub(crate) fn spoiled(s: &[u8], from: usize, source: Source) -> u64
+// A text whose first bad element has this number: 10 is still to be looked for through its end.
+pub(crate) fn spoiled(s: &[u8], from: usize, source: Source, number: u64) -> u64
     requires { ⌜ from ≤ length (now s) ⌝ }
-    ensures { λ r. ⌜ r ≡ spoiledNumber (charactersOf source (drop from (now (s .entry)))) ⌝ }
+    ensures { λ r. ⌜ r ≡ spoiledNumber number (charactersOf source (drop from (now (s .entry)))) ⌝ }
 {
     let mut i = from;
     loop {
         match character_at(s, i, source) {
             Item::Broken => return 10,
-            Item::End(_) => return 11,
+            Item::End(_) => return number,
             Item::Code(_, next) => {
                 i = next;
             }

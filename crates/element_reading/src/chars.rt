@@ -50,7 +50,7 @@ pub(crate) fn chars(s: &[u8], from: usize, source: Source, scratch: &mut [i64]) 
             Item::End(next) => return Taken::Held(count, next),
             Item::Code(c, next) => {
                 if !is_text(c) {
-                    return Taken::Refused(spoiled(s, next, source));
+                    return Taken::Refused(spoiled(s, next, source, 11));
                 }
                 put(scratch, count, as_element(c));
                 count += 1;

@@ -1,4 +1,5 @@
 // A text's elements: read so far, they stand in the scratch as far as it has room, and are counted on.
+ghost use Rattle.element_reading.specs.Words.{withLast};
 ghost use lib.IntN.{pos};
 ghost use lib.ListN.{set};
 ghost use mathlib.Core.Path.{_≡_};
@@ -15,10 +16,20 @@ pub enum Counted {
     Refused(u64),
 }
 
-// How many elements there are with a word's, or it is no word of its kind.
+// How many elements there are with a word's, or the number of its refusal.
 pub enum Added {
     To(usize),
-    NoWord,
+    Refused(u64),
+}
+
+// What a text comes to with its last word, which ends at `next`.
+pub(crate) fn with_last(added: Added, next: usize) -> Taken
+    ensures { λ r. ⌜ r ≡ withLast added next ⌝ }
+{
+    match added {
+        Added::To(count) => Taken::Held(count, next),
+        Added::Refused(n) => Taken::Refused(n),
+    }
 }
 
 // An element is stored where there is room for it.

@@ -10,7 +10,7 @@ use number::Elements;
 use number::elements_of;
 use table::Kind;
 ghost use Prim.Native.Nat.{_≤_};
-ghost use Rattle.tabledata.specs.TableData.{elementsOf};
+ghost use Rattle.tabledata.specs.TableData.{textElements};
 ghost use Rattle.element_reading.specs.Elements.{CountsElements, TakesElements, elementsFrom};
 ghost use Rattle.table.specs.Shape.{shape};
 ghost use lib.ListN.{drop, length};
@@ -36,7 +36,7 @@ pub fn read_elements(
 
 // The elements of a plain part of a text, as those of a cell whose characters it has.
 pub fn plain_elements(part: &[u8], kind: Kind, scratch: &mut [i64]) -> Counted
-    ensures { λ r. ⌜ CountsElements (elementsOf (shape kind) (now (part .entry))) (now (scratch .entry)) (now (scratch .exit)) r ⌝ }
+    ensures { λ r. ⌜ CountsElements (textElements (shape kind) (now (part .entry))) (now (scratch .entry)) (now (scratch .exit)) r ⌝ }
 {
     match read_elements(part, 0, Source::Plain, kind, scratch) {
         Taken::Held(count, _) => Counted::All(count),

@@ -6,8 +6,8 @@ use super::characters::spoiled;
 use super::elements::Added;
 use super::elements::Taken;
 use super::elements::put;
+use super::elements::with_last;
 use number::Integer;
-use tabledata::is_text;
 use text::Tag;
 use text::goes_on;
 use text::is_white;
@@ -17,7 +17,7 @@ use words::Quick;
 use words::Word;
 ghost use Prim.Native.Nat.{_<_, _≤_};
 ghost use Rattle.number.specs.Contracts.{isSigned, size, widthOf};
-ghost use Rattle.words.specs.Words.{feed, fresh};
+ghost use Rattle.words.specs.Words.{feed, fresh, nextWord};
 ghost use Rattle.table.specs.Shape.{Whole};
 ghost use Rattle.tabledata.specs.TableData.{integerWord};
 ghost use Rattle.element_reading.specs.Words.{Adds, NumeralIs, QuickWordIs, begunForm, spaceAt};
@@ -30,8 +30,17 @@ ghost use mathlib.Core.Path.{_≡_};
 pub enum Numeral {
     Cut(Word, usize),
     Last(Word, usize),
-    NoText(usize),
     Broken,
+}
+
+// The word with a character more; one that is no byte is as little a letter of an integer as 255 is.
+fn with_character(word: Word, c: u32) -> Word
+    ensures { λ r. ⌜ r ≡ nextWord word c ⌝ }
+{
+    if c < 256 {
+        return word.next(c as u8);
+    }
+    word.next(255)
 }
 
 // The word at a place, as the integers' reader has it.
@@ -46,13 +55,10 @@ fn integer_piece(s: &[u8], from: usize, source: Source) -> Numeral
             Item::Broken => return Numeral::Broken,
             Item::End(next) => return Numeral::Last(word, next),
             Item::Code(c, next) => {
-                if !is_text(c) {
-                    return Numeral::NoText(next);
-                }
                 if is_white(c) {
                     return Numeral::Cut(word, next);
                 }
-                word = word.next(c as u8);
+                word = with_character(word, c);
                 i = next;
             }
         }
@@ -84,8 +90,8 @@ fn add_integer(word: Word, kind: Integer, scratch: &mut [i64], count: usize) -> 
         return Added::To(count);
     }
     match word.read(kind) {
-        IntegerRead::Outside => Added::NoWord,
-        IntegerRead::Unwritten => Added::NoWord,
+        IntegerRead::Outside => Added::Refused(18),
+        IntegerRead::Unwritten => Added::Refused(11),
         IntegerRead::Value(z) => {
             put(scratch, count, z);
             Added::To(count + 1)
@@ -174,20 +180,16 @@ pub(crate) fn integers(
             }
             QuickWord::Careful => match integer_piece(s, i, source) {
                 Numeral::Broken => return Taken::Refused(10),
-                Numeral::NoText(next) => return Taken::Refused(spoiled(s, next, source)),
                 Numeral::Last(word, next) => {
-                    let Added::To(all) = add_integer(word, kind, scratch, count) else {
-                        return Taken::Refused(11);
-                    };
-                    return Taken::Held(all, next);
+                    return with_last(add_integer(word, kind, scratch, count), next);
                 }
-                Numeral::Cut(word, next) => {
-                    let Added::To(more) = add_integer(word, kind, scratch, count) else {
-                        return Taken::Refused(spoiled(s, next, source));
-                    };
-                    count = more;
-                    i = next;
-                }
+                Numeral::Cut(word, next) => match add_integer(word, kind, scratch, count) {
+                    Added::Refused(n) => return Taken::Refused(spoiled(s, next, source, n)),
+                    Added::To(more) => {
+                        count = more;
+                        i = next;
+                    }
+                },
             },
         }
     }

@@ -7,7 +7,7 @@ use super::elements::Added;
 use super::elements::Taken;
 use super::elements::as_element;
 use super::elements::put;
-use tabledata::is_text;
+use super::elements::with_last;
 use text::is_white;
 ghost use Prim.Native.Nat.{_<_, _≤_};
 ghost use Rattle.table.specs.Shape.{Truths};
@@ -17,11 +17,10 @@ ghost use Rattle.element_reading.specs.Elements.{TakesElements, elements
 ghost use lib.ListN.{drop, length};
 ghost use mathlib.Core.Path.{_≡_};
 
-// A word up to white space, or up to the end tag, and the place after that; or the place after a character that none may have.
+// A word up to white space, or up to the end tag, and the place after that.
 pub enum Piece {
     Cut(u64, usize),
     Last(u64, usize),
-    NoText(usize),
     Broken,
 }
 
@@ -39,12 +38,15 @@ fn lower_case(c: u32) -> u32
     c + 32
 }
 
-// A word as a number, base 256 and without capitals, with a 1 before its first letter; more than six letters are all the same.
+// A word as a number, base 256 and without capitals, with a 1 before its first letter; more than six letters are all the same, and so is what has
+// a letter that is not ASCII.
 fn with_letter(word: u64, c: u32) -> u64
-    requires { ⌜ c < 128 ⌝ }
     ensures { λ r. ⌜ r ≡ spell word c ⌝ }
 {
     if 281474976710656 <= word {
+        return 281474976710656;
+    }
+    if 128 <= c {
         return 281474976710656;
     }
     word * 256 + (lower_case(c) as u64)
@@ -62,9 +64,6 @@ fn truth_piece(s: &[u8], from: usize, source: Source) -> Piece
             Item::Broken => return Piece::Broken,
             Item::End(next) => return Piece::Last(word, next),
             Item::Code(c, next) => {
-                if !is_text(c) {
-                    return Piece::NoText(next);
-                }
                 if is_white(c) {
                     return Piece::Cut(word, next);
                 }
@@ -101,7 +100,7 @@ fn add_truth(word: u64, scratch: &mut [i64], count: usize) -> Added
     }
     let x = truth_of(word);
     if x == 3 {
-        return Added::NoWord;
+        return Added::Refused(11);
     }
     put(scratch, count, as_element(x));
     Added::To(count + 1)
@@ -117,20 +116,14 @@ pub(crate) fn truths(s: &[u8], from: usize, source: Source, scratch: &mut [i64])
     loop {
         match truth_piece(s, i, source) {
             Piece::Broken => return Taken::Refused(10),
-            Piece::NoText(next) => return Taken::Refused(spoiled(s, next, source)),
-            Piece::Last(word, next) => {
-                let Added::To(all) = add_truth(word, scratch, count) else {
-                    return Taken::Refused(11);
-                };
-                return Taken::Held(all, next);
-            }
-            Piece::Cut(word, next) => {
-                let Added::To(more) = add_truth(word, scratch, count) else {
-                    return Taken::Refused(spoiled(s, next, source));
-                };
-                count = more;
-                i = next;
-            }
+            Piece::Last(word, next) => return with_last(add_truth(word, scratch, count), next),
+            Piece::Cut(word, next) => match add_truth(word, scratch, count) {
+                Added::Refused(n) => return Taken::Refused(spoiled(s, next, source, n)),
+                Added::To(more) => {
+                    count = more;
+                    i = next;
+                }
+            },
         }
     }
 }

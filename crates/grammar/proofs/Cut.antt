@@ -21,7 +21,7 @@ use Rattle.grammar.proofs.Resumption.{andThen}
 use Rattle.grammar.proofs.RowsRefused.{more-at-is, more-at-read, no-row-is, row-at-read, rows-at-is, rows-at-left, rows-at-read, stops-exactly}
 use Rattle.grammar.proofs.Streams.{IsFinished, ends-there, first-stop}
 use Rattle.grammar.specs.CellRefusals.{CellAt, MarkedAt, NoBinary2Cell, NoCell, binary-at, binary2-at, cut-content, cut-count, cut-flags, no-byte-value, no-element}
-use Rattle.grammar.specs.CellRefusals.{no-text-value, not-as-many, over-bound, padding-not-0, spare-flag, text-at}
+use Rattle.grammar.specs.CellRefusals.{no-text-value, not-as-many, out-of-range, over-bound, padding-not-0, spare-flag, text-at}
 use Rattle.grammar.specs.Exact.{CutFate, CutFile, InGrammar, cut-between, cut-inside, cutNumber, tableOf}
 use Rattle.grammar.specs.RowRefusals.{MoreAt, NoCells, NoRow, NoStart, RowAt, RowsAt, StartAt, TagAt, at-cell, binary-row-at, binary-start}
 use Rattle.grammar.specs.RowRefusals.{binary2-row-at, binary2-start, cell-then, no-binary2-start, no-cells, no-end, no-start, no-text-end}
@@ -87,7 +87,8 @@ no-binary2-cut {s = s} (no-byte-value {a = a} b rest f e h t l k none) = inr (λ
 
 no-cell-cut : (from : Rows) (c : Column) (f : Bool) (s : List ℕ) (n : ℕ) → NoCell from c f s n → (n ≡ cutNumber from) ⊎ ((q : List ℕ) → NoCell from c f (s ++ q) n)
 no-cell-cut TableData c f s n (no-element none) = inl refl
-no-cell-cut TableData c f s n (no-text-value m none) = inr (λ q. no-text-value (marked-longer q m) none)
+no-cell-cut TableData c f s n (no-text-value m none inside) = inr (λ q. no-text-value (marked-longer q m) none inside)
+no-cell-cut TableData c f s n (out-of-range m outside) = inr (λ q. out-of-range (marked-longer q m) outside)
 no-cell-cut TableData c f s n (not-as-many m a e many) = inr (λ q. not-as-many (marked-longer q m) a e many)
 no-cell-cut Binary c f s n h = no-binary2-cut h
 no-cell-cut Binary2 c f s n h = no-binary2-cut h

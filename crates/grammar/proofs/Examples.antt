@@ -14,21 +14,21 @@ use Rattle.grammar.proofs.Base64Read.{undecoded-exactly}
 use Rattle.grammar.proofs.ColumnsRead.{datatype-read, declares-is}
 use Rattle.grammar.proofs.DeclarationsRefused.{not-declared-exactly}
 use Rattle.grammar.proofs.Exactly.{accepts-exactly, declares-columns, spells-is}
-use Rattle.grammar.proofs.TextRead.{characters-read, elements-of-read}
+use Rattle.grammar.proofs.TextRead.{characters-read, outside-elements}
 use Rattle.grammar.proofs.WordsRead.{integer-read}
 use Rattle.grammar.specs.Binaries.{Packed, big-endian, counted-fixed, packed-end, packed-then}
-use Rattle.grammar.specs.CellRefusals.{NoCell, has-bounded, no-text-value, over-bound, padding-not-0, padding-set}
+use Rattle.grammar.specs.CellRefusals.{NoCell, OutsideFirst, first-outside, has-bounded, out-of-range, over-bound, padding-not-0, padding-set}
 use Rattle.grammar.specs.DeclarationRefusals.{NotDeclared, no-column, not-declared}
 use Rattle.grammar.specs.Declarations.{Datatype, Declares}
 use Rattle.grammar.specs.Exact.{InGrammar, NotDecoded, tableOf}
 use Rattle.grammar.specs.Text.{Characters, Marked, char-amp, char-decimal, char-itself, char-line-end, chars-end, chars-return, chars-then, marked-text}
 use Rattle.grammar.specs.Valid.{Spells}
-use Rattle.grammar.specs.Words.{Hexadigit, IntegerWord, Itself, a-tag, figure, hex-small, itself, one-digit, one-more, stands-negative, white-end, word-hexadecimal}
+use Rattle.grammar.specs.Words.{Digit, Hexadigit, IntegerWord, Itself, a-tag, bad-last, bad-then, decimal-plain, figure, hex-small, itself, one-digit, one-more, stands-negative, white-end, word-hexadecimal, word-outside}
 use Rattle.table.proofs.Laws.{bad-good}
 use Rattle.table.specs.Bytes.{bytes}
 use Rattle.table.specs.Cell.{AreColumns, Cell, columnOf}
 use Rattle.table.specs.Result.{Result, bad, good}
-use Rattle.table.specs.Shape.{half}
+use Rattle.table.specs.Shape.{W2, Whole, half}
 use Rattle.table.specs.declared.Kind.{Kind}
 use Rattle.table.specs.declared.Kind.the-variants.{Bit, UnsignedByte}
 use Rattle.table.specs.declared.Len.the-variants.{Bounded, Fixed}
@@ -143,12 +143,25 @@ five-of-four k n flagged rest =
     let o = digit 0 in
     over-bound {b = 0 ∷ 0 ∷ 0 ∷ 5 ∷ []} rest has-bounded refl (big-endian refl (one-more (one-more (one-more (one-digit o) o) o) (digit 5))) (lit< tt)
 
--- "P unsignedByte `256` 11": its tags and characters are there, and they spell no element
-pub no-byte-256 : (n : Null) (flagged : Bool) → NoCell TableData (columnOf UnsignedByte (Fixed 1) n) flagged (bytes "<TD>256</TD>") 11
+-- "in one cell the first bad element decides": 99999 in a short array, and then a character that no cell may have
+pub first-decides : OutsideFirst (Whole true W2) (bytes "99999 " ++ (1 ∷ []))
 unfolding everything
-no-byte-256 n flagged = no-text-value {cs = bytes "256"} {rest = []}
+first-decides = first-outside (bad-then {v = bytes "99999"} 32 (1 ∷ []) white-end (word-outside (decimal-plain (one-more (one-more (one-more (one-more (one-digit nine) nine) nine) nine) nine) (lit≤ tt)) refl) refl)
+  where
+    nine : Digit 57 9
+    nine = figure {d = 9} (lit< tt)
+
+-- and the other way round
+pub first-decides-11 : OutsideFirst (Whole true W2) (1 ∷ bytes " 99999") → ⊥
+unfolding everything
+first-decides-11 h = let z : _≡_ {A = Result ℕ (List ℤ)} (bad 11) (bad 18) = outside-elements h in let n : _≡_ {A = ℕ} 11 18 = cc in omega arith
+
+-- "P cases .. `256` become 18": its tags and characters are there, and they spell a number that no byte holds
+pub no-byte-256 : (n : Null) (flagged : Bool) → NoCell TableData (columnOf UnsignedByte (Fixed 1) n) flagged (bytes "<TD>256</TD>") 18
+unfolding everything
+no-byte-256 n flagged = out-of-range {cs = bytes "256"} {rest = []}
     (record { white = []; taken = bytes "<TD>256</TD>"; is-white = white-end; whole = refl; marked = marked })
-    (λ es a h. bad-good (elements-of-read a h))
+    (first-outside (bad-last white-end (word-outside (decimal-plain (one-more (one-more (one-digit (figure {d = 2} (lit< tt))) (figure {d = 5} (lit< tt))) (figure {d = 6} (lit< tt))) (lit≤ tt)) refl)))
   where
     plain : {b : ℕ} → 48 ≤ b → b ≤ 57 → {s cs : List ℕ} → Characters s cs → Characters (b ∷ s) (b ∷ cs)
     plain {b} l m r = chars-then (char-itself {b = b} (λ e. omega arith) (λ e. omega arith) (λ e. omega arith)) r

@@ -50,6 +50,10 @@ module _ {E A : Type 0} where
   fails-told (fails h) = fails (h refl)
   fails-told gives = gives
 
+  pub fails-both : {P Q R : E → Type 0} {r : Result E A} → Fails P r → Fails Q r → ((e : E) → P e → Q e → R e) → Fails R r
+  fails-both (fails {e = e} h) (fails k) f = fails (f e h k)
+  fails-both gives gives f = gives
+
   -- what has no value and one refusal alone
   pub refused : {n : E} {r : Result E A} → Fails (λ (e : E). e ≡ n) r → Holds (λ (a : A). ⊥) r → r ≡ bad n
   refused (fails h) none = ap bad h

@@ -35,7 +35,7 @@ use Rattle.rows.specs.Stream.{Table, read, run, write}
 use Rattle.table.proofs.Laws.{fails-at, holds-at}
 use Rattle.table.specs.All.{AreBytes}
 use Rattle.table.specs.Cell.{AreColumns, Cell}
-use Rattle.table.specs.Outcome.{Call, Outcome, Refusal, answerOf, at, ending, mostInput, refused}
+use Rattle.table.specs.Outcome.{Call, Outcome, Refusal, answerOf, at, ending, mostInput, mostNumber, refused}
 use Rattle.table.specs.Result.{Result, bad, good}
 use Rattle.table.specs.declared.Column.{Column}
 use Rattle.table.specs.declared.Rows.{Rows}
@@ -107,9 +107,9 @@ module _ (decls : List ℕ) (from to : Rows) (input out : List ℕ) where
   above a (refuses-declarations h) = let p : AtPlace _ = fails-at (declare-fails decls) (not-declared-read h) in omega (arith, p .0 .0)
   above a (refuses-size d h) = lit< tt
   above a (refuses-reading {cs = cs} {rows = rows} {n = n} {k = k} d s) =
-      let p : Placed 8 13 (length cs) (at k n)
-      = stops-behind (Placed 8 13 (length cs)) (rows-behind rows (stopped (at k n)))
-      (subst (Stops (Placed 8 13 (length cs))) (stops-exactly from cs (columns d) rows input n k a .0 s) (read-stops from cs input)) in
+      let p : Placed 8 mostNumber (length cs) (at k n)
+      = stops-behind (Placed 8 mostNumber (length cs)) (rows-behind rows (stopped (at k n)))
+      (subst (Stops (Placed 8 mostNumber (length cs))) (stops-exactly from cs (columns d) rows input n k a .0 s) (read-stops from cs input)) in
       omega (arith, p .0 .0)
   above a (refuses-writing {cs = cs} {xs = xs} {n = n} {k = k} d p q w) =
       let p : Placed 14 16 (length cs) (at k n) = fails-at (write-row-fails to cs xs) (unwritten-read w) in omega (arith, p .0 .0)

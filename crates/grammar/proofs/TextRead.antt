@@ -13,33 +13,36 @@ use Rattle.binary.proofs.Laws.{room-self}
 use Rattle.grammar.proofs.Fronts.{after-is, digit-is, digit-read, ends-is, ends-word, hexadigit-is, hexadigit-read, numeral-all, numeral-some, sized-is}
 use Rattle.grammar.proofs.Fronts.{sized-read, skip-is, skip-stays, skip-white, tag-is, tag-read}
 use Rattle.grammar.proofs.ShownRead.{shows-is, shows-read}
-use Rattle.grammar.proofs.WordsRead.{OneWord, bit-letters-dark, bits-are, bits-read, integer-is, integer-read, integer-word, no-word, one-word, one-word-of}
-use Rattle.grammar.proofs.WordsRead.{spaced-is, spaced-read, three-bytes, truth-is, truth-read, truth-word, two-words, words-blank, words-trimmed}
+use Rattle.grammar.proofs.WordsRead.{OneWord, bit-letters-dark, bits-are, bits-read, first-is, first-read, integer-is, integer-read, integer-word, no-word, one-word, one-word-of}
+use Rattle.grammar.proofs.WordsRead.{outside-is, outside-read, outside-word, spaced-is, spaced-read, three-bytes, truth-is, truth-read, truth-word, two-words, words-blank, words-trimmed}
 use Rattle.grammar.proofs.WordsRead.{words-white}
+use Rattle.grammar.specs.CellRefusals.{OutsideFirst, first-outside}
 use Rattle.grammar.specs.Text.{Character, Characters, IsText, Many, Marked, TextCell, TextElements, TextShows, char-amp, char-apos, char-decimal}
 use Rattle.grammar.specs.Text.{char-gt, char-hexadecimal, char-itself, char-line-end, char-lt, char-quot, chars-end, chars-return, chars-then, many-bounded, many-fixed, many-free}
 use Rattle.grammar.specs.Text.{many-shorter, shows-elements, shows-empty, text-bits, text-chars, text-line-feed, text-other, text-return, text-tab, text-truths}
 use Rattle.grammar.specs.Text.{marked-empty, marked-text, text-cell, text-whole}
-use Rattle.grammar.specs.Words.{BitLetters, Digit, Hexadigit, IntegerWord, Numeral, Tag, Trimmed, TruthWord, White, a-tag, bits-0, bits-1, bits-end, figure}
+use Rattle.grammar.specs.Words.{BitLetters, Digit, Hexadigit, IntegerWord, Numeral, OutsideWord, Tag, Trimmed, TruthWord, White, a-tag, bits-0, bits-1, bits-end, figure}
 use Rattle.grammar.specs.Words.{hex-capital, hex-figure, hex-small, trimmed, white-end}
-use Rattle.number.specs.Number.{digit, hexadigit, numeral, sized}
+use Rattle.number.specs.Number.{Fault, Outside, Unwritten, digit, hexadigit, numeral, sized}
 use Rattle.table.proofs.Bytes.{same-is}
-use Rattle.table.proofs.Laws.{and-both, between-is, between-yes, cond-cases, holds-as, holds-bind, holds-cond, holds-else, holds-weaken, nil-not-null, no-white, or-either}
+use Rattle.table.proofs.Laws.{and-both, between-is, between-yes, cond-cases, fails-as, fails-weaken, holds-as, holds-at, holds-bind, holds-cond, holds-else, holds-eq, holds-weaken, nil-not-null, no-white, or-either}
 use Rattle.table.proofs.LineEnds.{first-cases}
 use Rattle.table.specs.All.{All}
 use Rattle.table.specs.Bytes.{after, between, bytes, ends, isWhite, same, skipWhite, tag, words}
 use Rattle.table.specs.Cell.{Cell, bound, emptyIsNull, isNullList, mostElements, null, roomFits, roomIn, show, shown, standsForNull}
 use Rattle.table.specs.LineEnds.{feedFirst}
 use Rattle.table.specs.Outcome.{at}
-use Rattle.table.specs.Result.{Holds, Result, _>>=_, bad, good, holds, orElse, refuses}
+use Rattle.table.specs.Result.{Fails, Holds, Result, _>>=_, bad, good, holds, orElse, refuses}
 use Rattle.table.specs.Shape.{Bits, Shape, Text, Truths, Whole, last, shape}
 use Rattle.table.specs.declared.Column.{Column}
 use Rattle.table.specs.declared.Len.{Len}
 use Rattle.table.specs.declared.Len.the-variants.{Bounded, Fixed, Free}
+use Rattle.tabledata.proofs.Elements.{elements-text}
+use Rattle.tabledata.proofs.Laws.{elements-fails}
 use Rattle.tabledata.proofs.LineEnds.{feed-read, itself-read, return-alone-read, return-goes-read}
 use Rattle.tabledata.specs.TableData.{Step, Where, allText, bitWords, cellText, characters, close-TD, consText, countFits, emitted, expanded, follow, goes}
 use Rattle.tabledata.specs.TableData.{integerWord, isText, named, names, numeric, open-TD, plain, readText, reference, step, tagBegins, textCell, textElements}
-use Rattle.tabledata.specs.TableData.{elementsOf, truthWord}
+use Rattle.tabledata.specs.TableData.{faultNumber, truthWord}
 
 -- ---- references
 
@@ -339,32 +342,57 @@ word-read g w s z h = rw (integer-read h)
 
 word-is : (g : Bool) (w : ℕ) (s : List ℕ) → Holds (IntegerWord g w s) (integerWord g w s)
 unfolding integerWord
-word-is g w s = holds-as (λ f. 11) (integer-is g w s)
+word-is g w s = holds-as faultNumber (integer-is g w s)
 
-elements-read : {k : Shape} {cs : List ℕ} {es : List ℤ} → TextElements k cs es → textElements k cs ≡ good es
+word-outside-read : (g : Bool) (w : ℕ) (s : List ℕ) → OutsideWord g w s → integerWord g w s ≡ bad 18
+unfolding integerWord faultNumber
+word-outside-read g w s h = rw (outside-read h)
+
+word-outside-is : (g : Bool) (w : ℕ) (s : List ℕ) → Fails (λ (n : ℕ). n ≡ 18 → OutsideWord g w s) (integerWord g w s)
+unfolding integerWord faultNumber
+word-outside-is g w s = fails-as faultNumber (outside-is g w s) number
+  where
+    number : (f : Fault) → (f ≡ Outside → OutsideWord g w s) → faultNumber f ≡ 18 → OutsideWord g w s
+    number Unwritten h e = absurd (omega (arith, e))
+    number Outside h e = h refl
+
+-- of characters that may stand in a cell
+pub elements-read : {k : Shape} {cs : List ℕ} {es : List ℤ} → All IsText cs → TextElements k cs es → textElements k cs ≡ good es
 unfolding textElements
-elements-read (text-truths h) = spaced-read TruthWord truthWord truth-read truth-is truth-word h
-elements-read (text-bits h) = bits-of h
-elements-read (text-whole {g = g} {v = v} h) =
+elements-read a (text-truths h) = spaced-read TruthWord truthWord truth-read truth-is truth-word h
+elements-read a (text-bits h) = bits-of h
+elements-read a (text-whole {g = g} {v = v} h) =
     spaced-read (IntegerWord g (suc (last v))) (integerWord g (suc (last v))) (word-read g (suc (last v))) (word-is g (suc (last v))) integer-word h
-elements-read text-chars = refl
+elements-read a (text-chars {cs = cs}) = rw (texts-read cs a)
 
-elements-are : (k : Shape) (cs : List ℕ) → Holds (TextElements k cs) (textElements k cs)
+spelled : (k : Shape) (cs : List ℕ) → Holds (TextElements k cs) (textElements k cs)
 unfolding textElements
-elements-are Truths cs = holds-weaken (spaced-is TruthWord truthWord truth-read truth-is truth-word cs) (λ es h. text-truths h)
-elements-are Bits cs = holds-weaken (bits-in-word (one-word-of cs)) (λ es h. text-bits h)
-elements-are (Whole g v) cs =
+spelled Truths cs = holds-weaken (spaced-is TruthWord truthWord truth-read truth-is truth-word cs) (λ es h. text-truths h)
+spelled Bits cs = holds-weaken (bits-in-word (one-word-of cs)) (λ es h. text-bits h)
+spelled (Whole g v) cs =
     holds-weaken (spaced-is (IntegerWord g (suc (last v))) (integerWord g (suc (last v))) (word-read g (suc (last v))) (word-is g (suc (last v))) integer-word cs) (λ es h. text-whole h)
-elements-are Text cs = holds text-chars
+spelled Text cs = holds-cond (allText cs) (λ _. holds text-chars) (λ _. refuses)
 
--- the same of characters that may stand in a cell
-pub elements-of-read : {k : Shape} {cs : List ℕ} {es : List ℤ} → All IsText cs → TextElements k cs es → elementsOf k cs ≡ good es
-unfolding elementsOf
-elements-of-read {cs = cs} a h = rw (texts-read cs a) (elements-read h)
+pub elements-are : (k : Shape) (cs : List ℕ) → Holds (λ (es : List ℤ). All IsText cs × TextElements k cs es) (textElements k cs)
+elements-are k cs = holds-weaken (holds-eq (textElements k cs)) (λ es e. (texts-are cs (holds-at (elements-text k cs) e), holds-at (spelled k cs) e))
 
-pub elements-of-are : (k : Shape) (cs : List ℕ) → Holds (λ (es : List ℤ). All IsText cs × TextElements k cs es) (elementsOf k cs)
-unfolding elementsOf
-elements-of-are k cs = holds-cond (allText cs) (λ a. holds-weaken (elements-are k cs) (λ es h. (texts-are cs a, h))) (λ _. refuses)
+-- ---- the first bad element
+
+pub outside-elements : {k : Shape} {cs : List ℕ} → OutsideFirst k cs → textElements k cs ≡ bad 18
+unfolding textElements
+outside-elements (first-outside {g = g} {v = v} h) =
+    let w = suc (last v) in
+    first-read (IntegerWord g w) (integerWord g w) (word-read g w) (word-is g w) integer-word 18 (OutsideWord g w) (word-outside-read g w) (word-outside-is g w) outside-word h
+
+pub elements-outside : (k : Shape) (cs : List ℕ) → Fails (λ (n : ℕ). n ≡ 18 → OutsideFirst k cs) (textElements k cs)
+elements-outside Truths cs = elements-fails (λ e. absurd (omega (arith, e))) Truths cs tt
+elements-outside Bits cs = elements-fails (λ e. absurd (omega (arith, e))) Bits cs tt
+elements-outside (Whole g v) cs =
+    let w = suc (last v) in
+    unfold textElements in fails-weaken
+    (first-is (IntegerWord g w) (integerWord g w) (word-read g w) (word-is g w) integer-word 18 (OutsideWord g w) (word-outside-read g w) (word-outside-is g w) outside-word cs)
+    (λ n h e. first-outside (h e))
+elements-outside Text cs = elements-fails (λ e. absurd (omega (arith, e))) Text cs tt
 
 -- ---- how many
 
@@ -407,13 +435,13 @@ something-left c e es =
 
 text-shows-read : {c : Column} {cs : List ℕ} {x : Cell} → All IsText cs → TextShows c cs x → textCell c cs ≡ good x
 unfolding textCell
-text-shows-read {c} a (shows-empty h) = unfold countFits in rw (elements-of-read a h) (ap good (nothing-left c))
-text-shows-read {c} a (shows-elements {e = e} {es = es} h m s) = rw (elements-of-read a h, fits-read c m) (ap good (something-left c e es ∙ shows-read s))
+text-shows-read {c} a (shows-empty h) = unfold countFits in rw (elements-read a h) (ap good (nothing-left c))
+text-shows-read {c} a (shows-elements {e = e} {es = es} h m s) = rw (elements-read a h, fits-read c m) (ap good (something-left c e es ∙ shows-read s))
 
 text-shows-is : (c : Column) (cs : List ℕ) → Holds (λ (x : Cell). All IsText cs × TextShows c cs x) (textCell c cs)
 unfolding textCell
 text-shows-is c cs =
-    holds-bind (elements-of-are (shape (c .kind)) cs) (λ es h. holds-cond (countFits c (length es)) (λ m. holds (h .0, go es (h .1) m)) (λ _. refuses))
+    holds-bind (elements-are (shape (c .kind)) cs) (λ es h. holds-cond (countFits c (length es)) (λ m. holds (h .0, go es (h .1) m)) (λ _. refuses))
   where
     go : (es : List ℤ) → TextElements (shape (c .kind)) cs es → countFits c (length es) ≡ true → TextShows c cs (emptyIsNull (show c es))
     go [] h m = rw (nothing-left c) (shows-empty h)

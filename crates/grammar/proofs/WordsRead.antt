@@ -3,7 +3,7 @@ use Prim.Native.Nat.{_*_, _+_, _-_, _<_, _^_, _≤_, suc, zero, ℕ}
 use native.Mathlib.Nat.{le-refl, mul-one, pow-le-pow-right, pow-succ', pow-zero}
 use native.Mathlib.Numerals.{add-one}
 use native.Mathlib.Omega.{arith}
-use mathlib.Core.Bool.{Bool, _&&_, _||_, and-false, cond, false, true}
+use mathlib.Core.Bool.{Bool, _&&_, _||_, and-false, cond, false, false≢true, true}
 use mathlib.Core.List.{List, [], _++_, _∷_, append-nil, map}
 use mathlib.Core.Path.{_∙_, _≡_, ap, ap₂, refl, subst, subst₂, sym}
 use lib.Arith.{digits-lt}
@@ -11,21 +11,21 @@ use lib.Dec.{eqb, lit<, lit≤, ltb}
 use lib.IntN.{negsuc, pos, ℤ}
 use lib.ListN.{length, length-append}
 use borrow.Author.Tests.{eq-eqb, eqb-false, eqb-true, le-leb, le-ltb, lt-leb, lt-ltb, ltb-false, ltb-true, ne-eqb}
-use Rattle.grammar.proofs.Fronts.{digit-is, digit-read, hexadigit-is, hexadigit-read, numeral-all, numeral-some, sized-is, sized-read}
-use Rattle.grammar.specs.Words.{AnyCapitals, AnyCase, BitLetters, Digit, Hexadigit, IntegerWord, Numeral, Spaced, Stands, TruthLetter, TruthWord}
-use Rattle.grammar.specs.Words.{White, as-capital, as-small, bits-0, bits-1, bits-end, capitals-end, capitals-then, figure, hex-capital, hex-figure}
+use Rattle.grammar.proofs.Fronts.{digit-is, digit-read, fails-then, hexadigit-is, hexadigit-read, numeral-all, numeral-some, sized-is, sized-read}
+use Rattle.grammar.specs.Words.{AnyCapitals, AnyCase, BitLetters, DecimalWord, Digit, FirstBad, Hexadigit, IntegerWord, Numeral, OutsideWord, Spaced, Stands, TruthLetter, TruthWord}
+use Rattle.grammar.specs.Words.{White, as-capital, as-small, bad-last, bad-later, bad-then, bits-0, bits-1, bits-end, capitals-end, capitals-then, decimal-minus, decimal-plain, decimal-plus, figure, hex-capital, hex-figure}
 use Rattle.grammar.specs.Words.{hex-small, letter-0, letter-1, letter-F, letter-T, letter-f, letter-t, one-digit, one-more, stands-negative, stands-positive}
 use Rattle.grammar.specs.Words.{stands-unsigned, truth-false, truth-letter, truth-true, truth-unknown, white-end, white-then, word-hexadecimal}
-use Rattle.grammar.specs.Words.{word-minus, word-plain, word-plus, words-last, words-none, words-then}
-use Rattle.number.specs.Number.{decimal, digit, hexadecimal, hexadigit, ofPattern, ranged, readInteger, withSign}
-use Rattle.number.proofs.Laws.{pow-16}
+use Rattle.grammar.specs.Words.{word-decimal, word-outside, words-last, words-none, words-then}
+use Rattle.number.specs.Number.{Fault, Outside, Unwritten, decimal, digit, hexadecimal, hexadigit, ofPattern, ranged, readInteger, withSign}
+use Rattle.number.proofs.Laws.{digit-fails, hexadigit-fails, pow-16, sized-fails}
 use Rattle.table.proofs.Words.{word-cut, words-one}
 use Rattle.table.proofs.Bytes.{same-is}
-use Rattle.table.proofs.Laws.{IsWord, NoWhite, and-both, between-is, cond-cases, holds-bind, holds-cond, no-white, or-either, pieces-word}
+use Rattle.table.proofs.Laws.{IsWord, NoWhite, and-both, between-is, cond-cases, fails-bind, fails-weaken, holds-bind, holds-cond, no-white, or-either, pieces-word}
 use Rattle.table.specs.All.{All}
 use Rattle.table.specs.Bytes.{between, bytes, isWhite, notEmpty, pieces, same, words}
 use Rattle.table.specs.Outcome.{at}
-use Rattle.table.specs.Result.{Holds, Result, bad, every, good, holds, refuses}
+use Rattle.table.specs.Result.{Fails, Holds, Result, _>>=_, bad, every, fails, gives, good, holds, refuses}
 use Rattle.table.specs.Shape.{half, inRange}
 use Rattle.tabledata.specs.TableData.{bitLetter, lower, truthLetter, truthWord}
 
@@ -86,38 +86,92 @@ module _ (signed : Bool) (w : ℕ) where
   sign-read b true (c ∷ s) h z t e = rw (z, e)
   sign-read b false (c ∷ s) h z t e = rw (z, e, rw e at t)
 
-  decimal-read : (negative : Bool) {s : List ℕ} {n : ℕ} → Numeral Digit 10 s n → length s ≤ 20 → inRange signed w (withSign negative n) ≡ true
-      → decimal signed w negative s ≡ good (withSign negative n)
-  unfolding decimal ranged
-  decimal-read negative m h r = rw (sized-read digit Digit 10 digit-read digit-is 20 m h, r)
+  -- what is written as an integer is read as its value, where that is in the range
+  decimal-read : (negative : Bool) {s : List ℕ} {n : ℕ} → Numeral Digit 10 s n → length s ≤ 20 → decimal signed w negative s ≡ ranged signed w (withSign negative n)
+  unfolding decimal
+  decimal-read negative m h = rw (sized-read digit Digit 10 digit-read digit-is 20 m h)
 
-  decimal-is : (P : ℤ → Type 0) (negative : Bool) (s : List ℕ)
-      → ((n : ℕ) → Numeral Digit 10 s n → length s ≤ 20 → inRange signed w (withSign negative n) ≡ true → P (withSign negative n)) → Holds P (decimal signed w negative s)
-  unfolding decimal ranged
-  decimal-is P negative s f =
-      holds-bind (sized-is digit Digit 10 digit-read digit-is 20 s) (λ n h.
-      holds-cond (inRange signed w (withSign negative n)) (λ r. holds (f n (h .0) (h .1) r)) (λ _. refuses))
+  written-read : {s : List ℕ} {z : ℤ} → DecimalWord signed s z → readInteger signed w s ≡ ranged signed w z
+  unfolding withSign
+  written-read (decimal-plain {s = s} m h) = plain-read s (numeral-all IsFigure digit-byte m) (numeral-some m) ∙ decimal-read false m h
+  written-read (decimal-plus {s = s} e m h) = sign-read 43 false s (numeral-some m) refl (rw e) (rw e) ∙ decimal-read false m h
+  written-read (decimal-minus {s = s} e m h) = sign-read 45 true s (numeral-some m) refl (rw e) (rw e) ∙ decimal-read true m h
 
 pub integer-read : {signed : Bool} {w : ℕ} {s : List ℕ} {z : ℤ} → IntegerWord signed w s z → readInteger signed w s ≡ good z
-unfolding withSign readInteger hexadecimal
-integer-read {signed} {w} (word-plain {s = s} m h r) = plain-read signed w s (numeral-all IsFigure digit-byte m) (numeral-some m) ∙ decimal-read signed w false m h r
-integer-read {signed} {w} (word-plus {s = s} e m h r) = sign-read signed w 43 false s (numeral-some m) refl (rw e) (rw e) ∙ decimal-read signed w false m h r
-integer-read {signed} {w} (word-minus {s = s} e m h r) = sign-read signed w 45 true s (numeral-some m) refl (rw e) (rw e) ∙ decimal-read signed w true m h r
+unfolding readInteger hexadecimal ranged
+integer-read {signed} {w} (word-decimal d r) = unfold ranged in written-read signed w d ∙ rw r
 integer-read {signed} {w} (word-hexadecimal {s = s} m h st) = rw (sized-read hexadigit Hexadigit 16 hexadigit-read hexadigit-is (2 * w) m h) (ap good (stands-read st))
 
+pub outside-read : {signed : Bool} {w : ℕ} {s : List ℕ} → OutsideWord signed w s → readInteger signed w s ≡ bad Outside
+unfolding ranged
+outside-read {signed} {w} (word-outside d r) = written-read signed w d ∙ rw r
+
+-- how a word is judged
+data Judged (signed : Bool) (w : ℕ) (s : List ℕ) : Result Fault ℤ → Type 0 where
+  is-value : {z : ℤ} → IntegerWord signed w s z → Judged signed w s (good z)
+  is-outside : OutsideWord signed w s → Judged signed w s (bad Outside)
+  is-unwritten : Judged signed w s (bad Unwritten)
+
+module _ (signed : Bool) (w : ℕ) where
+  judged-then : {A : Type 0} {P : A → Type 0} {s : List ℕ} {r : Result Fault A} {f : A → Result Fault ℤ} → Fails (λ (e : Fault). e ≡ Unwritten) r → Holds P r
+      → ((a : A) → P a → Judged signed w s (f a)) → Judged signed w s (r >>= f)
+  judged-then (fails e) h f = rw e is-unwritten
+  judged-then gives (holds {a = a} h) f = f a h
+
+  ranged-judged : (s : List ℕ) (z : ℤ) → DecimalWord signed s z → Judged signed w s (ranged signed w z)
+  unfolding ranged
+  ranged-judged s z d = cond-cases (Judged signed w s) (inRange signed w z) (good z) (bad Outside) (λ r. is-value (word-decimal d r)) (λ r. is-outside (word-outside d r))
+
+  -- a word of the digits t
+  decimal-judged : (negative : Bool) (s t : List ℕ) → ((n : ℕ) → Numeral Digit 10 t n → length t ≤ 20 → DecimalWord signed s (withSign negative n))
+      → Judged signed w s (decimal signed w negative t)
+  unfolding decimal
+  decimal-judged negative s t f =
+      judged-then (sized-fails digit 10 digit-fails 20 t) (sized-is digit Digit 10 digit-read digit-is 20 t) (λ n h. ranged-judged s (withSign negative n) (f n (h .0) (h .1)))
+
+  plain-judged : (s : List ℕ) → Judged signed w s (decimal signed w false s)
+  unfolding withSign
+  plain-judged s = decimal-judged false s s (λ n m h. decimal-plain m h)
+
+  hexadecimal-judged : (s : List ℕ) → Judged signed w (48 ∷ 120 ∷ s) (hexadecimal signed w s)
+  unfolding hexadecimal
+  hexadecimal-judged s =
+      judged-then (sized-fails hexadigit 16 hexadigit-fails (2 * w) s) (sized-is hexadigit Hexadigit 16 hexadigit-read hexadigit-is (2 * w) s) (λ n h.
+      is-value (word-hexadecimal (h .0) (h .1) (stands-is signed w n (hex-lt w (h .0) (h .1)))))
+
+  integer-judged : (s : List ℕ) → Judged signed w s (readInteger signed w s)
+  unfolding readInteger withSign
+  integer-judged [] = is-unwritten
+  integer-judged (b ∷ []) = plain-judged (b ∷ [])
+  integer-judged (b ∷ c ∷ s) =
+      let J = Judged signed w (b ∷ c ∷ s) in
+      cond-cases J (eqb b 48 && eqb c 120) _ _ (λ e. let k = and-both (eqb b 48) (eqb c 120) e in
+      rw (eqb-true b 48 (k .0), eqb-true c 120 (k .1)) (hexadecimal-judged s)) (λ _.
+      cond-cases J (signed && eqb b 45) _ _ (λ e. let k = and-both signed (eqb b 45) e in
+      rw (eqb-true b 45 (k .1)) (decimal-judged true (45 ∷ c ∷ s) (c ∷ s) (λ n m h. decimal-minus (k .0) m h))) (λ _.
+      cond-cases J (signed && eqb b 43) _ _ (λ e. let k = and-both signed (eqb b 43) e in
+      rw (eqb-true b 43 (k .1)) (decimal-judged false (43 ∷ c ∷ s) (c ∷ s) (λ n m h. decimal-plus (k .0) m h))) (λ _.
+      plain-judged (b ∷ c ∷ s))))
+
 pub integer-is : (signed : Bool) (w : ℕ) (s : List ℕ) → Holds (IntegerWord signed w s) (readInteger signed w s)
-unfolding readInteger withSign hexadecimal
-integer-is signed w [] = refuses
-integer-is signed w (b ∷ []) = decimal-is signed w (IntegerWord signed w (b ∷ [])) false (b ∷ []) (λ n m h r. word-plain m h r)
-integer-is signed w (b ∷ c ∷ s) =
-    holds-cond (eqb b 48 && eqb c 120) (λ e. let k = and-both (eqb b 48) (eqb c 120) e in
-    rw (eqb-true b 48 (k .0), eqb-true c 120 (k .1))
-    (holds-bind (sized-is hexadigit Hexadigit 16 hexadigit-read hexadigit-is (2 * w) s) (λ n h. holds (word-hexadecimal (h .0) (h .1) (stands-is signed w n (hex-lt w (h .0) (h .1))))))) (λ _.
-    holds-cond (signed && eqb b 45) (λ e. let k = and-both signed (eqb b 45) e in
-    rw (eqb-true b 45 (k .1)) (decimal-is signed w (IntegerWord signed w (45 ∷ c ∷ s)) true (c ∷ s) (λ n m h r. word-minus (k .0) m h r))) (λ _.
-    holds-cond (signed && eqb b 43) (λ e. let k = and-both signed (eqb b 43) e in
-    rw (eqb-true b 43 (k .1)) (decimal-is signed w (IntegerWord signed w (43 ∷ c ∷ s)) false (c ∷ s) (λ n m h r. word-plus (k .0) m h r))) (λ _.
-    decimal-is signed w (IntegerWord signed w (b ∷ c ∷ s)) false (b ∷ c ∷ s) (λ n m h r. word-plain m h r))))
+integer-is signed w s = go (integer-judged signed w s)
+  where
+    go : {r : Result Fault ℤ} → Judged signed w s r → Holds (IntegerWord signed w s) r
+    go (is-value h) = holds h
+    go (is-outside h) = refuses
+    go is-unwritten = refuses
+
+pub outside-is : (signed : Bool) (w : ℕ) (s : List ℕ) → Fails (λ (f : Fault). f ≡ Outside → OutsideWord signed w s) (readInteger signed w s)
+outside-is signed w s = go (integer-judged signed w s)
+  where
+    isOutside : Fault → Bool
+    isOutside Outside = true
+    isOutside Unwritten = false
+
+    go : {r : Result Fault ℤ} → Judged signed w s r → Fails (λ (f : Fault). f ≡ Outside → OutsideWord signed w s) r
+    go (is-value h) = gives
+    go (is-outside h) = fails (λ _. h)
+    go is-unwritten = fails (λ e. absurd (false≢true (ap isOutside e)))
 
 -- ---- truths
 
@@ -301,6 +355,27 @@ module _ {A : Type 0} (Word : List ℕ → A → Type 0) (f : List ℕ → Resul
   pub spaced-is : (s : List ℕ) → Holds (Spaced Word s) (every f (words s))
   spaced-is s = spaced-every (words-are s)
 
+  -- the first bad word, of those that are bad with the number n
+  module _ (n : ℕ) (Bad : List ℕ → Type 0) (bad-complete : (s : List ℕ) → Bad s → f s ≡ bad n) (bad-sound : (s : List ℕ) → Fails (λ (m : ℕ). m ≡ n → Bad s) (f s))
+      (bad-word : (s : List ℕ) → Bad s → IsWord s) where
+    pub first-read : {s : List ℕ} → FirstBad Word Bad s → every f (words s) ≡ bad n
+    unfolding every
+    first-read (bad-last {v = v} w h) = rw (words-white w v, words-one v (bad-word v h), bad-complete v h)
+    first-read (bad-then {v = v} b s w h k) = rw (words-white w (v ++ (b ∷ s)), word-cut v b s (bad-word v h) k, bad-complete v h)
+    first-read (bad-later {v = v} {e = e} b {s = s} w h k r) =
+        rw (words-white w (v ++ (b ∷ s)), word-cut v b s (is-word v e h) k, complete v e h, first-read r)
+
+    first-every : {s : List ℕ} {vs : List (List ℕ)} → Spaced Same s vs → Fails (λ (m : ℕ). m ≡ n → FirstBad Word Bad s) (every f vs)
+    unfolding every
+    first-every (words-none w) = gives
+    first-every (words-last w (same-word {v = v} i)) = fails-bind (fails-weaken (bad-sound v) (λ m h e. bad-last w (h e))) (λ e. gives)
+    first-every (words-then b {s = s} w (same-word {v = v} i) k r) =
+        fails-then (fails-weaken (bad-sound v) (λ m h e. bad-then b s w (h e) k)) (sound v) (λ x h.
+        fails-bind (fails-weaken (first-every r) (λ m g e. bad-later b w h k (g e))) (λ es. gives))
+
+    pub first-is : (s : List ℕ) → Fails (λ (m : ℕ). m ≡ n → FirstBad Word Bad s) (every f (words s))
+    first-is s = first-every (words-are s)
+
 -- ---- a text of one word at most
 
 pub data OneWord (s : List ℕ) : List (List ℕ) → Type 0 where
@@ -361,10 +436,16 @@ hexadigit-dark b n (hex-small {d = d} h) = no-white (97 + d) (omega arith)
 abbrev Dark : ℕ → Type 0
 Dark b = isWhite b ≡ false
 
+decimal-word : {signed : Bool} {s : List ℕ} {z : ℤ} → DecimalWord signed s z → IsWord s
+decimal-word (decimal-plain m h) = (numeral-some m, numeral-all Dark digit-dark m)
+decimal-word (decimal-plus e m h) = (omega arith, (no-white 43 (lit≤ tt), numeral-all Dark digit-dark m))
+decimal-word (decimal-minus e m h) = (omega arith, (no-white 45 (lit≤ tt), numeral-all Dark digit-dark m))
+
+pub outside-word : {signed : Bool} {w : ℕ} (s : List ℕ) → OutsideWord signed w s → IsWord s
+outside-word s (word-outside d r) = decimal-word d
+
 pub integer-word : {signed : Bool} {w : ℕ} (s : List ℕ) (z : ℤ) → IntegerWord signed w s z → IsWord s
-integer-word s z (word-plain m h r) = (numeral-some m, numeral-all Dark digit-dark m)
-integer-word s z (word-plus e m h r) = (omega arith, (no-white 43 (lit≤ tt), numeral-all Dark digit-dark m))
-integer-word s z (word-minus e m h r) = (omega arith, (no-white 45 (lit≤ tt), numeral-all Dark digit-dark m))
+integer-word s z (word-decimal d r) = decimal-word d
 integer-word s z (word-hexadecimal m h t) = (omega arith, (no-white 48 (lit≤ tt), (no-white 120 (lit≤ tt), numeral-all Dark hexadigit-dark m)))
 
 pub bit-letters-dark : {s : List ℕ} {es : List ℤ} → BitLetters s es → NoWhite s

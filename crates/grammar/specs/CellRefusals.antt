@@ -8,10 +8,10 @@ use lib.IntN.{ℤ}
 use lib.ListN.{length}
 use Rattle.grammar.specs.Binaries.{BigEndian, Binary2Cell, BinaryCell, Content, Counted, Packed, Takes}
 use Rattle.grammar.specs.Text.{IsText, Many, Marked, TextCell, TextElements}
-use Rattle.grammar.specs.Words.{White}
+use Rattle.grammar.specs.Words.{FirstBad, IntegerWord, OutsideWord, White}
 use Rattle.table.specs.All.{All}
 use Rattle.table.specs.Cell.{Cell, bound}
-use Rattle.table.specs.Shape.{Bits, shape}
+use Rattle.table.specs.Shape.{Bits, Shape, Whole, Width, last, shape}
 use Rattle.table.specs.declared.Column.{Column}
 use Rattle.table.specs.declared.Len.{Len}
 use Rattle.table.specs.declared.Len.the-variants.{Bounded, Free}
@@ -29,7 +29,7 @@ pub data CellAt (c : Column) (flagged : Bool) : Rows → List ℕ → Cell → L
   -- and so in BINARY2, under its flag
   binary2-at : {b rest : List ℕ} {x : Cell} → Binary2Cell c flagged b x → CellAt c flagged Binary2 (b ++ rest) x rest
 
--- ---- TABLEDATA: "a text cell 10, 11, 12"
+-- ---- TABLEDATA: "a text cell 10, 11, 12"; 02, #104, of 11 and 18: "Both come before 12"
 
 -- a TD element with these characters stands there, white space before it, and then the rest
 pub record MarkedAt (s cs rest : List ℕ) : Type 0 where
@@ -39,11 +39,20 @@ pub record MarkedAt (s cs rest : List ℕ) : Type 0 where
   pub whole : s ≡ white ++ (taken ++ rest)
   pub marked : Marked taken cs
 
+-- 02, #104: "Split 11 for integer cells"
+pub data OutsideFirst : Shape → List ℕ → Type 0 where
+  -- "18 is for one that is but lies outside its kind's range", "the first bad element decides"
+  first-outside : {g : Bool} {v : Width} {cs : List ℕ} → FirstBad (IntegerWord g (suc (last v))) (OutsideWord g (suc (last v))) cs → OutsideFirst (Whole g v) cs
+
 pub data NoTextCell (c : Column) (s : List ℕ) : ℕ → Type 0 where
   -- 10: "TABLEDATA tags or references broken, wrong number of cells": from there no tags and characters can be made out
   no-element : ((cs rest : List ℕ) → MarkedAt s cs rest → ⊥) → NoTextCell c s 10
-  -- 11: "a byte or text that is no value of its kind": there are characters, but one that no cell has, or an element that is none of its kind
-  no-text-value : {cs rest : List ℕ} → MarkedAt s cs rest → ((es : List ℤ) → All IsText cs → TextElements (shape (c .kind)) cs es → ⊥) → NoTextCell c s 11
+  -- 11: "a byte or text that is no value of its kind": there are characters, but one that no cell has, or an element that is none of its kind;
+  -- 02, #104: "11 stays for text that isn't written as an integer"
+  no-text-value : {cs rest : List ℕ} → MarkedAt s cs rest → ((es : List ℤ) → All IsText cs → TextElements (shape (c .kind)) cs es → ⊥)
+      → (OutsideFirst (shape (c .kind)) cs → ⊥) → NoTextCell c s 11
+  -- 18: "one that is but lies outside its kind's range"
+  out-of-range : {cs rest : List ℕ} → MarkedAt s cs rest → OutsideFirst (shape (c .kind)) cs → NoTextCell c s 18
   -- 12: "text cell with elements, but not n of them in a fixed column, or over the bound in another"
   not-as-many : {cs rest : List ℕ} {e : ℤ} {es : List ℤ} → MarkedAt s cs rest → All IsText cs → TextElements (shape (c .kind)) cs (e ∷ es)
       → (Many (shape (c .kind)) (c .len) (suc (length es)) → ⊥) → NoTextCell c s 12

@@ -62,22 +62,29 @@ pub data Stands : Bool → ℕ → ℕ → ℤ → Type 0 where
   -- and in the upper half the negative that is 256 ^ w less: `negsuc m` is -(m + 1)
   stands-negative : {w n m : ℕ} → half w ≤ n → n + suc m ≡ 256 ^ w → Stands true w n (negsuc m)
 
--- "integers: decimal, one to 20 digits, for the signed kinds with an optional `+` or `-`; or `0x` and 1 to 2, 4, 8, 16 hexadigits, no
--- sign, read as that width's two's complement." A value lies in the range of its w bytes: 000, 6: "decimal representation between -32768
--- and 32767", and so on.
-pub data IntegerWord (signed : Bool) (w : ℕ) : List ℕ → ℤ → Type 0 where
+-- "decimal, one to 20 digits, for the signed kinds with an optional `+` or `-`": a number that is written as an integer of such a kind, whatever its
+-- size
+pub data DecimalWord (signed : Bool) : List ℕ → ℤ → Type 0 where
   -- "decimal, one to 20 digits"
-  word-plain : {s : List ℕ} {n : ℕ} → Numeral Digit 10 s n → length s ≤ 20 → inRange signed w (pos n) ≡ true
-      → IntegerWord signed w s (pos n)
+  decimal-plain : {s : List ℕ} {n : ℕ} → Numeral Digit 10 s n → length s ≤ 20 → DecimalWord signed s (pos n)
   -- "for the signed kinds with an optional `+`"
-  word-plus : {s : List ℕ} {n : ℕ} → signed ≡ true → Numeral Digit 10 s n → length s ≤ 20 → inRange signed w (pos n) ≡ true
-      → IntegerWord signed w (byte "+" ∷ s) (pos n)
+  decimal-plus : {s : List ℕ} {n : ℕ} → signed ≡ true → Numeral Digit 10 s n → length s ≤ 20 → DecimalWord signed (byte "+" ∷ s) (pos n)
   -- "or `-`"
-  word-minus : {s : List ℕ} {n : ℕ} → signed ≡ true → Numeral Digit 10 s n → length s ≤ 20 → inRange signed w (negℤ (pos n)) ≡ true
-      → IntegerWord signed w (byte "-" ∷ s) (negℤ (pos n))
+  decimal-minus : {s : List ℕ} {n : ℕ} → signed ≡ true → Numeral Digit 10 s n → length s ≤ 20 → DecimalWord signed (byte "-" ∷ s) (negℤ (pos n))
+
+-- "integers: decimal, one to 20 digits, for the signed kinds with an optional `+` or `-`; or `0x` and 1 to 2, 4, 8, 16 hexadigits, no
+-- sign, read as that width's two's complement."
+pub data IntegerWord (signed : Bool) (w : ℕ) : List ℕ → ℤ → Type 0 where
+  -- a value lies in the range of its w bytes: 000, 6: "decimal representation between -32768 and 32767", and so on
+  word-decimal : {s : List ℕ} {z : ℤ} → DecimalWord signed s z → inRange signed w z ≡ true → IntegerWord signed w s z
   -- "or `0x` and 1 to 2, 4, 8, 16 hexadigits, no sign, read as that width's two's complement"
   word-hexadecimal : {s : List ℕ} {n : ℕ} {z : ℤ} → Numeral Hexadigit 16 s n → length s ≤ 2 * w → Stands signed w n z
       → IntegerWord signed w (byte "0" ∷ byte "x" ∷ s) z
+
+-- 02, #104: "text that isn't written as an integer", and "one that is but lies outside its kind's range"
+pub data OutsideWord (signed : Bool) (w : ℕ) : List ℕ → Type 0 where
+  -- "one that is but lies outside its kind's range"
+  word-outside : {s : List ℕ} {z : ℤ} → DecimalWord signed s z → inRange signed w z ≡ false → OutsideWord signed w s
 
 -- ---- booleans: 0 is false, 1 true, 2 unknown
 
@@ -140,6 +147,17 @@ module _ {A : Type 0} where
     -- a word that ends at white space, and what follows
     words-then : {w v : List ℕ} {e : A} (b : ℕ) {s : List ℕ} {es : List A} → White w → Word v e → isWhite b ≡ true → Spaced Word s es
         → Spaced Word (w ++ (v ++ (b ∷ s))) (e ∷ es)
+
+-- 02, #104: "in one cell the first bad element decides": a bad word, good ones before it, and whatever follows
+module _ {A : Type 0} where
+  pub data FirstBad (Word : List ℕ → A → Type 0) (Bad : List ℕ → Type 0) : List ℕ → Type 0 where
+    -- the bad word ends where the text does
+    bad-last : {w v : List ℕ} → White w → Bad v → FirstBad Word Bad (w ++ v)
+    -- it ends at white space
+    bad-then : {w v : List ℕ} (b : ℕ) (s : List ℕ) → White w → Bad v → isWhite b ≡ true → FirstBad Word Bad (w ++ (v ++ (b ∷ s)))
+    -- a good word comes before it
+    bad-later : {w v : List ℕ} {e : A} (b : ℕ) {s : List ℕ} → White w → Word v e → isWhite b ≡ true → FirstBad Word Bad s
+        → FirstBad Word Bad (w ++ (v ++ (b ∷ s)))
 
 -- one word, not split
 pub data Trimmed {A : Type 0} (Word : List ℕ → A → Type 0) : List ℕ → A → Type 0 where

@@ -22,7 +22,7 @@ use Rattle.table.proofs.Laws.{holds-any, holds-as, holds-at, holds-bind, holds-
 use Rattle.table.specs.All.{All, AreBytes}
 use Rattle.table.specs.Bytes.{after, ends, isWhite, skipWhite, tag}
 use Rattle.table.specs.Cell.{AreColumns, Cell, Each, Fits, IsColumn, below, columnOf, isElement, isNull, isScalar, nullElement, nullOfKind, show}
-use Rattle.table.specs.Outcome.{Refusal, at}
+use Rattle.table.specs.Outcome.{Refusal, at, mostNumber}
 use Rattle.table.specs.Result.{Fails, Holds, Result, _>>=_, bad, gives, good, holds, refusedAs, refuses}
 use Rattle.table.specs.Shape.{Bits, Shape, Text, Truths, Whole, shape}
 use Rattle.table.specs.declared.Column.{Column}
@@ -325,33 +325,37 @@ text-rows cs s =
 abbrev pub Placed : ℕ → ℕ → ℕ → Refusal → Type 0
 Placed lo hi n e = Numbered lo hi (e .number) × (e .column ≤ n)
 
-read-cell-fails : (from : Rows) (c : Column) (flagged : Bool) (s : List ℕ) → Fails (Numbered 8 13) (readCell from c flagged s)
+-- the numbers of reading BINARY and BINARY2
+low-fails : {A : Type 0} {r : Result ℕ A} → Fails (Numbered 8 13) r → Fails (Numbered 8 mostNumber) r
+low-fails h = fails-weaken h (λ n k. (k .0, omega (arith, k .1)))
+
+read-cell-fails : (from : Rows) (c : Column) (flagged : Bool) (s : List ℕ) → Fails (Numbered 8 mostNumber) (readCell from c flagged s)
 unfolding readCell
 read-cell-fails TableData c flagged s = text-fails c s
-read-cell-fails Binary c flagged s = binary-fails c s
-read-cell-fails Binary2 c flagged s = binary2-fails c flagged s
+read-cell-fails Binary c flagged s = low-fails (binary-fails c s)
+read-cell-fails Binary2 c flagged s = low-fails (binary2-fails c flagged s)
 
-read-cells-fails : (from : Rows) (cs : List Column) (fs : List Bool) (k : ℕ) (s : List ℕ) → Fails (Placed 8 13 (k + length cs)) (readCells from cs fs k s)
+read-cells-fails : (from : Rows) (cs : List Column) (fs : List Bool) (k : ℕ) (s : List ℕ) → Fails (Placed 8 mostNumber (k + length cs)) (readCells from cs fs k s)
 unfolding readCells at
 read-cells-fails from [] fs k s = gives
 read-cells-fails from (c ∷ cs) fs k s =
     fails-bind (fails-as (at k) (read-cell-fails from c (flag fs) s) (λ n h. (h, omega arith))) (λ x.
     fails-bind (fails-weaken (read-cells-fails from cs (flagsLeft fs) (k + 1) (x .1)) (λ e h. (h .0, omega (arith, h .1)))) (λ xs. gives))
 
-read-start-fails : (from : Rows) (n : ℕ) (s : List ℕ) → Fails (Numbered 8 13) (readStart from n s)
+read-start-fails : (from : Rows) (n : ℕ) (s : List ℕ) → Fails (Numbered 8 mostNumber) (readStart from n s)
 unfolding readStart
 read-start-fails TableData n s = fails-bind (tag-fails 10 open-TR (skipWhite s) (lit≤ tt, lit≤ tt)) (λ t. gives)
 read-start-fails Binary n s = gives
-read-start-fails Binary2 n s = fails-bind (flags-fails n s) (λ p. gives)
+read-start-fails Binary2 n s = fails-bind (low-fails (flags-fails n s)) (λ p. gives)
 
-read-end-fails : (from : Rows) (s : List ℕ) → Fails (Numbered 8 13) (readEnd from s)
+read-end-fails : (from : Rows) (s : List ℕ) → Fails (Numbered 8 mostNumber) (readEnd from s)
 unfolding readEnd
 read-end-fails TableData s = tag-fails 10 close-TR (skipWhite s) (lit≤ tt, lit≤ tt)
 read-end-fails Binary s = gives
 read-end-fails Binary2 s = gives
 
--- reading refuses with 8 to 13, at a column that is at most the column count
-pub read-row-fails : (from : Rows) (cs : List Column) (s : List ℕ) → Fails (Placed 8 13 (length cs)) (readRow from cs s)
+-- reading refuses with 8 or more, at a column that is at most the column count
+pub read-row-fails : (from : Rows) (cs : List Column) (s : List ℕ) → Fails (Placed 8 mostNumber (length cs)) (readRow from cs s)
 unfolding readRow at
 read-row-fails from cs s =
     fails-bind (fails-as (at 0) (read-start-fails from (length cs) s) (λ n h. (h, zero-le))) (λ p.
@@ -378,6 +382,6 @@ unfolding writeRow
 write-row-fails to cs xs = fails-bind (fails-weaken (write-cells-fails to cs xs 0) (λ e h. (h .0, omega (arith, h .1)))) (λ b. gives)
 
 -- a stream stops with a refusal of reading
-pub read-stops : (from : Rows) (cs : List Column) (s : List ℕ) → Stops (Placed 8 13 (length cs)) (read from cs s)
+pub read-stops : (from : Rows) (cs : List Column) (s : List ℕ) → Stops (Placed 8 mostNumber (length cs)) (read from cs s)
 unfolding read at
-read-stops from cs s = sequence-stops (atEnd from) (readRow from cs) (Placed 8 13 (length cs)) ((lit≤ tt, lit≤ tt), zero-le) (read-row-fails from cs) s
+read-stops from cs s = sequence-stops (atEnd from) (readRow from cs) (Placed 8 mostNumber (length cs)) ((lit≤ tt, lit≤ tt), zero-le) (read-row-fails from cs) s

@@ -10,8 +10,8 @@ use lib.IntN.{negsuc, pos, ℤ}
 use lib.ListN.{length}
 use borrow.Author.Tests.{eqb-true, le-leb, le-ltb, leb-true, lt-ltb, ltb-true, ne-eqb}
 use Rattle.number.proofs.Laws.{IsDigit, digits-are, digits-some, integer-is, read-shortest}
-use Rattle.number.specs.Number.{digits, hexadigit, numeral, readInteger, shortest, sized}
-use Rattle.table.proofs.Laws.{IsWord, Numbered, after-fails, after-le, all-append, all-map, all-weaken, and-both, between-is, between-yes, cond-cases, every-back}
+use Rattle.number.specs.Number.{Fault, Outside, Unwritten, digits, hexadigit, numeral, readInteger, shortest, sized}
+use Rattle.table.proofs.Laws.{IsWord, Numbered, after-fails, after-le, all-append, all-map, all-weaken, and-both, bad-good, between-is, cond-cases, every-back}
 use Rattle.table.proofs.Laws.{fails-always, fails-bind, fails-cond, fails-else, fails-every, good-bind, holds-any, holds-as, holds-at, holds-bind, holds-cond}
 use Rattle.table.proofs.Laws.{holds-else, holds-every, holds-weaken, last-le, nil-not-null, no-white, not-empty, or-either, pieces-space, pieces-word, skip-le}
 use Rattle.table.proofs.Laws.{tag-fails, tag-le}
@@ -19,13 +19,14 @@ use Rattle.table.specs.All.{All}
 use Rattle.table.specs.Bytes.{after, between, byte, bytes, ends, isWhite, notEmpty, pieces, same, skipWhite, tag, words}
 use Rattle.table.specs.Cell.{Cell, Fits, below, bound, emptyIsNull, fits-null, fits-shown, isElement, isNullList, null, roomFits, roomIn, show, shown, standsForNull, truthByte}
 use Rattle.table.specs.Contracts.{formBytes}
+use Rattle.table.specs.Outcome.{mostNumber}
 use Rattle.table.specs.Result.{Fails, Holds, IsGood, Result, bad, every, fails, gives, good, holds, refuses}
 use Rattle.table.specs.Shape.{Bits, Shape, Text, Truths, Whole, Width, last, shape}
 use Rattle.table.specs.declared.Column.{Column}
 use Rattle.tabledata.specs.TableData.{Step, Where, allText, bitLetter, bitText, bitWords, broken, cellText, characters, close-TD, consText, countFits}
 use Rattle.tabledata.specs.TableData.{elementBytes, elementText, emit, emitted, escaped, expanded, follow, formOf, forms, goes, integerWord, isText, joined}
 use Rattle.tabledata.specs.TableData.{lower, named, names, numeric, open-TD, plain, readText, spaced, step, tagBegins, tagged, textBytes, textCell, textElements}
-use Rattle.tabledata.specs.TableData.{elementsOf, truthLetter, truthText, truthWord, writeText}
+use Rattle.tabledata.specs.TableData.{faultNumber, truthLetter, truthText, truthWord, writeText}
 
 -- ---- words
 
@@ -41,17 +42,10 @@ words-spaced (w ∷ v ∷ ws) a =
 
 pub record Plain (b : ℕ) : Type 0 where
   pub itself : (s : List ℕ) → step plain b s ≡ emit b
-  pub text : isText b ≡ true
 
-plain-of : (b : ℕ) → 32 ≤ b → b ≤ 127 → (b ≡ 60 → ⊥) → (b ≡ 38 → ⊥) → Plain b
-unfolding step isText
-plain-of b h k x y =
-    record { itself = λ s. rw (ne-eqb b 60 x, ne-eqb b 38 y, ne-eqb b 13 (λ e. omega arith)); text = rw (between-yes 32 127 b h k, or-true) }
-
-all-text : (s : List ℕ) → All Plain s → allText s ≡ true
-unfolding allText
-all-text [] a = refl
-all-text (b ∷ s) a = rw (a .0 .text) (all-text s (a .1))
+plain-of : (b : ℕ) → 32 ≤ b → (b ≡ 60 → ⊥) → (b ≡ 38 → ⊥) → Plain b
+unfolding step
+plain-of b h x y = record { itself = λ s. rw (ne-eqb b 60 x, ne-eqb b 38 y, ne-eqb b 13 (λ e. omega arith)) }
 
 -- the end tag, and what follows it
 abbrev closed : List ℕ → List ℕ
@@ -73,7 +67,7 @@ abbrev pub PlainWord : List ℕ → Type 0
 PlainWord w = IsWord w × All Plain w
 
 pub plain-digit : (b : ℕ) → IsDigit b → Plain b
-plain-digit b h = plain-of b (omega arith) (omega arith) (λ e. omega arith) (λ e. omega arith)
+plain-digit b h = plain-of b (omega arith) (λ e. omega arith) (λ e. omega arith)
 
 digits-word : (n : ℕ) → PlainWord (digits 20 n)
 digits-word n = (
@@ -86,18 +80,18 @@ unfolding shortest
 shortest-word (pos n) = digits-word n
 shortest-word (negsuc n) = (
   (omega arith, (no-white 45 (lit≤ tt), digits-word (suc n) .0 .1)),
-  (plain-of 45 (lit≤ tt) (lit≤ tt) (λ e. omega arith) (λ e. omega arith), digits-word (suc n) .1),
+  (plain-of 45 (lit≤ tt) (λ e. omega arith) (λ e. omega arith), digits-word (suc n) .1),
 )
 
-letter-word : (b : ℕ) → 33 ≤ b → b ≤ 127 → (b ≡ 60 → ⊥) → (b ≡ 38 → ⊥) → PlainWord (b ∷ [])
-letter-word b h k x y = ((lit≤ tt, (no-white b h, tt)), (plain-of b (omega arith) k x y, tt))
+letter-word : (b : ℕ) → 33 ≤ b → (b ≡ 60 → ⊥) → (b ≡ 38 → ⊥) → PlainWord (b ∷ [])
+letter-word b h x y = ((lit≤ tt, (no-white b h, tt)), (plain-of b (omega arith) x y, tt))
 
 pub truth-word : (z : ℤ) → PlainWord (truthText z)
 unfolding truthText truthByte
-truth-word (pos zero) = letter-word 70 (lit≤ tt) (lit≤ tt) (λ e. omega arith) (λ e. omega arith)
-truth-word (pos (suc zero)) = letter-word 84 (lit≤ tt) (lit≤ tt) (λ e. omega arith) (λ e. omega arith)
-truth-word (pos (suc (suc n))) = letter-word 63 (lit≤ tt) (lit≤ tt) (λ e. omega arith) (λ e. omega arith)
-truth-word (negsuc n) = letter-word 63 (lit≤ tt) (lit≤ tt) (λ e. omega arith) (λ e. omega arith)
+truth-word (pos zero) = letter-word 70 (lit≤ tt) (λ e. omega arith) (λ e. omega arith)
+truth-word (pos (suc zero)) = letter-word 84 (lit≤ tt) (λ e. omega arith) (λ e. omega arith)
+truth-word (pos (suc (suc n))) = letter-word 63 (lit≤ tt) (λ e. omega arith) (λ e. omega arith)
+truth-word (negsuc n) = letter-word 63 (lit≤ tt) (λ e. omega arith) (λ e. omega arith)
 
 pub spaced-plain : (ws : List (List ℕ)) → All PlainWord ws → All Plain (spaced ws)
 unfolding spaced
@@ -105,7 +99,7 @@ spaced-plain [] a = tt
 spaced-plain (w ∷ []) a = a .0 .1
 spaced-plain (w ∷ v ∷ ws) a =
     all-append Plain w (32 ∷ spaced (v ∷ ws)) (a .0 .1)
-    (plain-of 32 (lit≤ tt) (lit≤ tt) (λ e. omega arith) (λ e. omega arith), spaced-plain (v ∷ ws) (a .1))
+    (plain-of 32 (lit≤ tt) (λ e. omega arith) (λ e. omega arith), spaced-plain (v ∷ ws) (a .1))
 
 -- ---- a cell's text
 
@@ -113,11 +107,10 @@ spaced-plain (w ∷ v ∷ ws) a =
 pub record Says (k : Shape) (es : List ℤ) (t : List ℕ) : Type 0 where
   pub raw : List ℕ
   pub read : (rest : List ℕ) → characters plain (t ++ closed rest) ≡ good (raw, rest)
-  pub text : allText raw ≡ true
   pub elements : textElements k raw ≡ good es
 
 says : (k : Shape) (es : List ℤ) (t : List ℕ) → All Plain t → textElements k t ≡ good es → Says k es t
-says k es t a e = record { raw = t; read = λ rest. plain-read t rest a; text = all-text t a; elements = e }
+says k es t a e = record { raw = t; read = λ rest. plain-read t rest a; elements = e }
 
 truth-read : (e : ℤ) → isElement Truths e ≡ true → truthWord (truthText e) ≡ good e
 unfolding truthWord truthLetter truthText truthByte isElement below
@@ -173,9 +166,18 @@ escape-read c t =
     P : List ℕ → Type 0
     P s = characters plain (s ++ t) ≡ consText c (characters plain t)
 
+-- a character more before characters that are elements as they stand
+char-first : (c : ℕ) (cs : List ℕ) (es : List ℤ) → isText c ≡ true → textElements Text cs ≡ good es → textElements Text (c ∷ cs) ≡ good (pos c ∷ es)
+unfolding textElements allText
+char-first c cs es t e = rw t (go (allText cs) e)
+  where
+    go : (b : Bool) → cond {A = Result ℕ (List ℤ)} b (good (map pos cs)) (bad 11) ≡ good es → cond {A = Result ℕ (List ℤ)} b (good (pos c ∷ map pos cs)) (bad 11) ≡ good (pos c ∷ es)
+    go true e = cc e
+    go false e = absurd (bad-good e)
+
 chars-say : (es : List ℤ) → All (λ (e : ℤ). isElement Text e ≡ true) es → Holds (Says Text es) (forms es)
-unfolding forms formOf textElements consText allText skipWhite
-chars-say [] a = holds (record { raw = []; read = closed-read; text = unfold allText in refl; elements = refl })
+unfolding forms formOf consText skipWhite
+chars-say [] a = holds (record { raw = []; read = closed-read; elements = unfold textElements allText in refl })
 chars-say (pos c ∷ es) a =
     let f : Holds {E = ℕ} (λ (b : List ℕ). (b ≡ escaped c) × (isText c ≡ true)) (cond (isText c) (good (escaped c)) (bad 16))
     = holds-cond (isText c) (λ t. holds (refl, t)) (λ _. refuses) in
@@ -185,8 +187,7 @@ chars-say (pos c ∷ es) a =
     add b r q t h = record {
       raw = c ∷ h .raw;
       read = λ rest. rw (append-assoc, q, escape-read c (r ++ closed rest), h .read rest);
-      text = rw t (h .text);
-      elements = cc (h .elements);
+      elements = char-first c (h .raw) es t (h .elements);
     }
 chars-say (negsuc c ∷ es) a = refuses
 
@@ -200,19 +201,19 @@ text-back Text e es a = chars-say (e ∷ es) a
 -- ---- a cell
 
 pub nil-elements : (k : Shape) → textElements k [] ≡ good []
-unfolding textElements words pieces notEmpty every bitWords
+unfolding textElements words pieces notEmpty every bitWords allText
 nil-elements Truths = refl
 nil-elements Bits = refl
 nil-elements (Whole g v) = refl
 nil-elements Text = refl
 
 pub text-cell-back : (c : Column) (x : Cell) → Fits c x → Holds (λ (b : List ℕ). (rest : List ℕ) → readText c (b ++ rest) ≡ good (x, rest)) (writeText c x)
-unfolding writeText readText cellText after ends skipWhite isWhite open-TD close-TD tagged textCell elementsOf allText countFits show emptyIsNull
+unfolding writeText readText cellText after ends skipWhite isWhite open-TD close-TD tagged textCell countFits show emptyIsNull
 text-cell-back c null f = holds {a = bytes "<TD/>"} (λ rest. rw (nil-elements, nil-not-null))
 text-cell-back c (shown []) f = refuses
 text-cell-back c (shown (e ∷ es)) (fits-shown x n) =
     holds-bind (text-back (shape (c .kind)) e es (x .each)) (λ t h.
-    holds (λ rest. rw (append-assoc, h .read rest, h .text, h .elements, x .room, le-leb (suc (length es)) (bound (c .len)) (x .few), n, or-true)))
+    holds (λ rest. rw (append-assoc, h .read rest, h .elements, x .room, le-leb (suc (length es)) (bound (c .len)) (x .few), n, or-true)))
 
 -- ---- a cell takes at least a byte
 
@@ -258,7 +259,7 @@ truth-is (b ∷ c ∷ w) =
 
 word-is : (g : Bool) (v : Width) (w : List ℕ) → Holds (λ (e : ℤ). isElement (Whole g v) e ≡ true) (integerWord g (suc (last v)) w)
 unfolding integerWord isElement
-word-is g v w = holds-as (λ f. 11) (integer-is g (last v) w)
+word-is g v w = holds-as faultNumber (integer-is g (last v) w)
 
 letter-is : (b : ℕ) → Holds (λ (e : ℤ). isElement Bits e ≡ true) (bitLetter b)
 unfolding bitLetter isElement below
@@ -298,12 +299,12 @@ words-are [] = holds tt
 words-are (w ∷ []) = holds-every bitLetter letter-is w
 words-are (w ∷ v ∷ ws) = refuses
 
-elements-are : (k : Shape) (cs : List ℕ) → allText cs ≡ true → Holds (All (TextElement k)) (textElements k cs)
+elements-are : (k : Shape) (cs : List ℕ) → Holds (All (TextElement k)) (textElements k cs)
 unfolding textElements hasText isElement
-elements-are Truths cs t = holds-every truthWord (λ w. holds-weaken (truth-is w) (λ e h. (h, refl))) (words cs)
-elements-are Bits cs t = holds-weaken (words-are (words cs)) (λ es a. all-weaken _ _ es (λ e h. (h, refl)) a)
-elements-are (Whole g v) cs t = holds-every (integerWord g (suc (last v))) (λ w. holds-weaken (word-is g v w) (λ e h. (h, refl))) (words cs)
-elements-are Text cs t = holds (chars-are cs t)
+elements-are Truths cs = holds-every truthWord (λ w. holds-weaken (truth-is w) (λ e h. (h, refl))) (words cs)
+elements-are Bits cs = holds-weaken (words-are (words cs)) (λ es a. all-weaken _ _ es (λ e h. (h, refl)) a)
+elements-are (Whole g v) cs = holds-every (integerWord g (suc (last v))) (λ w. holds-weaken (word-is g v w) (λ e h. (h, refl))) (words cs)
+elements-are Text cs = holds-cond (allText cs) (λ t. holds (chars-are cs t)) (λ _. refuses)
 
 -- ---- a cell that a text shows has a text again
 
@@ -343,10 +344,10 @@ cell-fits c (e ∷ es) a h =
     }))
 
 pub text-fits : (c : Column) (s : List ℕ) → Holds (λ (p : Cell × List ℕ). TextFits c (p .0)) (readText c s)
-unfolding readText textCell elementsOf
+unfolding readText textCell
 text-fits c s =
     holds-bind (holds-any (cellText s)) (λ p _.
-    holds-bind (holds-bind (holds-cond (allText (p .0)) (elements-are (shape (c .kind)) (p .0)) (λ _. refuses))
+    holds-bind (holds-bind (elements-are (shape (c .kind)) (p .0))
     (λ es a. holds-cond (countFits c (length es)) (λ e. holds (cell-fits c es a e)) (λ _. refuses)))
     (λ x h. holds h))
 
@@ -373,7 +374,20 @@ module _ {P : ℕ → Type 0} (ten : P 10) where
       fails-else (fails-bind (after-fails 10 (bytes "/>") (skipWhite t) ten) (λ r. gives))
       (fails-bind (after-fails 10 (bytes ">") (skipWhite t) ten) (λ u. characters-fails plain u)))
 
--- what is no element is 11
+-- what is said of integers alone
+abbrev pub OfIntegers : Shape → Type 0 → Type 0
+OfIntegers Truths X = Unit {0}
+OfIntegers Bits X = Unit {0}
+OfIntegers (Whole g v) X = X
+OfIntegers Text X = Unit {0}
+
+pub of-integers : {X : Type 0} (k : Shape) → X → OfIntegers k X
+of-integers Truths x = tt
+of-integers Bits x = tt
+of-integers (Whole g v) x = x
+of-integers Text x = tt
+
+-- what is no element is 11, or 18 of integers
 module _ {P : ℕ → Type 0} (eleven : P 11) where
   truth-fails : (w : List ℕ) → Fails P (truthWord w)
   unfolding truthWord truthLetter
@@ -392,22 +406,26 @@ module _ {P : ℕ → Type 0} (eleven : P 11) where
   bits-fails (w ∷ []) = fails-every bitLetter (λ b. fails-cond (between (byte "0") (byte "1") b) gives (fails eleven)) w
   bits-fails (w ∷ v ∷ ws) = fails eleven
 
-  elements-fails : (k : Shape) (cs : List ℕ) → Fails P (textElements k cs)
-  unfolding textElements integerWord
-  elements-fails Truths cs = fails-every truthWord truth-fails (words cs)
-  elements-fails Bits cs = bits-fails (words cs)
-  elements-fails (Whole g v) cs = fails-every (integerWord g (suc (last v))) (λ w. fails-always (λ f. 11) (readInteger g (suc (last v)) w) (λ f. eleven)) (words cs)
-  elements-fails Text cs = gives
+  integers-fails : P 18 → (g : Bool) (w : ℕ) (ws : List (List ℕ)) → Fails P (every (integerWord g w) ws)
+  unfolding integerWord faultNumber
+  integers-fails eighteen g w ws = fails-every (integerWord g w) (λ s. fails-always faultNumber (readInteger g w s) number) ws
+    where
+      number : (f : Fault) → P (faultNumber f)
+      number Unwritten = eleven
+      number Outside = eighteen
 
-  pub elements-of-fails : (k : Shape) (cs : List ℕ) → Fails P (elementsOf k cs)
-  unfolding elementsOf
-  elements-of-fails k cs = fails-cond (allText cs) (elements-fails k cs) (fails eleven)
+  pub elements-fails : (k : Shape) (cs : List ℕ) → OfIntegers k (P 18) → Fails P (textElements k cs)
+  unfolding textElements
+  elements-fails Truths cs e = fails-every truthWord truth-fails (words cs)
+  elements-fails Bits cs e = bits-fails (words cs)
+  elements-fails (Whole g v) cs e = integers-fails e g (suc (last v)) (words cs)
+  elements-fails Text cs e = fails-cond (allText cs) gives (fails eleven)
 
-pub text-fails : (c : Column) (s : List ℕ) → Fails (Numbered 8 13) (readText c s)
+pub text-fails : (c : Column) (s : List ℕ) → Fails (Numbered 8 mostNumber) (readText c s)
 unfolding readText textCell
 text-fails c s =
     fails-bind (cell-fails (lit≤ tt, lit≤ tt) s) (λ p.
-    fails-bind (fails-bind (elements-of-fails (lit≤ tt, lit≤ tt) (shape (c .kind)) (p .0))
+    fails-bind (fails-bind (elements-fails (lit≤ tt, lit≤ tt) (shape (c .kind)) (p .0) (of-integers (shape (c .kind)) (lit≤ tt, lit≤ tt)))
     (λ es. fails-cond (countFits c (length es)) gives (fails (lit≤ tt, lit≤ tt)))) (λ x. gives))
 
 -- a character without a form is 16

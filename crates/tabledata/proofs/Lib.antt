@@ -1,3 +1,5 @@
 pub mod Laws
 pub mod LineEnds
 pub mod Characters
+pub mod Elements
+pub mod AllEleven

@@ -5,7 +5,7 @@ use mathlib.Core.List.{List, [], _++_, _∷_, map}
 use lib.Dec.{eqb, leb}
 use lib.IntN.{negsuc, pos, ℤ}
 use lib.ListN.{length}
-use Rattle.number.specs.Number.{Fault, digit, hexadigit, readInteger, shortest, sized}
+use Rattle.number.specs.Number.{Fault, Outside, Unwritten, digit, hexadigit, readInteger, shortest, sized}
 use Rattle.table.specs.Bytes.{after, between, byte, bytes, ends, same, skipWhite, tag, words}
 use Rattle.table.specs.Cell.{Cell, bound, emptyIsNull, null, roomFits, roomIn, show, shown, truthByte}
 use Rattle.table.specs.Contracts.{formBytes}
@@ -134,20 +134,22 @@ bitWords [] = good []
 bitWords (w ∷ []) = every bitLetter w
 bitWords (w ∷ v ∷ ws) = bad 11
 
--- 11: "a byte or text that is no value of its kind", whichever fault it has
-unfoldable pub integerWord : Bool → ℕ → List ℕ → Result ℕ ℤ
-integerWord signed w s = refusedAs (λ f. 11) (readInteger signed w s)
+-- 02, #104: "11 stays for text that isn't written as an integer, 18 is for one that is but lies outside its kind's range."
+unfoldable pub faultNumber : Fault → ℕ
+faultNumber Unwritten = 11
+faultNumber Outside = 18
 
--- "After expansion char cells are taken untrimmed; other cells lose white space at both ends and, except bit, are split at white space."
+unfoldable pub integerWord : Bool → ℕ → List ℕ → Result ℕ ℤ
+integerWord signed w s = refusedAs faultNumber (readInteger signed w s)
+
+-- "After expansion char cells are taken untrimmed; other cells lose white space at both ends and, except bit, are split at white space." 02,
+-- #104: "in one cell the first bad element decides". The rule on characters is seen in char alone: elements of the other kinds are written in
+-- characters that a cell may have (law `elements-text`).
 unfoldable pub textElements : Shape → List ℕ → Result ℕ (List ℤ)
 textElements Truths cs = every truthWord (words cs)
 textElements Bits cs = bitWords (words cs)
 textElements (Whole g v) cs = every (integerWord g (suc (last v))) (words cs)
-textElements Text cs = good (map pos cs)
-
--- the elements of a text whose characters a cell may have; 11 for another
-unfoldable pub elementsOf : Shape → List ℕ → Result ℕ (List ℤ)
-elementsOf k cs = cond (allText cs) (textElements k cs) (bad 11)
+textElements Text cs = cond (allText cs) (good (map pos cs)) (bad 11)
 
 -- 12: "text cell with elements, but not n of them in a fixed column, or over the bound in another; fixed char may be shorter, not longer"
 unfoldable pub countFits : Column → ℕ → Bool
@@ -155,9 +157,9 @@ countFits c m = eqb m 0 || (roomFits (shape (c .kind)) (roomIn (c .len) m) m && 
 
 -- "In TABLEDATA and BINARY an empty cell is null: no characters are left (after trimming, but for char)"
 unfoldable pub textCell : Column → List ℕ → Result ℕ Cell
-textCell c cs = elementsOf (shape (c .kind)) cs >>= λ es. cond (countFits c (length es)) (good (emptyIsNull (show c es))) (bad 12)
+textCell c cs = textElements (shape (c .kind)) cs >>= λ es. cond (countFits c (length es)) (good (emptyIsNull (show c es))) (bad 12)
 
--- "a text cell 10, 11, 12"
+-- "a text cell 10, 11, 12"; 02, #104, of 11 and 18: "Both come before 12"
 unfoldable pub readText : Column → List ℕ → Result ℕ (Cell × List ℕ)
 readText c s = do
   (cs, rest) ← cellText s

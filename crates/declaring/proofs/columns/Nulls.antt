@@ -1,5 +1,5 @@
--- The null value of a scalar: what its one element is. An integer's elements are those of its words (`integers-text`), so the words of
--- the definition and the elements that the code counts say the same.
+-- The null value of a scalar: what its one element is. An integer's elements are those of its words, so the words of the definition and the
+-- elements that the code counts say the same; and whatever number refuses a word, the null is 4.
 use Prim.Native.Nat.{suc, ℕ}
 use native.Mathlib.Omega.{arith}
 use mathlib.Core.Bool.{Bool, false, true}
@@ -9,7 +9,6 @@ use mathlib.Core.Path.{_∙_, _≡_, ap, refl, subst, sym}
 use lib.IntN.{ℤ}
 use lib.ListN.{getD, length}
 use Rattle.declaring.specs.Readers.{nullOfScalar, oneNull}
-use Rattle.element_reading.proofs.Integers.{integers-text}
 use Rattle.element_reading.specs.Elements.{CountsElements, Stored}
 use Rattle.element_reading.specs.declared.elements.Counted.the-variants.{All}
 use Rattle.element_reading.specs.declared.elements.Counted.{Counted}
@@ -19,11 +18,11 @@ use Rattle.table.specs.Bytes.{words}
 use Rattle.table.specs.Result.{Result, _>>=_, bad, every, good, refusedAs}
 use Rattle.table.specs.Shape.{Bits, Shape, Text, Truths, Whole, Width, last}
 use Rattle.table.specs.declared.Null.the-variants.{Declared, Undeclared}
-use Rattle.tabledata.specs.TableData.{elementsOf, integerWord, textElements}
+use Rattle.tabledata.specs.TableData.{faultNumber, integerWord, textElements}
 
 -- ---- the words of the definition, as elements
 
-one-null : (r : Result Fault ℤ) → (refusedAs {A = ℤ} (λ _. 4) r >>= λ z. good (Declared z)) ≡ oneNull (refusedAs (λ _. 11) r >>= λ z. good (z ∷ []))
+one-null : (r : Result Fault ℤ) → (refusedAs {A = ℤ} (λ _. 4) r >>= λ z. good (Declared z)) ≡ oneNull (refusedAs faultNumber r >>= λ z. good (z ∷ []))
 unfolding oneNull
 one-null (good z) = refl
 one-null (bad f) = refl
@@ -42,9 +41,9 @@ null-words g v (w ∷ []) = one-null (readInteger g (suc (last v)) w)
 null-words g v (w ∷ x ∷ ws) =
     let f = integerWord g (suc (last v)) in two-null (f w) (f x) (every (integerWord g (suc (last v))) ws)
 
-pub null-is : {k : Shape} (g : Bool) (v : Width) (t : List ℕ) → k ≡ Whole g v → nullOfScalar k t ≡ oneNull (elementsOf k t)
+pub null-is : {k : Shape} (g : Bool) (v : Width) (t : List ℕ) → k ≡ Whole g v → nullOfScalar k t ≡ oneNull (textElements k t)
 unfolding nullOfScalar textElements
-null-is g v t e = rw e (null-words g v (words t) ∙ ap oneNull (sym (integers-text g v t)))
+null-is g v t e = rw e (null-words g v (words t))
 
 -- ---- the elements that were counted
 

@@ -15,11 +15,10 @@ use Rattle.table.proofs.Words.{no-white-more, words-cut, words-last, words-none
 use Rattle.table.specs.Bytes.{attach, between, isWhite, notEmpty, pieces, words}
 use Rattle.table.specs.Result.{Result, bad, every, good}
 use Rattle.table.specs.Shape.{Bits}
-use Rattle.tabledata.proofs.Characters.{text-yes, white-text}
-use Rattle.tabledata.specs.TableData.{bitLetter, bitWords, isText, textElements}
+use Rattle.tabledata.specs.TableData.{bitLetter, bitWords, textElements}
 use Rattle.element_reading.proofs.Words.{every-append}
-use Rattle.element_reading.proofs.characters.Passing.{no-text, passed-code, passed-then}
-use Rattle.element_reading.proofs.elements.Laws.{ReadTo, read-more, read-no-text, spoilt}
+use Rattle.element_reading.proofs.characters.Passing.{passed-code, passed-then}
+use Rattle.element_reading.proofs.elements.Laws.{ReadTo, read-more, read-spoilt}
 use Rattle.element_reading.specs.Characters.{ItemIs, charactersOf, spoiledNumber}
 use Rattle.element_reading.specs.Elements.{BitIs, TakesElements, bitAs, elementsFrom}
 use Rattle.element_reading.specs.declared.characters.Item.the-variants.{Code}
@@ -74,9 +73,6 @@ bit-white c e h = go (between 48 49 c) refl h
     go : (t : Bool) → between 48 49 c ≡ t → cond {A = Result ℕ ℤ} t (good (pos (c - 48))) (bad 11) ≡ good e → (48 ≤ c) × (c ≤ 49)
     go true q r = between-is 48 49 c q
     go false q r = absurd (bad-good r)
-
-bit-text : (c : ℕ) (e : ℤ) → bitLetter c ≡ good e → isText c ≡ true
-bit-text c e h = text-yes c (omega (arith, bit-white c e h)) (omega (arith, bit-white c e h))
 
 -- what the code takes a character for
 bit-known : (closed : Bool) (c r : ℕ) → BitIs closed c r → (r ≡ 2 → ⊥) → (closed ≡ false) × (bitLetter c ≡ good (pos r))
@@ -169,7 +165,7 @@ module _ {source : Source} {s : List ℕ} {from i n : ℕ} {closed : Bool} {entr
     w = r .w ++ (c ∷ []);
     es = r .es;
     means = (r .means .0, bits-white (r .w) (r .means .0) (r .es) closed n c (r .means .1) h);
-    passed = passed-then (r .passed) (passed-code (t .found) (white-text c h));
+    passed = passed-then (r .passed) (passed-code (t .found));
     stored = r .stored;
     long = r .long;
     few = omega (arith, r .few, t .within .0);
@@ -177,24 +173,14 @@ module _ {source : Source} {s : List ℕ} {from i n : ℕ} {closed : Bool} {entr
     high = t .within .1;
   }
 
-  pub bits-spoilt : {x m : ℕ} → isWhite c ≡ false → BitIs closed c x → x ≡ 2 → m ≡ spoiledNumber (charactersOf source (drop next s))
+  pub bits-spoilt : {x m : ℕ} → isWhite c ≡ false → BitIs closed c x → x ≡ 2 → m ≡ spoiledNumber 11 (charactersOf source (drop next s))
       → TakesElements (elementsFrom source Bits (drop from s)) s from entry l (Taken.Refused m)
-  bits-spoilt {x} {m} h b k e = go (isText c) refl
-    where
-      go : (b : Bool) → isText c ≡ b → TakesElements (elementsFrom source Bits (drop from s)) s from entry l (Taken.Refused m)
-      go true q = record {
-        found =
-            spoilt Bits {s = s} {from = from} {i = next} (passed-then (r .passed) (passed-code {s = s} {i = i} {j = next} {c = c} (t .found) q))
-            (bits-bad (r .w) (r .means .0) (r .es) closed n c x (r .means .1) h b k)
-            ∙ ap bad (sym e);
-        long = r .long;
-      }
-      go false q = read-no-text r Bits (no-text {s = s} {i = i} {c = c} {next = next} t q) e
+  bits-spoilt {x} h b k e = read-spoilt r Bits t (bits-bad (r .w) (r .means .0) (r .es) closed n c x (r .means .1) h b k) e
 
   pub bits-read : {m : List ℤ} {x : ℕ} {y : ℤ} → BitIs closed c x → (x ≡ 2 → ⊥) → m ≡ set l n y → y ≡ pos x → ReadTo (BitsTo closed (n + 1)) source s from next (n + 1) entry m
   bits-read {x = x} b k e q =
       let f = bit-known closed c x b k in
-      read-more r t (bit-text c (pos x) (f .1)) e q (_, bits-more (r .w) (r .means .0) (r .es) closed n c (pos x) (r .means .1) (f .0) (f .1))
+      read-more r t e q (_, bits-more (r .w) (r .means .0) (r .es) closed n c (pos x) (r .means .1) (f .0) (f .1))
 
 pub bits-to-end : {w : List ℕ} {es : List ℤ} {closed : Bool} {n : ℕ} → BitsTo closed n w es → textElements Bits w ≡ good es
 bits-to-end {w} {es} {closed} {n} p = bits-end w (p .0) es closed n (p .1)

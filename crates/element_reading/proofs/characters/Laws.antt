@@ -158,15 +158,15 @@ ended-not t = record { found = rw (t .found 10); within = tt }
 
 -- ---- a cell that is spoiled
 
-pub spoiled-code : (c : ℕ) (r : Result ℕ (List ℕ × List ℕ)) → spoiledNumber (consText c r) ≡ spoiledNumber r
+pub spoiled-code : (number c : ℕ) (r : Result ℕ (List ℕ × List ℕ)) → spoiledNumber number (consText c r) ≡ spoiledNumber number r
 unfolding spoiledNumber consText
-spoiled-code c (good p) = refl
-spoiled-code c (bad n) = refl
+spoiled-code number c (good p) = refl
+spoiled-code number c (bad n) = refl
 
-pub spoiled-end : (t : List ℕ) → spoiledNumber (good ([], t)) ≡ 11
+pub spoiled-end : (number : ℕ) (t : List ℕ) → spoiledNumber number (good ([], t)) ≡ number
 unfolding spoiledNumber
-spoiled-end t = refl
+spoiled-end number t = refl
 
-pub spoiled-broken : spoiledNumber (bad 10) ≡ 10
+pub spoiled-broken : (number : ℕ) → spoiledNumber number (bad 10) ≡ 10
 unfolding spoiledNumber
-spoiled-broken = refl
+spoiled-broken number = refl

@@ -4,22 +4,22 @@
 use Prim.Native.Nat.{_+_, _<_, _≤_, ℕ}
 use native.Mathlib.Nat.{le-refl}
 use native.Mathlib.Omega.{arith}
-use mathlib.Core.Bool.{and-false, false, true}
+use mathlib.Core.Bool.{false, true}
 use mathlib.Core.List.{List, [], _++_, _∷_, append-assoc, append-nil}
 use mathlib.Core.Path.{_∙_, _≡_, ap, refl, sym}
 use lib.IntN.{ℤ}
 use lib.ListN.{drop, getD, length}
-use Rattle.table.proofs.Laws.{NoWhite, and-both, bad-good}
+use Rattle.table.proofs.Laws.{NoWhite, bad-good}
 use Rattle.table.proofs.Words.{no-white-more}
 use Rattle.table.specs.Bytes.{isWhite}
 use Rattle.table.specs.Result.{Result, _>>=_, bad, good}
 use Rattle.tabledata.proofs.Characters.{plain-is}
 use Rattle.tabledata.specs.Contracts.{isPlain}
-use Rattle.tabledata.specs.TableData.{allText, consText, isText}
+use Rattle.tabledata.specs.TableData.{consText}
 use Rattle.element_reading.proofs.characters.Laws.{itself}
 use Rattle.element_reading.specs.Characters.{ItemIs, charactersOf, spoiledNumber}
 use Rattle.element_reading.specs.Elements.{Passed, onward}
-use Rattle.element_reading.specs.Words.{CutAt, LastAt, NoTextAt}
+use Rattle.element_reading.specs.Words.{CutAt, LastAt}
 use Rattle.element_reading.specs.declared.characters.Item.the-variants.{Code, End}
 use Rattle.element_reading.specs.declared.characters.Source.{Source}
 
@@ -35,10 +35,10 @@ unfolding onward consText
 onward-code g c (good p) = refl
 onward-code g c (bad n) = refl
 
-pub onward-bad : (g : List ℕ → Result ℕ (List ℤ)) (r : Result ℕ (List ℕ × List ℕ)) → ((cs : List ℕ) → g cs ≡ bad 11) → onward g r ≡ bad (spoiledNumber r)
+pub onward-bad : (g : List ℕ → Result ℕ (List ℤ)) (number : ℕ) (r : Result ℕ (List ℕ × List ℕ)) → ((cs : List ℕ) → g cs ≡ bad number) → onward g r ≡ bad (spoiledNumber number r)
 unfolding onward spoiledNumber
-onward-bad g (good p) e = rw (e (p .0))
-onward-bad g (bad n) e = refl
+onward-bad g number (good p) e = rw (e (p .0))
+onward-bad g number (bad n) e = refl
 
 pub onward-end : (g : List ℕ → Result ℕ (List ℤ)) (t : List ℕ) → onward g (good ([], t)) ≡ (g [] >>= λ es. good (es, t))
 unfolding onward
@@ -53,53 +53,23 @@ unfolding onward
 broken-back (good p) e = absurd (bad-good (sym e))
 broken-back (bad n) e = ap bad (let q : _≡_ {A = Result ℕ (List ℤ × List ℕ)} (bad n) (bad 10) = e in cc)
 
--- ---- all characters are text
-
-pub text-append : (w v : List ℕ) → allText w ≡ true → allText v ≡ true → allText (w ++ v) ≡ true
-unfolding allText
-text-append [] v h k = k
-text-append (c ∷ w) v h k = rw (and-both (isText c) (allText w) h .0) (text-append w v (and-both (isText c) (allText w) h .1) k)
-
-text-one : (c : ℕ) → isText c ≡ true → allText (c ∷ []) ≡ true
-unfolding allText
-text-one c h = rw h
-
-pub text-not-all : (w v : List ℕ) → allText v ≡ false → allText (w ++ v) ≡ false
-unfolding allText
-text-not-all [] v h = h
-text-not-all (c ∷ w) v h = rw (text-not-all w v h, and-false)
-
-text-no : (c : ℕ) (v : List ℕ) → isText c ≡ false → allText (c ∷ v) ≡ false
-unfolding allText
-text-no c v h = rw h
-
 -- ---- passing over characters
 
 pub passed-none : {source : Source} {s : List ℕ} {i : ℕ} → Passed source s i i []
-unfolding allText
-passed-none = record { passes = λ g. refl; text = refl }
+passed-none = record { passes = λ g. refl }
 
 pub passed-then : {source : Source} {s : List ℕ} {i j k : ℕ} {w v : List ℕ} → Passed source s i j w → Passed source s j k v → Passed source s i k (w ++ v)
 passed-then {source} {s} {k = k} {w = w} {v = v} p q = record {
   passes = λ g.
       p .passes g ∙ q .passes (λ cs. g (w ++ cs))
       ∙ onward-ext (λ cs. g (w ++ (v ++ cs))) (λ cs. g (w ++ v ++ cs)) (charactersOf source (drop k s)) (λ cs. ap g (sym (append-assoc w v cs)));
-  text = text-append w v (p .text) (q .text);
 }
 
-pub passed-code : {source : Source} {s : List ℕ} {i j c : ℕ} → charactersOf source (drop i s) ≡ consText c (charactersOf source (drop j s)) → isText c ≡ true → Passed source s i j (c ∷ [])
-passed-code {source} {s} {j = j} {c = c} e t = record { passes = λ g. ap (onward g) e ∙ onward-code g c (charactersOf source (drop j s)); text = text-one c t }
+pub passed-code : {source : Source} {s : List ℕ} {i j c : ℕ} → charactersOf source (drop i s) ≡ consText c (charactersOf source (drop j s)) → Passed source s i j (c ∷ [])
+passed-code {source} {s} {j = j} {c = c} e = record { passes = λ g. ap (onward g) e ∙ onward-code g c (charactersOf source (drop j s)) }
 
 pub passed-plain : (source : Source) (s : List ℕ) (i : ℕ) → i < length s → isPlain (getD s i 0) ≡ true → Passed source s i (i + 1) (getD s i 0 ∷ [])
-passed-plain source s i h p = let q = plain-is (getD s i 0) p in passed-code (itself s i source h (q .0 .0) (q .0 .1) (q .0 .2)) (q .1)
-
-pub no-text : {source : Source} {s : List ℕ} {i c next : ℕ} → ItemIs source (charactersOf source (drop i s)) s i (Code c next) → isText c ≡ false → NoTextAt source s i next
-no-text {source} {s} {c = c} {next = next} t h = record {
-  refuses = λ g f.
-      ap (onward g) (t .found) ∙ onward-code g c (charactersOf source (drop next s))
-      ∙ onward-bad (λ cs. g (c ∷ cs)) (charactersOf source (drop next s)) (λ cs. f (c ∷ cs) (text-no c cs h));
-  high = t .within .1;
-}
+passed-plain source s i h p = let q = plain-is (getD s i 0) p in passed-code (itself s i source h (q .0 .0) (q .0 .1) (q .0 .2))
 
 -- ---- a word so far, and how it ends
 
@@ -123,38 +93,30 @@ module _ {Stands : List ℕ → Type 0} {source : Source} {s : List ℕ} {from i
     w = p .w;
     stands = p .stands;
     word = p .word;
-    text = p .passed .text;
     ends = λ g. p .passed .passes g ∙ ap (onward (λ cs. g (p .w ++ cs))) (t .found) ∙ onward-end (λ cs. g (p .w ++ cs)) (drop next s) ∙ rw append-nil;
     low = omega (arith, p .low, t .within .0);
     high = t .within .1;
   }
 
   module _ {c next : ℕ} (t : ItemIs source (charactersOf source (drop i s)) s i (Code c next)) where
-    pub word-no-text : isText c ≡ false → NoTextAt source s from next
-    word-no-text h = record {
-      refuses = λ g f. p .passed .passes g ∙ no-text t h .refuses (λ cs. g (p .w ++ cs)) (λ cs x. f (p .w ++ cs) (text-not-all (p .w) cs x));
-      high = t .within .1;
-    }
-
-    pub word-cuts : isText c ≡ true → isWhite c ≡ true → CutAt Stands source s from next
-    word-cuts h k = record {
+    pub word-cuts : isWhite c ≡ true → CutAt Stands source s from next
+    word-cuts k = record {
       w = p .w;
       stands = p .stands;
       word = p .word;
-      text = p .passed .text;
       white = c;
       is-white = k;
-      passed = passed-then (p .passed) (passed-code (t .found) h);
+      passed = passed-then (p .passed) (passed-code (t .found));
       low = omega (arith, p .low, t .within .0);
       high = t .within .1;
     }
 
-    pub word-more : {Next : List ℕ → Type 0} → isText c ≡ true → isWhite c ≡ false → Next (p .w ++ (c ∷ [])) → WordTo Next source s from next
-    word-more h k a = record {
+    pub word-more : {Next : List ℕ → Type 0} → isWhite c ≡ false → Next (p .w ++ (c ∷ [])) → WordTo Next source s from next
+    word-more k a = record {
       w = p .w ++ (c ∷ []);
       stands = a;
       word = no-white-more (p .w) c (p .word) k;
-      passed = passed-then (p .passed) (passed-code (t .found) h);
+      passed = passed-then (p .passed) (passed-code (t .found));
       low = omega (arith, p .low, t .within .0);
       high = t .within .1;
     }

@@ -12,14 +12,12 @@ use lib.IntN.{ℤ}
 use lib.ListN.{drop, length, length-append, length-set, set, take}
 use lib.Seq.{set-out, take-all, take-append-le, take-nil, take-suc-set}
 use borrow.Author.Tests.{ltb-false, ltb-true}
-use Rattle.table.proofs.Laws.{cond-cases}
 use Rattle.table.specs.Result.{Result, bad, good}
 use Rattle.table.specs.Shape.{Shape}
-use Rattle.tabledata.specs.TableData.{allText, elementsOf, isText, textElements}
-use Rattle.element_reading.proofs.characters.Passing.{onward-bad, onward-broken, onward-end, passed-code, passed-none, passed-then, text-not-all}
+use Rattle.tabledata.specs.TableData.{textElements}
+use Rattle.element_reading.proofs.characters.Passing.{onward-bad, onward-broken, onward-end, passed-code, passed-none, passed-then}
 use Rattle.element_reading.specs.Characters.{ItemIs, charactersOf, spoiledNumber}
 use Rattle.element_reading.specs.Elements.{Passed, Stored, TakesElements, elementsFrom, onward}
-use Rattle.element_reading.specs.Words.{NoTextAt}
 use Rattle.element_reading.specs.declared.characters.Item.the-variants.{Code, End}
 use Rattle.element_reading.specs.declared.elements.Taken.the-variants.{Held}
 use Rattle.element_reading.specs.declared.elements.Taken.{Taken}
@@ -53,13 +51,11 @@ put-more {es} {n} {l} {x = x} p e q = rw (e, q) (stored-more es n l x p)
 
 -- ---- what was passed over has no value of the kind, whatever follows
 
-pub spoilt : (k : Shape) {source : Source} {s : List ℕ} {from i : ℕ} {w : List ℕ} → Passed source s from i w → ((v : List ℕ) → textElements k (w ++ v) ≡ bad 11)
-    → elementsFrom source k (drop from s) ≡ bad (spoiledNumber (charactersOf source (drop i s)))
-unfolding elementsFrom elementsOf
-spoilt k {source} {s} {i = i} {w = w} p f =
-    p .passes (elementsOf k)
-    ∙ onward-bad (λ cs. elementsOf k (w ++ cs)) (charactersOf source (drop i s)) (λ cs.
-    cond-cases (λ (r : Result ℕ (List ℤ)). r ≡ bad 11) (allText (w ++ cs)) (textElements k (w ++ cs)) (bad 11) (λ _. f cs) (λ _. refl))
+pub spoilt : (k : Shape) {source : Source} {s : List ℕ} {from i number : ℕ} {w : List ℕ} → Passed source s from i w → ((v : List ℕ) → textElements k (w ++ v) ≡ bad number)
+    → elementsFrom source k (drop from s) ≡ bad (spoiledNumber number (charactersOf source (drop i s)))
+unfolding elementsFrom
+spoilt k {source} {s} {i = i} {number = number} {w = w} p f =
+    p .passes (textElements k) ∙ onward-bad (λ cs. textElements k (w ++ cs)) number (charactersOf source (drop i s)) f
 
 -- ---- a cell that was read up to a place: the characters w passed over have come to the elements es, which stand in the scratch
 
@@ -89,21 +85,20 @@ read-none {from = from} a h = record {
 
 module _ {As : List ℕ → List ℤ → Type 0} {source : Source} {s : List ℕ} {from i n : ℕ} {entry l : List ℤ} (r : ReadTo As source s from i n entry l) where
   -- what is still to come decides, with w before it
-  pub read-on : (k : Shape) → elementsFrom source k (drop from s) ≡ onward (λ cs. elementsOf k (r .w ++ cs)) (charactersOf source (drop i s))
+  pub read-on : (k : Shape) → elementsFrom source k (drop from s) ≡ onward (λ cs. textElements k (r .w ++ cs)) (charactersOf source (drop i s))
   unfolding elementsFrom
-  read-on k = r .passed .passes (elementsOf k)
+  read-on k = r .passed .passes (textElements k)
 
   pub read-broken : (k : Shape) → charactersOf source (drop i s) ≡ bad 10 → TakesElements (elementsFrom source k (drop from s)) s from entry l (Taken.Refused 10)
-  read-broken k e = record { found = read-on k ∙ ap (onward (λ cs. elementsOf k (r .w ++ cs))) e ∙ onward-broken _; long = r .long }
+  read-broken k e = record { found = read-on k ∙ ap (onward (λ cs. textElements k (r .w ++ cs))) e ∙ onward-broken _; long = r .long }
 
   pub read-end : (k : Shape) {next : ℕ} → ItemIs source (charactersOf source (drop i s)) s i (End next) → textElements k (r .w) ≡ good (r .es)
       → TakesElements (elementsFrom source k (drop from s)) s from entry l (Held n next)
-  unfolding elementsOf
   read-end k {next} t e = record {
     found = (
       r .es,
-      read-on k ∙ ap (onward (λ cs. elementsOf k (r .w ++ cs))) (t .found) ∙ onward-end (λ cs. elementsOf k (r .w ++ cs)) (drop next s)
-          ∙ rw (append-nil (r .w), r .passed .text, e),
+      read-on k ∙ ap (onward (λ cs. textElements k (r .w ++ cs))) (t .found) ∙ onward-end (λ cs. textElements k (r .w ++ cs)) (drop next s)
+          ∙ rw (append-nil (r .w), e),
       r .stored,
       omega (arith, r .low, t .within .0),
       t .within .1,
@@ -111,23 +106,20 @@ module _ {As : List ℕ → List ℤ → Type 0} {source : Source} {s : List ℕ
     long = r .long;
   }
 
-  -- a character that no cell may have
-  pub read-no-text : (k : Shape) {next m : ℕ} → NoTextAt source s i next → m ≡ spoiledNumber (charactersOf source (drop next s))
+  -- a character with which there is no value of the kind, whatever follows
+  pub read-spoilt : (k : Shape) {c next m number : ℕ} → ItemIs source (charactersOf source (drop i s)) s i (Code c next)
+      → ((v : List ℕ) → textElements k (r .w ++ (c ∷ []) ++ v) ≡ bad number) → m ≡ spoiledNumber number (charactersOf source (drop next s))
       → TakesElements (elementsFrom source k (drop from s)) s from entry l (Taken.Refused m)
-  unfolding elementsOf
-  read-no-text k t e = record {
-    found = read-on k ∙ t .refuses (λ cs. elementsOf k (r .w ++ cs)) (λ cs h. rw (text-not-all (r .w) cs h)) ∙ ap bad (sym e);
-    long = r .long;
-  }
+  read-spoilt k {c} {next} t f e = record { found = spoilt k {s = s} {from = from} {i = next} (passed-then (r .passed) (passed-code {s = s} {i = i} {j = next} {c = c} (t .found))) f ∙ ap bad (sym e); long = r .long }
 
   -- a character more, which is stored
-  pub read-more : {Next : List ℕ → List ℤ → Type 0} {c next : ℕ} {m : List ℤ} {x y : ℤ} → ItemIs source (charactersOf source (drop i s)) s i (Code c next) → isText c ≡ true
+  pub read-more : {Next : List ℕ → List ℤ → Type 0} {c next : ℕ} {m : List ℤ} {x y : ℤ} → ItemIs source (charactersOf source (drop i s)) s i (Code c next)
       → m ≡ set l n y → y ≡ x → Next (r .w ++ (c ∷ [])) (r .es ++ (x ∷ [])) → ReadTo Next source s from next (n + 1) entry m
-  read-more t h e q a = record {
+  read-more t e q a = record {
     w = _;
     es = _;
     means = a;
-    passed = passed-then (r .passed) (passed-code (t .found) h);
+    passed = passed-then (r .passed) (passed-code (t .found));
     stored = put-more (r .stored) e q;
     long = ap length e ∙ simp length-set (r .long);
     few = omega (arith, r .few, t .within .0);

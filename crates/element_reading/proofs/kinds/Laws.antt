@@ -3,7 +3,7 @@ use Prim.Native.Nat.{ℕ}
 use mathlib.Core.List.{List, []}
 use mathlib.Core.Path.{_∙_, _≡_, ap, refl, sym}
 use lib.IntN.{ℤ}
-use Rattle.tabledata.specs.TableData.{elementsOf}
+use Rattle.tabledata.specs.TableData.{textElements}
 use Rattle.element_reading.specs.Elements.{CountsElements, TakesElements, elementsFrom, onward}
 use Rattle.element_reading.specs.declared.characters.Source.the-variants.{Plain}
 use Rattle.element_reading.specs.declared.elements.Counted.the-variants.{All}
@@ -16,7 +16,7 @@ use Rattle.table.specs.Shape.{Shape}
 abbrev whole : Result ℕ (List ℤ) → Result ℕ (List ℤ × List ℕ)
 whole r = r >>= λ es. good (es, [])
 
-part-is : (k : Shape) (part : List ℕ) → elementsFrom Plain k part ≡ whole (elementsOf k part)
+part-is : (k : Shape) (part : List ℕ) → elementsFrom Plain k part ≡ whole (textElements k part)
 unfolding elementsFrom onward
 part-is k part = refl
 
@@ -29,15 +29,15 @@ firsts-whole : (r : Result ℕ (List ℤ)) → r ≡ firsts (whole r)
 firsts-whole (good es) = refl
 firsts-whole (bad n) = refl
 
-part-means : (k : Shape) (part : List ℕ) {r : Result ℕ (List ℤ × List ℕ)} → elementsFrom Plain k part ≡ r → elementsOf k part ≡ firsts r
-part-means k part e = firsts-whole (elementsOf k part) ∙ ap firsts (sym (part-is k part) ∙ e)
+part-means : (k : Shape) (part : List ℕ) {r : Result ℕ (List ℤ × List ℕ)} → elementsFrom Plain k part ≡ r → textElements k part ≡ firsts r
+part-means k part e = firsts-whole (textElements k part) ∙ ap firsts (sym (part-is k part) ∙ e)
 
 module _ (k : Shape) {part : List ℕ} {place : ℕ} {entry exit : List ℤ} where
-  pub part-counted : {count next : ℕ} → TakesElements (elementsFrom Plain k part) part place entry exit (Held count next) → CountsElements (elementsOf k part) entry exit (All count)
+  pub part-counted : {count next : ℕ} → TakesElements (elementsFrom Plain k part) part place entry exit (Held count next) → CountsElements (textElements k part) entry exit (All count)
   part-counted t = record {
     found = (t .found .0, part-means k part (t .found .1), t .found .2);
     long = t .long;
   }
 
-  pub part-refused : {n : ℕ} → TakesElements (elementsFrom Plain k part) part place entry exit (Taken.Refused n) → CountsElements (elementsOf k part) entry exit (Counted.Refused n)
+  pub part-refused : {n : ℕ} → TakesElements (elementsFrom Plain k part) part place entry exit (Taken.Refused n) → CountsElements (textElements k part) entry exit (Counted.Refused n)
   part-refused t = record { found = part-means k part (t .found); long = t .long }

@@ -8,10 +8,12 @@ use lib.Dec.{eqb, ltb}
 use lib.IntN.{ℤ}
 use lib.ListN.{drop, getD, length, length-drop, length-set, set, take}
 use lib.Seq.{length-take-le}
-use borrow.Author.Tests.{eqb-true, ltb-true}
+use borrow.Author.Tests.{eqb-true, ltb-true, ne-eqb}
 use Rattle.number.specs.Contracts.{isSigned, size, widthOf}
 use Rattle.number.specs.Number.{Fault, digit, hexadigit}
 use Rattle.number.specs.declared.Integer.{Integer}
+use Rattle.number.proofs.Laws.{digit-no}
+use Rattle.table.proofs.Bytes.{between-no}
 use Rattle.table.proofs.Laws.{all-weaken, and-both, cond-cases, no-white}
 use Rattle.table.proofs.Places.{next1}
 use Rattle.table.specs.All.{All}
@@ -20,7 +22,7 @@ use Rattle.table.specs.Result.{Result, bad, every, good, refusedAs}
 use Rattle.table.specs.Shape.{Shape, Whole}
 use Rattle.tabledata.proofs.Characters.{plain-yes}
 use Rattle.tabledata.specs.Contracts.{isPlain}
-use Rattle.tabledata.specs.TableData.{integerWord, isText, textElements}
+use Rattle.tabledata.specs.TableData.{faultNumber, integerWord, textElements}
 use Rattle.element_reading.proofs.Words.{added-word}
 use Rattle.element_reading.proofs.characters.Laws.{itself}
 use Rattle.element_reading.proofs.characters.Passing.{WordTo, passed-none, passed-plain, passed-then, word-cuts, word-ends}
@@ -106,11 +108,34 @@ feed-start = refl
 pub fed-letter : (x : Word) (w : List ℕ) (c : ℕ) → x ≡ feed fresh w → letter x c ≡ feed fresh (w ++ (c ∷ []))
 fed-letter x w c e = ap (λ (y : Word). letter y c) e ∙ sym (feed-more fresh w c)
 
+-- what is no byte is no letter of an integer, as 255 is none
+no-decimal : (f : Form) (n v c : ℕ) → 256 ≤ c → decimalNext f n v 255 ≡ decimalNext f n v c
+unfolding decimalNext
+no-decimal f n v c h = rw (digit-no 255 (λ a b. omega arith), digit-no c (λ a b. omega arith))
+
+no-hexadecimal : (n v c : ℕ) → 256 ≤ c → hexadecimalNext n v 255 ≡ hexadecimalNext n v c
+unfolding hexadecimalNext hexadigit
+no-hexadecimal n v c h = rw (between-no 48 57 c (λ a b. omega arith), between-no 65 70 c (λ a b. omega arith), between-no 97 102 c (λ a b. omega arith)) (unfold between in refl)
+
+no-letter-from : (f : Form) (n v c : ℕ) → 256 ≤ c → nextFrom f n v 255 ≡ nextFrom f n v c
+unfolding firstNext zeroNext
+no-letter-from Start n v c h = rw (ne-eqb c 43 (λ e. omega arith), ne-eqb c 45 (λ e. omega arith), ne-eqb c 48 (λ e. omega arith)) (no-decimal Decimal 0 0 c h)
+no-letter-from Zero n v c h = rw (ne-eqb c 120 (λ e. omega arith)) (no-decimal Decimal 1 0 c h)
+no-letter-from Decimal n v c h = no-decimal Decimal n v c h
+no-letter-from Plus n v c h = no-decimal Plus n v c h
+no-letter-from Minus n v c h = no-decimal Minus n v c h
+no-letter-from Hexadecimal n v c h = no-hexadecimal n v c h
+no-letter-from Form.Broken n v c h = refl
+
+pub no-letter : (x : Word) (c : ℕ) → 256 ≤ c → letter x 255 ≡ letter x c
+unfolding letter
+no-letter x c h = no-letter-from (x .form) (x .count) (x .value) c h
+
 -- ---- what it adds
 
-pub integer-as : (k : Integer) (w : List ℕ) (r : Result Fault ℤ) → reading k (feed fresh w) ≡ r → integerWord (isSigned k) (size k) w ≡ refusedAs (λ f. 11) r
+pub integer-as : (k : Integer) (w : List ℕ) (r : Result Fault ℤ) → reading k (feed fresh w) ≡ r → integerWord (isSigned k) (size k) w ≡ refusedAs faultNumber r
 unfolding integerWord
-integer-as k w r e = ap (refusedAs (λ f. 11)) (sym (fed-reads k w) ∙ e)
+integer-as k w r e = ap (refusedAs faultNumber) (sym (fed-reads k w) ∙ e)
 
 abbrev pub whole : Integer → Shape
 whole k = Whole (isSigned k) (widthOf k)
@@ -152,7 +177,7 @@ module _ {k : Integer} {source : Source} {s : List ℕ} {from end : ℕ} {z : �
       }
 
   pub quick-cut : spaceAt s end ≡ true → CutAt (WordOf k z) source s from (end + 1)
-  unfolding between isText isWhite
+  unfolding between isWhite
   quick-cut b =
       let both = and-both (ltb end (length s)) (eqb (getD s end 0) 32) b in
       let h = ltb-true end (length s) (both .0) in let e = eqb-true (getD s end 0) 32 (both .1) in
@@ -160,7 +185,7 @@ module _ {k : Integer} {source : Source} {s : List ℕ} {from end : ℕ} {z : �
         found = itself s end source h (λ x. omega (arith, e, x)) (λ x. omega (arith, e, x)) (λ x. omega (arith, e, x));
         within = (omega arith, omega arith);
       } in
-      word-cuts quick-to t (ap isText e) (ap isWhite e)
+      word-cuts quick-to t (ap isWhite e)
 
   pub quick-last : {next : ℕ} → TextEnds source s end (At next) → LastAt (WordOf k z) source s from next
   quick-last t = word-ends quick-to (t .found)
@@ -168,7 +193,7 @@ module _ {k : Integer} {source : Source} {s : List ℕ} {from end : ℕ} {z : �
 -- a word that was read at once adds its integer
 pub quick-adds : (k : Integer) {z y : ℤ} {n : ℕ} {l m : List ℤ} → m ≡ set l n y → y ≡ z → Adds (integerWord (isSigned k) (size k)) (WordOf k z) n l m (To (n + 1))
 quick-adds k {z} e q = record {
-  found = λ w t h. (_, added-word (integerWord (isSigned k) (size k)) w (good z) (h .0) (h .1), λ es p. put-more p e q);
+  found = λ w h. (_, added-word (integerWord (isSigned k) (size k)) w (good z) (h .0) (h .1), λ es p. put-more p e q);
   most = omega arith;
   long = ap length e ∙ simp length-set;
 }

@@ -2,13 +2,13 @@
 use Prim.Native.Nat.{_*_, _+_, _<_, _≤_, ℕ}
 use native.Mathlib.Nat.{le-refl}
 use native.Mathlib.Omega.{arith}
-use mathlib.Core.Bool.{Bool, _&&_, _||_, and-assoc, and-false, and-true, cond, false, true}
+use mathlib.Core.Bool.{Bool, _&&_, _||_, and-assoc, and-false, and-true, cond, false, or-true, true}
 use mathlib.Core.List.{List, [], _++_, _∷_, map}
 use mathlib.Core.Path.{_∙_, _≡_, ap, refl, sym}
 use lib.Dec.{eqb, leb, lit≤}
 use lib.IntN.{negsuc, pos, ℤ}
 use lib.ListN.{length}
-use borrow.Author.Tests.{eq-eqb, eqb-false, eqb-true, le-leb, lt-leb, ne-eqb}
+use borrow.Author.Tests.{eq-eqb, eqb-false, eqb-true, le-leb, leb-false, leb-true, lt-leb, ne-eqb}
 use Rattle.table.proofs.Bytes.{between-no}
 use Rattle.table.proofs.Laws.{allBelow, and-both, between-is, between-yes, cond-cases, each-below}
 use Rattle.table.specs.Bytes.{between, bytes, same, words}
@@ -29,9 +29,9 @@ spelled-more q (b ∷ w) c = spelled-more (spell q b) w c
 pub spelling-more : (w : List ℕ) (q c r : ℕ) → q ≡ spelling w → r ≡ spell q c → r ≡ spelling (w ++ (c ∷ []))
 spelling-more w q c r e f = f ∙ ap (λ (n : ℕ). spell n c) e ∙ sym (spelled-more 1 w c)
 
-pub spell-low : (q c : ℕ) → q < 281474976710656 → spell q c ≡ q * 256 + lower c
+pub spell-low : (q c : ℕ) → q < 281474976710656 → c < 128 → spell q c ≡ q * 256 + lower c
 unfolding spell
-spell-low q c h = rw (lt-leb 281474976710656 q h)
+spell-low q c h k = rw (lt-leb 281474976710656 q h, lt-leb 128 c k)
 
 pub lower-not : (c : ℕ) → (65 ≤ c → c ≤ 90 → ⊥) → lower c ≡ c
 unfolding lower
@@ -41,19 +41,22 @@ pub lower-yes : (c : ℕ) → 65 ≤ c → c ≤ 90 → lower c ≡ c + 32
 unfolding lower
 lower-yes c h k = rw (between-yes 65 90 c h k)
 
-pub lower-lt : (c : ℕ) → isText c ≡ true → lower c < 128
+pub lower-lt : (c : ℕ) → c < 128 → lower c < 128
 unfolding lower
-lower-lt c h =
-    cond-cases (λ (n : ℕ). n < 128) (between 65 90 c) (c + 32) c (λ e. omega (arith, between-is 65 90 c e)) (λ _. text-lt c h .1)
+lower-lt c h = cond-cases (λ (n : ℕ). n < 128) (between 65 90 c) (c + 32) c (λ e. omega (arith, between-is 65 90 c e)) (λ _. h)
 
 pub spell-high : (q c : ℕ) → 281474976710656 ≤ q → spell q c ≡ 281474976710656
 unfolding spell
 spell-high q c h = rw (le-leb 281474976710656 q h)
 
+pub spell-wide : (q c : ℕ) → 128 ≤ c → spell q c ≡ 281474976710656
+unfolding spell
+spell-wide q c h = rw (le-leb 128 c h, or-true)
+
 spell-least : (n q c : ℕ) → n ≤ 281474976710656 → n ≤ q * 256 → n ≤ spell q c
 unfolding spell
 spell-least n q c h k =
-    cond-cases (λ (m : ℕ). n ≤ m) (leb 281474976710656 q) 281474976710656 (q * 256 + lower c) (λ _. h) (λ _. omega arith)
+    cond-cases (λ (m : ℕ). n ≤ m) (leb 281474976710656 q || leb 128 c) 281474976710656 (q * 256 + lower c) (λ _. h) (λ _. omega arith)
 
 spelled-least : (n q : ℕ) (w : List ℕ) → n ≤ 281474976710656 → n ≤ q → n ≤ spelled q w
 unfolding spelled
@@ -81,27 +84,39 @@ same-letter q p a b h k = go (eqb q p) refl (eqb a b) refl
     go false e y f = rw e (ne-eqb (q * 256 + a) (p * 256 + b) (λ g. eqb-false q p e (omega arith)))
 
 -- from two numbers of as many digits (between x and 2 * x), however the words go on
-same-number : (x q p : ℕ) (w v : List ℕ) → (1 ≤ x) × (x ≤ q) × (q < 2 * x) × (x ≤ p) × (p < 2 * x) → allText w ≡ true → allText v ≡ true
+same-number : (x q p : ℕ) (w v : List ℕ) → (1 ≤ x) × (x ≤ q) × (q < 2 * x) × (x ≤ p) × (p < 2 * x) → allText v ≡ true
     → numberFrom p v < 281474976710656 → eqb (spelled q w) (numberFrom p v) ≡ (eqb q p && same (map lower w) v)
 unfolding spelled numberFrom same allText
-same-number x q p [] [] s t a h = rw and-true
-same-number x q p [] (b ∷ v) s t a h = rw and-false (ne-eqb q (numberFrom (p * 256 + b) v) (λ e. omega (arith, s, number-least (p * 256 + b) v)))
-same-number x q p (c ∷ w) [] s t a h =
+same-number x q p [] [] s a h = rw and-true
+same-number x q p [] (b ∷ v) s a h = rw and-false (ne-eqb q (numberFrom (p * 256 + b) v) (λ e. omega (arith, s, number-least (p * 256 + b) v)))
+same-number x q p (c ∷ w) [] s a h =
     let more = spelled-least (p + 1) (spell q c) w (omega arith) (spell-least (p + 1) q c (omega arith) (omega (arith, s))) in
     rw and-false (ne-eqb (spelled (spell q c) w) p (λ e. omega (arith, more)))
-same-number x q p (c ∷ w) (b ∷ v) s t a h =
-    let k = and-both (isText c) (allText w) t in let l = and-both (isText b) (allText v) a in let small = lower-lt c (k .0) in let low = text-lt b (l .0) .1 in
-    let least = number-least (p * 256 + b) v in
-    let next : (1 ≤ x * 256) × (x * 256 ≤ q * 256 + lower c) × (q * 256 + lower c < 2 * (x * 256)) × (x * 256 ≤ p * 256 + b) × (p * 256 + b < 2 * (x * 256)) =
-    (omega (arith, s), omega (arith, s), omega (arith, s), omega (arith, s), omega (arith, s)) in
-    rw (spell-low q c (omega (arith, s))) (
-    same-number (x * 256) (q * 256 + lower c) (p * 256 + b) w v next (k .1) (l .1) h
-    ∙ ap (λ (y : Bool). y && same (map lower w) v) (same-letter q p (lower c) b (omega arith) (omega arith))
-    ∙ and-assoc (eqb q p) (eqb (lower c) b) (same (map lower w) v))
+same-number x q p (c ∷ w) (b ∷ v) s a h = go (leb 128 c) refl (λ next. same-number (x * 256) (q * 256 + lower c) (p * 256 + b) w v next (and-both (isText b) (allText v) a .1) h)
+  where
+    Digits : Type 0
+    Digits = (1 ≤ x * 256) × (x * 256 ≤ q * 256 + lower c) × (q * 256 + lower c < 2 * (x * 256)) × (x * 256 ≤ p * 256 + b) × (p * 256 + b < 2 * (x * 256))
+
+    low : b < 128
+    low = text-lt b (and-both (isText b) (allText v) a .0) .1
+
+    go : (t : Bool) → leb 128 c ≡ t
+        → (Digits → eqb (spelled (q * 256 + lower c) w) (numberFrom (p * 256 + b) v) ≡ (eqb (q * 256 + lower c) (p * 256 + b) && same (map lower w) v))
+        → eqb (spelled (spell q c) w) (numberFrom (p * 256 + b) v) ≡ (eqb q p && (eqb (lower c) b && same (map lower w) v))
+    go true e more =
+        let wide = leb-true 128 c e in let least = spelled-least 281474976710656 281474976710656 w (le-refl _) (le-refl _) in
+        rw (spell-wide q c wide, lower-not c (λ k l. omega arith), ne-eqb c b (λ i. omega (arith, low)), and-false)
+        (ne-eqb (spelled 281474976710656 w) (numberFrom (p * 256 + b) v) (λ i. omega (arith, h, least)))
+    go false e more =
+        let narrow = leb-false 128 c e in let small = lower-lt c narrow in let least = number-least (p * 256 + b) v in
+        rw (spell-low q c (omega (arith, s, h)) narrow) (
+        more (omega (arith, s), omega (arith, s), omega (arith, s), omega (arith, s), omega (arith, s, low))
+        ∙ ap (λ (y : Bool). y && same (map lower w) v) (same-letter q p (lower c) b (omega arith) (omega (arith, low)))
+        ∙ and-assoc (eqb q p) (eqb (lower c) b) (same (map lower w) v))
 
 -- a word has the number of one that is written in small letters where it is that word
-same-word : (w v : List ℕ) → allText w ≡ true → allText v ≡ true → numberFrom 1 v < 281474976710656 → eqb (spelling w) (numberFrom 1 v) ≡ same (map lower w) v
-same-word w v t a h = same-number 1 1 1 w v (lit≤ tt, lit≤ tt, lit≤ tt, lit≤ tt, lit≤ tt) t a h
+same-word : (w v : List ℕ) → allText v ≡ true → numberFrom 1 v < 281474976710656 → eqb (spelling w) (numberFrom 1 v) ≡ same (map lower w) v
+same-word w v a h = same-number 1 1 1 w v (lit≤ tt, lit≤ tt, lit≤ tt, lit≤ tt, lit≤ tt) a h
 
 -- what a value stands for
 unfoldable pub truthAs : ℕ → Result ℕ ℤ
@@ -130,26 +145,44 @@ letters-same : allBelow one-same 128 ≡ true
 unfolding truthLetter truthNumber spelled spell lower between
 letters-same = refl
 
-value-one : (a : ℕ) → isText a ≡ true → truthWord (a ∷ []) ≡ truthAs (truthNumber (spelling (a ∷ [])))
+letter-wide : (a : ℕ) → 128 ≤ a → truthLetter a ≡ truthAs (truthNumber (spelling (a ∷ [])))
+unfolding truthLetter spelled truthNumber truthAs
+letter-wide a h =
+    rw (
+      spell-wide 1 a h,
+      ne-eqb a 84 (λ e. omega arith),
+      ne-eqb a 116 (λ e. omega arith),
+      ne-eqb a 49 (λ e. omega arith),
+      ne-eqb a 70 (λ e. omega arith),
+      ne-eqb a 102 (λ e. omega arith),
+      ne-eqb a 48 (λ e. omega arith),
+      ne-eqb a 63 (λ e. omega arith),
+    )
+
+value-one : (a : ℕ) → truthWord (a ∷ []) ≡ truthAs (truthNumber (spelling (a ∷ [])))
 unfolding truthWord
-value-one a t =
-    letter-as a ∙ ap truthAs (eqb-true (codeOf (truthLetter a)) (truthNumber (spelling (a ∷ []))) (each-below one-same 128 letters-same a (text-lt a t .1)))
+value-one a = go (leb 128 a) refl
+  where
+    go : (t : Bool) → leb 128 a ≡ t → truthLetter a ≡ truthAs (truthNumber (spelling (a ∷ [])))
+    go true e = letter-wide a (leb-true 128 a e)
+    go false e =
+        letter-as a ∙ ap truthAs (eqb-true (codeOf (truthLetter a)) (truthNumber (spelling (a ∷ []))) (each-below one-same 128 letters-same a (leb-false 128 a e)))
 
 -- the number of a word, by the words that it may be
-number-is : (w : List ℕ) → allText w ≡ true → let small = map lower w in
+number-is : (w : List ℕ) → let small = map lower w in
     truthNumber (spelling w)
     ≡ cond (same small (bytes "t")) 1 (cond (same small (bytes "1")) 1 (cond (same small (bytes "true")) 1
     (cond (same small (bytes "f")) 0 (cond (same small (bytes "0")) 0 (cond (same small (bytes "false")) 0 (cond (same small (bytes "?")) 2 3))))))
 unfolding truthNumber numberFrom allText isText between
-number-is w t =
+number-is w =
     rw (
-      same-word w (bytes "t") t refl (lit≤ tt),
-      same-word w (bytes "1") t refl (lit≤ tt),
-      same-word w (bytes "true") t refl (lit≤ tt),
-      same-word w (bytes "f") t refl (lit≤ tt),
-      same-word w (bytes "0") t refl (lit≤ tt),
-      same-word w (bytes "false") t refl (lit≤ tt),
-      same-word w (bytes "?") t refl (lit≤ tt),
+      same-word w (bytes "t") refl (lit≤ tt),
+      same-word w (bytes "1") refl (lit≤ tt),
+      same-word w (bytes "true") refl (lit≤ tt),
+      same-word w (bytes "f") refl (lit≤ tt),
+      same-word w (bytes "0") refl (lit≤ tt),
+      same-word w (bytes "false") refl (lit≤ tt),
+      same-word w (bytes "?") refl (lit≤ tt),
     )
 
 longer : (a b c : ℕ) (w : List ℕ) → same (a ∷ b ∷ w) (c ∷ []) ≡ false
@@ -163,17 +196,16 @@ decided false true = refl
 decided false false = refl
 
 -- two letters or more: `true`, `false`, or no word
-value-more : (a b : ℕ) (w : List ℕ) → allText (a ∷ b ∷ w) ≡ true → truthWord (a ∷ b ∷ w) ≡ truthAs (truthNumber (spelling (a ∷ b ∷ w)))
+value-more : (a b : ℕ) (w : List ℕ) → truthWord (a ∷ b ∷ w) ≡ truthAs (truthNumber (spelling (a ∷ b ∷ w)))
 unfolding truthWord
-value-more a b w t =
+value-more a b w =
     let small = map lower (a ∷ b ∷ w) in
-    decided (same small (bytes "true")) (same small (bytes "false")) ∙ ap truthAs (sym (number-is (a ∷ b ∷ w) t ∙ simp longer))
+    decided (same small (bytes "true")) (same small (bytes "false")) ∙ ap truthAs (sym (number-is (a ∷ b ∷ w) ∙ simp longer))
 
-pub truth-value : (w : List ℕ) → 1 ≤ length w → allText w ≡ true → truthWord w ≡ truthAs (truthNumber (spelling w))
-unfolding allText
-truth-value [] h t = absurd (omega arith)
-truth-value (a ∷ []) h t = value-one a (and-both (isText a) true t .0)
-truth-value (a ∷ b ∷ w) h t = value-more a b w t
+pub truth-value : (w : List ℕ) → 1 ≤ length w → truthWord w ≡ truthAs (truthNumber (spelling w))
+truth-value [] h = absurd (omega arith)
+truth-value (a ∷ []) h = value-one a
+truth-value (a ∷ b ∷ w) h = value-more a b w
 
 -- the number of no letter at all
 pub spelling-none : (w : List ℕ) → spelling w ≡ 1 → w ≡ []

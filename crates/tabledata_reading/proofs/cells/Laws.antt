@@ -19,7 +19,7 @@ use Rattle.table.specs.declared.Column.{Column}
 use Rattle.table.specs.declared.Found.the-variants.{Refused, Shown}
 use Rattle.table.specs.declared.Found.{Found}
 use Rattle.tabledata.proofs.Laws.{nil-elements}
-use Rattle.tabledata.specs.TableData.{allText, characters, countFits, elementsOf, plain, readText, textCell}
+use Rattle.tabledata.specs.TableData.{characters, countFits, plain, readText, textCell, textElements}
 use Rattle.tabledata_reading.specs.Cells.{CellShows, FoundCount, FoundNext, roomAnd, shownIn}
 use Rattle.tabledata_reading.specs.Openings.{OpeningIs}
 use Rattle.element_reading.specs.Elements.{Stored, TakesElements, elementsFrom, onward}
@@ -47,9 +47,9 @@ show-bind : (c : Column) (q : Result ℕ (List ℤ)) (rest : List ℕ)
 show-bind c (good es) rest = show-rest c es rest (countFits c (length es)) refl
 show-bind c (bad n) rest = refl
 
-text-go : (c : Column) (r : Result ℕ (List ℕ × List ℕ)) → (r >>= λ p. textCell c (p .0) >>= withRest (p .1)) ≡ (onward (elementsOf (shape (c .kind))) r >>= showing c)
+text-go : (c : Column) (r : Result ℕ (List ℕ × List ℕ)) → (r >>= λ p. textCell c (p .0) >>= withRest (p .1)) ≡ (onward (textElements (shape (c .kind))) r >>= showing c)
 unfolding textCell onward
-text-go c (good p) = show-bind c (elementsOf (shape (c .kind)) (p .0)) (p .1)
+text-go c (good p) = show-bind c (textElements (shape (c .kind)) (p .0)) (p .1)
 text-go c (bad n) = refl
 
 pub room-few : (c : Column) (n : ℕ) → roomAnd (c .kind) (c .len) n ≡ true → n ≤ bound (c .len)
@@ -106,7 +106,7 @@ module _ (c : Column) {s : List ℕ} {place : ℕ} {entry : List ℤ} where
   text-broken o = record { found = rw (o .found); within = tt; long = refl }
 
   pub text-empty : {next : ℕ} → OpeningIs s place (Empty next) → Reads (readText c (drop place s)) s place entry entry (Found.Null next)
-  unfolding readText textCell elementsOf allText countFits show emptyIsNull
+  unfolding readText textCell countFits show emptyIsNull
   text-empty o = record { found = rw (o .found, nil-elements, nil-not-null); within = o .within; long = refl }
 
 module _ (c : Column) {s : List ℕ} {place from : ℕ} (o : OpeningIs s place (Content from)) where

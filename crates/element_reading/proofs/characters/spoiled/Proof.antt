@@ -10,10 +10,10 @@ use Rattle.element_reading.proofs.characters.spoiled.Statement.{stateme
 use Rattle.element_reading.proofs.characters.spoiled.Tie as tie
 
 abbrev Inv-loop : tie.InvT-loop
-Inv-loop s from source i₀ i = (i ≤ length s) × (spoiledNumber (charactersOf source (drop from s)) ≡ spoiledNumber (charactersOf source (drop i s)))
+Inv-loop s from source number i₀ i = (i ≤ length s) × (spoiledNumber number (charactersOf source (drop from s)) ≡ spoiledNumber number (charactersOf source (drop i s)))
 
 abbrev μ-loop : tie.MeasureT-loop
-μ-loop s from source i₀ i = length s - i
+μ-loop s from source number i₀ i = length s - i
 
 loop-holds : tie.Need-loop-holds Inv-loop μ-loop
 loop-holds c = (search needs, refl)
@@ -24,12 +24,12 @@ character-at-requires c κs = c .loop .inv .0
 returns : tie.Need-returns Inv-loop μ-loop
 returns c =
     let t = subst (ItemIs _ _ _ _) (c .enum-told .given .1) (c .before .before .character-at .ensures) in
-    sym (c .before .before .before .loop .inv .1 ∙ ap spoiledNumber (t .found) ∙ spoiled-broken)
+    sym (c .before .before .before .loop .inv .1 ∙ ap (spoiledNumber _) (t .found) ∙ spoiled-broken _)
 
 returns-2 : tie.Need-returns-2 Inv-loop μ-loop
 returns-2 c =
     let t = subst (ItemIs _ _ _ _) (c .enum-told2 .given .1) (c .before .before .character-at .ensures) in
-    sym (c .before .before .before .loop .inv .1 ∙ ap spoiledNumber (t .found) ∙ spoiled-end _)
+    sym (c .before .before .before .loop .inv .1 ∙ ap (spoiledNumber _) (t .found) ∙ spoiled-end _ _)
 
 loop-less : tie.Need-loop-less Inv-loop μ-loop
 loop-less c =
@@ -39,7 +39,7 @@ loop-less c =
 loop-again : tie.Need-loop-again Inv-loop μ-loop
 loop-again c =
     let t = subst (ItemIs _ _ _ _) (c .before .next .given .1) (c .before .before .before .character-at .ensures) in
-    (t .within .1, c .before .before .before .before .loop .inv .1 ∙ ap spoiledNumber (t .found) ∙ spoiled-code _ _)
+    (t .within .1, c .before .before .before .before .loop .inv .1 ∙ ap (spoiledNumber _) (t .found) ∙ spoiled-code _ _ _)
 
 pub spoiled-spec : {M : Type 1} → statement M
 spoiled-spec =

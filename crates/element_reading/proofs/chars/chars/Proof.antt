@@ -2,7 +2,7 @@
 use Prim.Native.Nat.{_+_, _-_}
 use native.Mathlib.Omega.{arith}
 use mathlib.Core.List.{[], _∷_}
-use mathlib.Core.Path.{_∙_, refl, subst, sym}
+use mathlib.Core.Path.{_∙_, subst, sym}
 use lib.ListN.{drop, length}
 use borrow.Author.Needs.{needs}
 use borrow.Author.Tests.{not-false, not-true}
@@ -10,9 +10,8 @@ use denote.Ref.{now}
 use mir.Facts.{toZ-ofZ}
 use mir.Syntax.{w64}
 use Rattle.table.specs.Shape.{Text}
-use Rattle.element_reading.proofs.characters.Passing.{no-text}
-use Rattle.element_reading.proofs.chars.Laws.{CharsAre, chars-are, chars-copied, chars-more}
-use Rattle.element_reading.proofs.elements.Laws.{ReadTo, read-broken, read-end, read-more, read-no-text, read-none}
+use Rattle.element_reading.proofs.chars.Laws.{CharsAre, char-more, chars-are, chars-copied, chars-none, chars-spoilt}
+use Rattle.element_reading.proofs.elements.Laws.{ReadTo, read-broken, read-end, read-more, read-none, read-spoilt}
 use Rattle.element_reading.specs.Characters.{ItemIs, charactersOf}
 use Rattle.element_reading.specs.declared.characters.Item.the-variants.{Code}
 use Rattle.element_reading.proofs.chars.chars.Statement.{statement}
@@ -39,7 +38,7 @@ item : (c : tie.After-known-told2 Inv-loop μ-loop) →
 item c = subst (ItemIs _ _ _ _) (c .before .c .given .1) (c .before .before .before .character-at .ensures)
 
 loop-holds : tie.Need-loop-holds Inv-loop μ-loop
-loop-holds c = read-none refl (search needs)
+loop-holds c = read-none chars-none (search needs)
 
 copy-plain-requires : tie.Need-copy-plain-requires Inv-loop μ-loop
 copy-plain-requires c κs = c .before .loop .inv .high
@@ -79,7 +78,8 @@ same-length-3 c = copied (c .before .before .before .before .before .before .bef
 returns-3 : tie.Need-returns-3 Inv-loop μ-loop
 returns-3 c =
     let at-known = c .before .before .before in let at-scratch = at-known .before .before .before .before in
-    read-no-text (copied at-scratch) Text (no-text (item at-known) (sym (c .before .before .is-text .ensures) ∙ not-true _ (c .before .if1 .taken))) (c .spoiled .ensures)
+    let r = copied at-scratch in let no-text = sym (c .before .before .is-text .ensures) ∙ not-true _ (c .before .if1 .taken) in
+    read-spoilt r Text (item at-known) (chars-spoilt (r .w) _ no-text) (c .spoiled .ensures)
 
 add-count-2 : tie.Need-add-count-2 Inv-loop μ-loop
 add-count-2 c =
@@ -97,8 +97,8 @@ loop-again c =
     let at-known = at-is-text .before in let at-scratch = at-known .before .before .before .before in
     let r = copied at-scratch in
     let stored = toZ-ofZ {w = w64} (record { sfits = at-as-element .as-element .ok }) ∙ at-as-element .as-element .ensures in
-    read-more r (item at-known) (sym (at-is-text .is-text .ensures) ∙ not-false _ (at-if1 .if1 .left)) (c .before .put .ensures) stored
-    (chars-more (r .w) (_ ∷ []) (r .es) (r .means))
+    let is-text = sym (at-is-text .is-text .ensures) ∙ not-false _ (at-if1 .if1 .left) in
+    read-more r (item at-known) (c .before .put .ensures) stored (char-more (r .w) _ (r .es) (r .means) is-text)
 
 pub chars-spec : {M : Type 1} → statement M
 chars-spec =

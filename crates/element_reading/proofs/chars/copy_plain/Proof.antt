@@ -11,10 +11,11 @@ use borrow.Author.Tests.{not-false}
 use denote.Ref.{now}
 use mir.Facts.{toZ-ofZ}
 use mir.Syntax.{w64}
+use Rattle.tabledata.proofs.Characters.{plain-is}
 use Rattle.tabledata.specs.Contracts.{isPlain}
 use Rattle.element_reading.proofs.characters.Laws.{take-more}
 use Rattle.element_reading.proofs.characters.Passing.{passed-none, passed-plain, passed-then}
-use Rattle.element_reading.proofs.chars.Laws.{stored-char}
+use Rattle.element_reading.proofs.chars.Laws.{stored-char, text-more, text-none}
 use Rattle.element_reading.specs.Elements.{Copied}
 use Rattle.element_reading.proofs.chars.copy_plain.Statement.{statement}
 use Rattle.element_reading.proofs.chars.copy_plain.Tie as tie
@@ -29,7 +30,7 @@ abbrev μ-loop : tie.MeasureT-loop
 loop-holds : tie.Need-loop-holds Inv-loop μ-loop
 loop-holds c =
     let e : c .before .args .from - c .before .args .from ≡ 0 = omega arith in let n : c .before .args .count + 0 ≡ c .before .args .count = omega arith in
-    (omega arith, record { passed = λ source. rw e passed-none; stored = λ es p. rw (e, n, append-nil es) p; low = omega arith; high = c .before .pre; long = refl })
+    (omega arith, record { passed = λ source. rw e passed-none; text = rw e text-none; stored = λ es p. rw (e, n, append-nil es) p; low = omega arith; high = c .before .pre; long = refl })
 
 same-length : tie.Need-same-length Inv-loop μ-loop
 same-length c = c .before .before .loop .inv .1 .long
@@ -61,6 +62,7 @@ loop-again c =
       sym n,
       record {
         passed = λ source. rw more (passed-then (p .1 .passed source) (passed-plain source s i (at-loop-test .loop-test .taken) (is-plain (c .before))));
+        text = rw more (text-more (take (i - from) (drop from s)) (getD s i 0) (p .1 .text) (plain-is (getD s i 0) (is-plain (c .before)) .1));
         stored = λ es q.
             rw (n, more, toZ-ofZ {w = w64} (record { sfits = c .as-element .ok }), c .as-element .ensures)
             (stored-char es (take (i - from) (drop from s)) (getD s i 0) (at-loop .loop .k) (at-loop .loop .scratch) (rw (p .0) (p .1 .stored es q)));

@@ -11,7 +11,7 @@ use Rattle.number.specs.Contracts.{isSigned, size}
 use Rattle.number.specs.Number.{Fault}
 use Rattle.table.specs.Bytes.{notEmpty}
 use Rattle.table.specs.Result.{Result, _>>=_, every, good, refusedAs}
-use Rattle.tabledata.specs.TableData.{integerWord}
+use Rattle.tabledata.specs.TableData.{faultNumber, integerWord}
 use Rattle.element_reading.proofs.Words.{added-none, added-word}
 use Rattle.element_reading.proofs.elements.Laws.{put-more}
 use Rattle.element_reading.proofs.numerals.Laws.{fed-none, fed-some, integer-as}
@@ -30,7 +30,7 @@ begun c w e = ap (λ (x : Word). begunForm (x .form)) (sym e) ∙ sym (c .is-beg
 read-word : (c : tie.After-read) (w : List ℕ) (r : Result Fault ℤ) →
     let at-start = c .before .before .before in
     at-start .args .word ≡ feed fresh w → readingOf (c .read .result) ≡ r → let k = at-start .args .kind in
-    every (integerWord (isSigned k) (size k)) (notEmpty (w ∷ [])) ≡ (refusedAs (λ f. 11) r >>= λ e. good (e ∷ []))
+    every (integerWord (isSigned k) (size k)) (notEmpty (w ∷ [])) ≡ (refusedAs faultNumber r >>= λ e. good (e ∷ []))
 read-word c w r e q =
     let k = c .before .before .before .args .kind in
     let some = fed-some w (begun (c .before .before) w e ∙ not-false _ (c .before .if1 .left)) in
@@ -41,7 +41,7 @@ returns c =
     let k = c .before .before .args .kind in
     let f = integerWord (isSigned k) (size k) in
     record {
-      found = λ w t e. (
+      found = λ w e. (
         [],
         ap (λ (u : List ℕ). every f (notEmpty (u ∷ []))) (fed-none w (begun (c .before) w e ∙ not-true _ (c .if1 .taken))) ∙ added-none f,
         λ es p. rw append-nil p,
@@ -51,16 +51,18 @@ returns c =
     }
 
 returns-2 : tie.Need-returns-2
-returns-2 c = record { found = λ w t e. read-word (c .before .before) w _ e (ap readingOf (c .enum-told .given .1)); most = tt; long = refl }
+unfolding faultNumber
+returns-2 c = record { found = λ w e. read-word (c .before .before) w _ e (ap readingOf (c .enum-told .given .1)); most = tt; long = refl }
 
 returns-3 : tie.Need-returns-3
-returns-3 c = record { found = λ w t e. read-word (c .before .before) w _ e (ap readingOf (c .enum-told2 .given .1)); most = tt; long = refl }
+unfolding faultNumber
+returns-3 c = record { found = λ w e. read-word (c .before .before) w _ e (ap readingOf (c .enum-told2 .given .1)); most = tt; long = refl }
 
 returns-4 : tie.Need-returns-4
 returns-4 c =
     let at-z = c .before .before .before .before in let at-read = at-z .before .before in
     record {
-      found = λ w t e. (_, read-word at-read w _ e (ap readingOf (at-z .z .given .1)), λ es p. put-more p (c .before .put .ensures) (search needs));
+      found = λ w e. (_, read-word at-read w _ e (ap readingOf (at-z .z .given .1)), λ es p. put-more p (c .before .put .ensures) (search needs));
       most = omega arith;
       long = ap length (c .before .put .ensures) ∙ simp length-set;
     }

@@ -2,15 +2,11 @@
 -- integers' reader has it.
 use Prim.Native.Nat.{_-_}
 use native.Mathlib.Omega.{arith}
-use mathlib.Core.Bool.{true}
 use mathlib.Core.Path.{_∙_, _≡_, subst, sym}
 use lib.ListN.{drop, length}
 use borrow.Author.Needs.{needs}
-use borrow.Author.Tests.{not-false, not-true}
 use denote.Ref.{now}
-use Rattle.tabledata.proofs.Laws.{text-lt}
-use Rattle.tabledata.specs.TableData.{isText}
-use Rattle.element_reading.proofs.characters.Passing.{WordTo, word-broken, word-cuts, word-ends, word-more, word-no-text, word-none}
+use Rattle.element_reading.proofs.characters.Passing.{WordTo, word-broken, word-cuts, word-ends, word-more, word-none}
 use Rattle.element_reading.proofs.numerals.Laws.{fed-letter, feed-start}
 use Rattle.element_reading.specs.Characters.{ItemIs, charactersOf}
 use Rattle.element_reading.specs.declared.characters.Item.the-variants.{Code}
@@ -31,9 +27,6 @@ item : (c : tie.After-known-told2 Inv-loop μ-loop) →
     ItemIs source (charactersOf source (drop i s)) s i (Code (c .before .c .given .0 .0) (c .before .c .given .0 .1 .0))
 item c = subst (ItemIs _ _ _ _) (c .before .c .given .1) (c .before .before .before .character-at .ensures)
 
-is-text : (c : tie.Else1 Inv-loop μ-loop) → isText (c .before .before .before .c .given .0 .0) ≡ true
-is-text c = sym (c .before .is-text .ensures) ∙ not-false _ (c .if1 .left)
-
 loop-holds : tie.Need-loop-holds Inv-loop μ-loop
 loop-holds c = word-none (c .new .ensures ∙ sym feed-start) (search needs)
 
@@ -52,25 +45,17 @@ returns-2 c =
 
 returns-3 : tie.Need-returns-3 Inv-loop μ-loop
 returns-3 c =
-    let at-loop = c .before .before .before .before .before .before in
-    record { found = word-no-text (at-loop .loop .inv) (item (c .before .before)) (sym (c .before .is-text .ensures) ∙ not-true _ (c .if1 .taken)) }
-
-returns-4 : tie.Need-returns-4 Inv-loop μ-loop
-returns-4 c =
-    let at-known = c .before .before .before .before in let at-loop = at-known .before .before .before .before in
-    record { found = word-cuts (at-loop .loop .inv) (item at-known) (is-text (c .before .before)) (sym (c .before .is-white .ensures) ∙ c .if2 .taken) }
-
-cast-next : tie.Need-cast-next Inv-loop μ-loop
-cast-next c = omega (arith, text-lt _ (is-text (c .before .before)) .1)
+    let at-known = c .before .before in let at-loop = at-known .before .before .before .before in
+    record { found = word-cuts (at-loop .loop .inv) (item at-known) (sym (c .before .is-white .ensures) ∙ c .if1 .taken) }
 
 loop-less : tie.Need-loop-less Inv-loop μ-loop
-loop-less c = let t = item (c .before .before .before .before .before) in omega (arith, t .within .0, t .within .1)
+loop-less c = let t = item (c .before .before .before) in omega (arith, t .within .0, t .within .1)
 
 loop-again : tie.Need-loop-again Inv-loop μ-loop
 loop-again c =
-    let at-if1 = c .before .before .before in let at-known = at-if1 .before .before in let at-loop = at-known .before .before .before .before in
+    let at-known = c .before .before .before in let at-loop = at-known .before .before .before .before in
     let p = at-loop .loop .inv in
-    word-more p (item at-known) (is-text at-if1) (sym (c .before .before .is-white .ensures) ∙ c .before .if2 .left) (c .next2 .ensures ∙ fed-letter _ (p .w) _ (p .stands))
+    word-more p (item at-known) (sym (c .before .before .is-white .ensures) ∙ c .before .if1 .left) (c .with-character .ensures ∙ fed-letter _ (p .w) _ (p .stands))
 
 pub integer-piece-spec : {M : Type 1} → statement M
 integer-piece-spec =
@@ -88,9 +73,6 @@ integer-piece-spec =
     (λ c. search needs)
     (λ c κs. search needs)
     returns-3
-    (λ c κs. search needs)
-    returns-4
-    cast-next
     (λ c κs. search needs)
     loop-less
     loop-again)

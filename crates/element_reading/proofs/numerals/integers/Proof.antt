@@ -2,15 +2,16 @@
 -- once adds its one element.
 use Prim.Native.Nat.{_-_}
 use native.Mathlib.Omega.{arith}
-use mathlib.Core.Path.{_∙_, _≡_, ap, subst}
+use mathlib.Core.Path.{_∙_, _≡_, ap, subst, sym}
 use lib.ListN.{length, length-set}
 use borrow.Author.Needs.{needs}
 use denote.Ref.{now}
 use Rattle.number.specs.Contracts.{isSigned, size}
 use Rattle.tabledata.specs.TableData.{integerWord}
-use Rattle.element_reading.proofs.Words.{WordsAt, word-cut, word-cut-none, word-last, word-last-none, words-start}
-use Rattle.element_reading.proofs.elements.Laws.{ReadTo, read-broken, read-no-text, read-none}
+use Rattle.element_reading.proofs.Words.{WordsAt, word-cut, word-cut-none, word-last, words-start}
+use Rattle.element_reading.proofs.elements.Laws.{ReadTo, read-broken, read-none}
 use Rattle.element_reading.proofs.numerals.Laws.{integers-are, quick-adds, whole}
+use Rattle.element_reading.specs.Elements.{TakesElements}
 use Rattle.element_reading.specs.Words.{Adds, CutAt, LastAt, NumeralIs, QuickWordIs, WordOf}
 use Rattle.words.specs.Words.{feed, fresh}
 use Rattle.element_reading.proofs.numerals.integers.Statement.{statement}
@@ -62,8 +63,8 @@ loop-again c =
     let kind = at-start .args .kind in
     word-cut (whole kind) (integers-are kind) (at-loop .loop .inv) (quick-cut (c .before .before)) (quick-adds kind (c .before .put .ensures) (search needs))
 
-add-t26 : tie.Need-add-t26 Inv-loop μ-loop
-add-t26 c = let r = c .before .before .before .before .before .before .before .loop .inv in omega (arith, r .few, r .high)
+add-t25 : tie.Need-add-t25 Inv-loop μ-loop
+add-t25 c = let r = c .before .before .before .before .before .before .before .loop .inv in omega (arith, r .few, r .high)
 
 same-length : tie.Need-same-length Inv-loop μ-loop
 same-length c = ap length (c .before .put2 .ensures) ∙ simp length-set (c .before .before .before .before .before .before .before .loop .inv .long)
@@ -85,64 +86,38 @@ returns-2 c =
     let at-loop = c .before .before .before .before .before .before in
     read-broken (at-loop .loop .inv) _ (subst (NumeralIs _ _ _) (c .enum-told2 .given .1) (c .before .before .integer-piece .ensures) .found)
 
-spoiled-requires : tie.Need-spoiled-requires Inv-loop μ-loop
-spoiled-requires c κs = subst (NumeralIs _ _ _) (c .before .next .given .1) (c .before .before .before .integer-piece .ensures) .found .high
-
-same-length-3 : tie.Need-same-length-3 Inv-loop μ-loop
-same-length-3 c = c .before .before .before .before .before .before .before .before .loop .inv .long
-
-returns-3 : tie.Need-returns-3 Inv-loop μ-loop
-returns-3 c =
-    let at-integer-piece = c .before .before .before .before in let at-loop = at-integer-piece .before .before .before .before in
-    read-no-text (at-loop .loop .inv) _ (subst (NumeralIs _ _ _) (c .before .before .next .given .1) (at-integer-piece .integer-piece .ensures) .found) (c .spoiled .ensures)
-
 add-integer-requires : tie.Need-add-integer-requires Inv-loop μ-loop
 add-integer-requires c κs = let r = c .before .before .before .before .before .before .before .before .loop .inv in omega (arith, r .few, r .high)
 
-same-length-4 : tie.Need-same-length-4 Inv-loop μ-loop
-same-length-4 c =
-    let at-add-integer = c .before .before .before in
-    let at-loop = at-add-integer .before .before .before .before .before .before .before .before .before in
+same-length-3 : tie.Need-same-length-3 Inv-loop μ-loop
+same-length-3 c =
+    let at-add-integer = c .before .before in let at-loop = at-add-integer .before .before .before .before .before .before .before .before .before in
     at-add-integer .add-integer .ensures .long ∙ at-loop .loop .inv .long
 
-returns-4 : tie.Need-returns-4 Inv-loop μ-loop
-returns-4 c =
-    let at-add-integer = c .before .before .before in let at-add-integer-lent = at-add-integer .before in
+returns-3 : tie.Need-returns-3 Inv-loop μ-loop
+returns-3 c =
+    let at-add-integer = c .before .before in let at-add-integer-lent = at-add-integer .before in
     let at-loop = at-add-integer-lent .before .before .before .before .before .before .before .before in let at-start = at-loop .before .before in
-    let none = subst (Adds _ _ _ _ _) (c .enum-told3 .given .1) (at-add-integer .add-integer .ensures) in
-    word-last-none _ (integers-are (at-start .args .kind)) (at-loop .loop .inv) (last at-add-integer-lent) none
-
-same-length-5 : tie.Need-same-length-5 Inv-loop μ-loop
-same-length-5 c =
-    let at-add-integer = c .before .before .before .before in
-    let at-loop = at-add-integer .before .before .before .before .before .before .before .before .before in
-    at-add-integer .add-integer .ensures .long ∙ at-loop .loop .inv .long
-
-returns-5 : tie.Need-returns-5 Inv-loop μ-loop
-returns-5 c =
-    let at-add-integer = c .before .before .before .before in let at-add-integer-lent = at-add-integer .before in
-    let at-loop = at-add-integer-lent .before .before .before .before .before .before .before .before in let at-start = at-loop .before .before in
-    let added = subst (Adds _ _ _ _ _) (c .before .all .given .1) (at-add-integer .add-integer .ensures) in
-    word-last _ (integers-are (at-start .args .kind)) (at-loop .loop .inv) (last at-add-integer-lent) added
+    subst (TakesElements _ _ _ _ _) (sym (c .with-last .ensures))
+    (word-last _ (integers-are (at-start .args .kind)) (at-loop .loop .inv) (last at-add-integer-lent) (at-add-integer .add-integer .ensures))
 
 add-integer-requires-2 : tie.Need-add-integer-requires-2 Inv-loop μ-loop
 add-integer-requires-2 c κs = let r = c .before .before .before .before .before .before .before .before .loop .inv in omega (arith, r .few, r .high)
 
-spoiled-requires-2 : tie.Need-spoiled-requires-2 Inv-loop μ-loop
-spoiled-requires-2 c κs = cut (c .before .before .before .before) .high
+spoiled-requires : tie.Need-spoiled-requires Inv-loop μ-loop
+spoiled-requires c κs = cut (c .before .before .before .before .before) .high
 
-same-length-6 : tie.Need-same-length-6 Inv-loop μ-loop
-same-length-6 c =
-    let at-add-integer2 = c .before .before .before .before in
-    let at-loop = at-add-integer2 .before .before .before .before .before .before .before .before .before in
+same-length-4 : tie.Need-same-length-4 Inv-loop μ-loop
+same-length-4 c =
+    let at-add-integer2 = c .before .before .before .before .before in let at-loop = at-add-integer2 .before .before .before .before .before .before .before .before .before in
     at-add-integer2 .add-integer2 .ensures .long ∙ at-loop .loop .inv .long
 
-returns-6 : tie.Need-returns-6 Inv-loop μ-loop
-returns-6 c =
-    let at-add-integer2 = c .before .before .before .before in let at-add-integer2-lent = at-add-integer2 .before in
+returns-4 : tie.Need-returns-4 Inv-loop μ-loop
+returns-4 c =
+    let at-add-integer2 = c .before .before .before .before .before in let at-add-integer2-lent = at-add-integer2 .before in
     let at-loop = at-add-integer2-lent .before .before .before .before .before .before .before .before in let at-start = at-loop .before .before in
-    let none = subst (Adds _ _ _ _ _) (c .before .enum-told4 .given .1) (at-add-integer2 .add-integer2 .ensures) in
-    word-cut-none _ (integers-are (at-start .args .kind)) (at-loop .loop .inv) (cut at-add-integer2-lent) none (c .spoiled2 .ensures)
+    let none = subst (Adds _ _ _ _ _) (c .before .before .n .given .1) (at-add-integer2 .add-integer2 .ensures) in
+    word-cut-none _ (integers-are (at-start .args .kind)) (at-loop .loop .inv) (cut at-add-integer2-lent) none (c .spoiled .ensures)
 
 loop-less-2 : tie.Need-loop-less-2 Inv-loop μ-loop
 loop-less-2 c = let u = cut (c .before .before .before .before .before) in omega (arith, u .low, u .high)
@@ -169,7 +144,7 @@ integers-spec =
     loop-again
     (λ c. search needs)
     (λ c κs. search needs)
-    add-t26
+    add-t25
     same-length
     returns
     (λ c. search needs)
@@ -178,23 +153,16 @@ integers-spec =
     same-length-2
     returns-2
     (λ c. search needs)
-    spoiled-requires
+    add-integer-requires
+    (λ c κs. search needs)
     same-length-3
     returns-3
     (λ c. search needs)
-    add-integer-requires
-    (λ c. search needs)
-    (λ c. search needs)
-    same-length-4
-    returns-4
-    same-length-5
-    returns-5
-    (λ c. search needs)
     add-integer-requires-2
     (λ c. search needs)
+    spoiled-requires
+    same-length-4
+    returns-4
     (λ c. search needs)
-    spoiled-requires-2
-    same-length-6
-    returns-6
     loop-less-2
     loop-again-2)

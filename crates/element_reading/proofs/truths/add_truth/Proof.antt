@@ -1,7 +1,6 @@
 -- `element_reading::truths::add_truth` meets its contract: no letters add nothing; the number of a word tells its element.
 use Prim.Native.Nat.{ℕ}
 use native.Mathlib.Omega.{arith}
-use mathlib.Core.Bool.{true}
 use mathlib.Core.List.{List, [], _∷_, append-nil}
 use mathlib.Core.Path.{_∙_, _≡_, ap, refl, sym}
 use lib.ListN.{length, length-set}
@@ -10,7 +9,7 @@ use mir.Facts.{toZ-ofZ}
 use mir.Syntax.{w64}
 use Rattle.table.specs.Bytes.{notEmpty}
 use Rattle.table.specs.Result.{every}
-use Rattle.tabledata.specs.TableData.{allText, truthWord}
+use Rattle.tabledata.specs.TableData.{truthWord}
 use Rattle.element_reading.proofs.Words.{added-none, added-word}
 use Rattle.element_reading.proofs.elements.Laws.{put-more}
 use Rattle.element_reading.proofs.truths.Laws.{spelling-none, spelling-some, truth-none, truth-some, truth-value, truthAs}
@@ -19,13 +18,13 @@ use Rattle.element_reading.proofs.truths.add_truth.Statement.{statement
 use Rattle.element_reading.proofs.truths.add_truth.Tie as tie
 
 -- a word that has letters: its element is what `truth_of` says
-some-word : (c : tie.After-truth-of) (w : List ℕ) → allText w ≡ true → c .before .before .args .word ≡ spelling w → truthWord w ≡ truthAs (c .truth-of .result)
-some-word c w t e =
-    truth-value w (spelling-some w (λ n. c .before .if1 .left (e ∙ n))) t ∙ ap truthAs (ap truthNumber (sym e) ∙ sym (c .truth-of .ensures))
+some-word : (c : tie.After-truth-of) (w : List ℕ) → c .before .before .args .word ≡ spelling w → truthWord w ≡ truthAs (c .truth-of .result)
+some-word c w e =
+    truth-value w (spelling-some w (λ n. c .before .if1 .left (e ∙ n))) ∙ ap truthAs (ap truthNumber (sym e) ∙ sym (c .truth-of .ensures))
 
 returns : tie.Need-returns
 returns c = record {
-  found = λ w t e. (
+  found = λ w e. (
     [],
     ap (λ (u : List ℕ). every truthWord (notEmpty (u ∷ []))) (spelling-none w (sym e ∙ c .if1 .taken)) ∙ added-none truthWord,
     λ es p. rw append-nil p,
@@ -37,7 +36,7 @@ returns c = record {
 returns-2 : tie.Need-returns-2
 returns-2 c =
     record {
-      found = λ w t e. added-word truthWord w _ (spelling-some w (λ n. c .before .before .if1 .left (e ∙ n))) (some-word (c .before) w t e ∙ truth-none _ (c .if2 .taken));
+      found = λ w e. added-word truthWord w _ (spelling-some w (λ n. c .before .before .if1 .left (e ∙ n))) (some-word (c .before) w e ∙ truth-none _ (c .if2 .taken));
       most = tt;
       long = refl;
     }
@@ -48,9 +47,9 @@ returns-3 c =
     let at-if1 = at-truth-of .before in
     let stored = toZ-ofZ {w = w64} (record { sfits = at-as-element .as-element .ok }) ∙ at-as-element .as-element .ensures in
     record {
-      found = λ w t e. (
+      found = λ w e. (
         _,
-        added-word truthWord w _ (spelling-some w (λ n. at-if1 .if1 .left (e ∙ n))) (some-word at-truth-of w t e ∙ truth-some _ (at-if2 .if2 .left)),
+        added-word truthWord w _ (spelling-some w (λ n. at-if1 .if1 .left (e ∙ n))) (some-word at-truth-of w e ∙ truth-some _ (at-if2 .if2 .left)),
         λ es p. put-more p (c .before .put .ensures) stored,
       );
       most = omega arith;

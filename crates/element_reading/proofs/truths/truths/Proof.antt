@@ -1,15 +1,16 @@
 -- `element_reading::truths::truths` meets its contract. The invariant: the words passed over are the elements so far.
 use Prim.Native.Nat.{_-_}
 use native.Mathlib.Omega.{arith}
-use mathlib.Core.Path.{_∙_, _≡_, subst}
+use mathlib.Core.Path.{_∙_, _≡_, subst, sym}
 use lib.ListN.{length}
 use borrow.Author.Needs.{needs}
 use denote.Ref.{now}
 use Rattle.table.specs.Shape.{Truths}
 use Rattle.tabledata.specs.TableData.{truthWord}
-use Rattle.element_reading.proofs.Words.{WordsAt, word-cut, word-cut-none, word-last, word-last-none, words-start}
-use Rattle.element_reading.proofs.elements.Laws.{ReadTo, read-broken, read-no-text, read-none}
+use Rattle.element_reading.proofs.Words.{WordsAt, word-cut, word-cut-none, word-last, words-start}
+use Rattle.element_reading.proofs.elements.Laws.{ReadTo, read-broken, read-none}
 use Rattle.element_reading.proofs.truths.Laws.{truths-are}
+use Rattle.element_reading.specs.Elements.{TakesElements}
 use Rattle.element_reading.specs.Words.{Adds, CutAt, LastAt, PieceIs, spelling}
 use Rattle.element_reading.proofs.truths.truths.Statement.{statement}
 use Rattle.element_reading.proofs.truths.truths.Tie as tie
@@ -46,59 +47,37 @@ returns c =
     let at-loop = c .before .before .before in
     read-broken (at-loop .loop .inv) Truths (subst (PieceIs _ _ _) (c .enum-told .given .1) (c .before .before .truth-piece .ensures) .found)
 
-spoiled-requires : tie.Need-spoiled-requires Inv-loop μ-loop
-spoiled-requires c κs = subst (PieceIs _ _ _) (c .before .next .given .1) (c .before .before .before .truth-piece .ensures) .found .high
-
-same-length-2 : tie.Need-same-length-2 Inv-loop μ-loop
-same-length-2 c = c .before .before .before .before .before .loop .inv .long
-
-returns-2 : tie.Need-returns-2 Inv-loop μ-loop
-returns-2 c =
-    let at-truth-piece = c .before .before .before .before in let at-loop = at-truth-piece .before in
-    read-no-text (at-loop .loop .inv) Truths (subst (PieceIs _ _ _) (c .before .before .next .given .1) (at-truth-piece .truth-piece .ensures) .found) (c .spoiled .ensures)
-
 add-truth-requires : tie.Need-add-truth-requires Inv-loop μ-loop
 add-truth-requires c κs = let r = c .before .before .before .before .before .loop .inv in omega (arith, r .few, r .high)
 
-same-length-3 : tie.Need-same-length-3 Inv-loop μ-loop
-same-length-3 c =
-    let at-add-truth = c .before .before .before in let at-loop = at-add-truth .before .before .before .before .before .before in
+same-length-2 : tie.Need-same-length-2 Inv-loop μ-loop
+same-length-2 c =
+    let at-add-truth = c .before .before in let at-loop = at-add-truth .before .before .before .before .before .before in
     at-add-truth .add-truth .ensures .long ∙ at-loop .loop .inv .long
 
-returns-3 : tie.Need-returns-3 Inv-loop μ-loop
-returns-3 c =
-    let at-add-truth = c .before .before .before in let at-add-truth-lent = at-add-truth .before in
+returns-2 : tie.Need-returns-2 Inv-loop μ-loop
+returns-2 c =
+    let at-add-truth = c .before .before in let at-add-truth-lent = at-add-truth .before in
     let at-loop = at-add-truth-lent .before .before .before .before .before in
-    word-last-none Truths truths-are (at-loop .loop .inv) (last at-add-truth-lent) (subst (Adds _ _ _ _ _) (c .enum-told2 .given .1) (at-add-truth .add-truth .ensures))
-
-same-length-4 : tie.Need-same-length-4 Inv-loop μ-loop
-same-length-4 c =
-    let at-add-truth = c .before .before .before .before in let at-loop = at-add-truth .before .before .before .before .before .before in
-    at-add-truth .add-truth .ensures .long ∙ at-loop .loop .inv .long
-
-returns-4 : tie.Need-returns-4 Inv-loop μ-loop
-returns-4 c =
-    let at-add-truth = c .before .before .before .before in let at-add-truth-lent = at-add-truth .before in
-    let at-loop = at-add-truth-lent .before .before .before .before .before in
-    word-last Truths truths-are (at-loop .loop .inv) (last at-add-truth-lent) (subst (Adds _ _ _ _ _) (c .before .all .given .1) (at-add-truth .add-truth .ensures))
+    subst (TakesElements _ _ _ _ _) (sym (c .with-last .ensures)) (word-last Truths truths-are (at-loop .loop .inv) (last at-add-truth-lent) (at-add-truth .add-truth .ensures))
 
 add-truth-requires-2 : tie.Need-add-truth-requires-2 Inv-loop μ-loop
 add-truth-requires-2 c κs = let r = c .before .before .before .before .before .loop .inv in omega (arith, r .few, r .high)
 
-spoiled-requires-2 : tie.Need-spoiled-requires-2 Inv-loop μ-loop
-spoiled-requires-2 c κs = cut (c .before .before .before .before) .high
+spoiled-requires : tie.Need-spoiled-requires Inv-loop μ-loop
+spoiled-requires c κs = cut (c .before .before .before .before .before) .high
 
-same-length-5 : tie.Need-same-length-5 Inv-loop μ-loop
-same-length-5 c =
-    let at-add-truth2 = c .before .before .before .before in let at-loop = at-add-truth2 .before .before .before .before .before .before in
+same-length-3 : tie.Need-same-length-3 Inv-loop μ-loop
+same-length-3 c =
+    let at-add-truth2 = c .before .before .before .before .before in let at-loop = at-add-truth2 .before .before .before .before .before .before in
     at-add-truth2 .add-truth2 .ensures .long ∙ at-loop .loop .inv .long
 
-returns-5 : tie.Need-returns-5 Inv-loop μ-loop
-returns-5 c =
-    let at-add-truth2 = c .before .before .before .before in let at-add-truth2-lent = at-add-truth2 .before in
+returns-3 : tie.Need-returns-3 Inv-loop μ-loop
+returns-3 c =
+    let at-add-truth2 = c .before .before .before .before .before in let at-add-truth2-lent = at-add-truth2 .before in
     let at-loop = at-add-truth2-lent .before .before .before .before .before in
-    let none = subst (Adds _ _ _ _ _) (c .before .enum-told3 .given .1) (at-add-truth2 .add-truth2 .ensures) in
-    word-cut-none Truths truths-are (at-loop .loop .inv) (cut at-add-truth2-lent) none (c .spoiled2 .ensures)
+    let none = subst (Adds _ _ _ _ _) (c .before .before .n .given .1) (at-add-truth2 .add-truth2 .ensures) in
+    word-cut-none Truths truths-are (at-loop .loop .inv) (cut at-add-truth2-lent) none (c .spoiled .ensures)
 
 loop-less : tie.Need-loop-less Inv-loop μ-loop
 loop-less c = let u = cut (c .before .before .before .before .before) in omega (arith, u .low, u .high)
@@ -121,23 +100,16 @@ truths-spec =
     same-length
     returns
     (λ c. search needs)
-    spoiled-requires
+    add-truth-requires
+    (λ c κs. search needs)
     same-length-2
     returns-2
     (λ c. search needs)
-    add-truth-requires
-    (λ c. search needs)
-    (λ c. search needs)
-    same-length-3
-    returns-3
-    same-length-4
-    returns-4
-    (λ c. search needs)
     add-truth-requires-2
     (λ c. search needs)
+    spoiled-requires
+    same-length-3
+    returns-3
     (λ c. search needs)
-    spoiled-requires-2
-    same-length-5
-    returns-5
     loop-less
     loop-again)
