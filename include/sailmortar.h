@@ -72,6 +72,7 @@ enum {
     SAILMORTAR_NULL_HAS_NO_FORM = 15,      /* null, and the target has no form for it */
     SAILMORTAR_CHARACTER_HAS_NO_FORM = 16, /* a character that has no XML form */
     SAILMORTAR_NO_ROOM = 17,               /* the row, or the base64 result, is longer than the room left */
+    SAILMORTAR_OUT_OF_RANGE = 18,          /* an integer outside its kind's range */
     SAILMORTAR_NO_SUCH_KIND = 255          /* `from` or `to` is none of 0, 1 and 2; nothing else is judged */
 };
 

@@ -113,6 +113,7 @@ MEANINGS = {
     15: "a null, and the target has no form for it",
     16: "a character that has no XML form",
     17: "the row, or the base64 result, is longer than the room left",
+    18: "an integer outside its kind's range",
     255: "the number of a kind of rows that is none of 0, 1 and 2",
 }
 """What each refusal's number means."""

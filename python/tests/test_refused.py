@@ -34,6 +34,16 @@ class Words(unittest.TestCase):
         self.assertEqual((refused.number, refused.row, refused.column), (15, 1, 0))
         self.assertEqual(str(refused), "refusal 15 at row 1, column 0 (sky): a null, and the target has no form for it")
 
+    def test_an_integer_outside_its_range_is_told_from_a_text_that_is_none(self):
+        outside, none = (18, "an integer outside its kind's range"), (11, "a byte or a text that is no value of its kind")
+        cells = [("32768", outside), ("-32769", outside), ("3276B", none), ("9" * 20, outside), ("9" * 21, none), ("0x18000", none)]
+        cells += [("99999 x", outside), ("x 99999", none), ("99999 &#1;", outside), ("&#1; 99999", none)]
+        for cell, (number, meaning) in cells:
+            rows = f"<TR><TD>7</TD></TR><TR><TD>{cell}</TD></TR>".encode()
+            refused = refusal(sailmortar.convert, SHORT, "tabledata", "binary", rows)
+            self.assertEqual((refused.answer, refused.output, refused.offset), (Answer(number, 1, 0, 1, 2), b"\0\7", 19), cell)
+            self.assertEqual(str(refused), f"refusal {number} at row 1, column 0 (sky): {meaning}", cell)
+
     def test_refused_declarations_are_told_with_the_fields_before_them(self):
         meaning = "the declarations are not FIELD elements of the shape that is carried"
         for function in (sailmortar.declare, sailmortar.columns, lambda fields: sailmortar.convert(fields, "binary", "binary2", b"\0")):
@@ -87,7 +97,7 @@ class Words(unittest.TestCase):
         self.assertEqual((refused.name, str(refused)), ("", "refusal 13 at row 0, column 0: a padding bit that is 1"))
 
     def test_a_number_that_is_not_known_has_words_of_its_own(self):
-        for number in (18, 99, 254):
+        for number in (19, 99, 254):
             words = f"refusal {number} at row 3, column 2: no refusal of this number is known"
             self.assertEqual(str(Refused(Answer(number, 3, 2, 3, 9))), words)
 

@@ -32,6 +32,7 @@ pub const NUMBERS: &[Number] = &[
     refusal(15, "NULL_HAS_NO_FORM", "a null, and the target has no form for it"),
     refusal(16, "CHARACTER_HAS_NO_FORM", "a character that has no XML form"),
     refusal(17, "NO_ROOM", "the row, or the base64 result, is longer than the room left"),
+    refusal(18, "OUT_OF_RANGE", "an integer outside its kind's range"),
     refusal(255, "NO_SUCH_KIND", "the number of a kind of rows that is none of 0, 1 and 2"),
 ];
 

@@ -16,6 +16,7 @@ mod agreement {
     mod declarations;
     mod library;
     mod line_ends;
+    mod out_of_range;
     mod pieces;
     mod room;
     mod rows;

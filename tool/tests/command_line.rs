@@ -140,9 +140,9 @@ fn wrong_usage_is_said_in_a_line() {
         ("base64".into(), "say which: base64 encode or base64 decode"),
         ("base64 recode".into(), "base64 can encode and decode, not 'recode'"),
         ("base64 encode --from binary".into(), "unknown option '--from' for base64"),
-        ("explain eight".into(), "there is no refusal 'eight': they are 1 to 17"),
-        ("explain 18".into(), "there is no refusal '18': they are 1 to 17"),
-        ("explain 0".into(), "there is no refusal '0': they are 1 to 17"),
+        ("explain eight".into(), "there is no refusal 'eight': they are 1 to 18"),
+        ("explain 19".into(), "there is no refusal '19': they are 1 to 18"),
+        ("explain 0".into(), "there is no refusal '0': they are 1 to 18"),
         ("explain 1 2".into(), "explain takes one number at most"),
     ];
     for (words, line) in wrong {
@@ -217,6 +217,21 @@ fn explain_says_what_each_refusal_means() {
 }
 
 #[test]
+fn explain_tells_the_range_of_every_integer_kind() {
+    let scratch = Scratch::new("ranges");
+    let text = String::from_utf8(scratch.run("explain 18").out).expect("text");
+    let ranges = [
+        ("unsignedByte", i64::from(u8::MIN), i64::from(u8::MAX)),
+        ("short", i64::from(i16::MIN), i64::from(i16::MAX)),
+        ("int", i64::from(i32::MIN), i64::from(i32::MAX)),
+        ("long", i64::MIN, i64::MAX),
+    ];
+    for (datatype, least, greatest) in ranges {
+        assert!(text.contains(&format!("\n  {datatype} goes from {least} to {greatest}\n")), "{text}");
+    }
+}
+
+#[test]
 fn the_man_page_has_every_option_and_every_meaning() {
     let page = include_str!("../../man/sailmortar.1").replace("\\-", "-");
     for option in OPTIONS.iter().flat_map(|(_, options)| *options).chain(&["--version"]) {
@@ -270,6 +285,21 @@ fn a_refused_row_of_text_is_named_by_its_line() {
     ];
     assert_eq!(said, Said::refused(b"", &lines));
     assert_eq!(scratch.get("out"), b"\x00\x07fog\x00T\x00\x08fog\x00F");
+}
+
+#[test]
+fn a_meter_that_overflowed_is_told_from_a_typing_fault() {
+    let scratch = Scratch::new("overflowed");
+    let cells = [
+        ("99999", "refusal 18 at row 1, column 0 (sky): short '99999' where a short goes from -32768 to 32767: an integer outside its kind's range"),
+        ("9999O", "refusal 11 at row 1, column 0 (sky): short '9999O': a byte or a text that is no value of its kind"),
+    ];
+    for (cell, line) in cells {
+        let text = format!("<TR><TD>7</TD><TD>fog</TD><TD>T</TD></TR>\n<TR><TD>{cell}</TD><TD/><TD/></TR>\n");
+        let said = scratch.run_with("convert --fields fields --from tabledata --to binary -o out", text.as_bytes());
+        assert_eq!((said.status, said.err.lines().next()), (1, Some(&format!("sailmortar: standard input: {line}")[..])));
+        assert_eq!(scratch.get("out"), b"\x00\x07fog\x00T");
+    }
 }
 
 #[test]

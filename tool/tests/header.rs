@@ -71,6 +71,12 @@ int main(void) {
                              TEXT("\n<TR><TD>9</TD></TR>\n"), out + 2, 6, answer);
     IS(SAILMORTAR_ACCEPTED, 0, 0, 1, 2);
     if (answer[SAILMORTAR_END] != 21 || out[1] != 8 || out[3] != 9 || out[4] != 0xEE) return __LINE__;
+    sailmortar_convert(TEXT("<FIELD datatype='short'/>"), SAILMORTAR_TABLEDATA, SAILMORTAR_BINARY,
+                       TEXT("<TR><TD>7</TD></TR><TR><TD>32768</TD></TR>"), out, 8, answer);
+    IS(SAILMORTAR_OUT_OF_RANGE, 1, 0, 1, 2);
+    sailmortar_convert(TEXT("<FIELD datatype='short'/>"), SAILMORTAR_TABLEDATA, SAILMORTAR_BINARY,
+                       TEXT("<TR><TD>7</TD></TR><TR><TD>3276B</TD></TR>"), out, 8, answer);
+    IS(SAILMORTAR_NO_VALUE, 1, 0, 1, 2);
     memset(out, 0xEE, sizeof out);
     sailmortar_base64_decode(TEXT("Zh=="), out, 8, answer);
     IS(SAILMORTAR_BASE64_NOT_VALID, 0, 0, 0, 0);
@@ -93,7 +99,7 @@ int main(void) {
     if (SAILMORTAR_COLUMNS_OUT_OF_RANGE != 5 || SAILMORTAR_INPUT_OVER_SIZE != 6 || SAILMORTAR_STREAM_ENDS != 8) return __LINE__;
     if (SAILMORTAR_COUNT_OVER_BOUND != 9 || SAILMORTAR_TABLEDATA_BROKEN != 10 || SAILMORTAR_NO_VALUE != 11) return __LINE__;
     if (SAILMORTAR_WRONG_LENGTH != 12 || SAILMORTAR_PADDING_NOT_ZERO != 13 || SAILMORTAR_EMPTY_HAS_NO_FORM != 14) return __LINE__;
-    if (SAILMORTAR_CHARACTER_HAS_NO_FORM != 16 || SAILMORTAR_BINARY2 != 2) return __LINE__;
+    if (SAILMORTAR_CHARACTER_HAS_NO_FORM != 16 || SAILMORTAR_OUT_OF_RANGE != 18 || SAILMORTAR_BINARY2 != 2) return __LINE__;
     return 0;
 }
 "#;

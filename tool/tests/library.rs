@@ -284,7 +284,7 @@ fn columns_are_read_off_where_values_look_like_tags() {
 #[test]
 fn refusals_say_what_they_mean() {
     let numbers: Vec<u64> = NUMBERS.iter().map(|known| known.number).collect();
-    assert_eq!(numbers, (1..=17).chain([255]).collect::<Vec<u64>>(), "every number of the rules, in order");
+    assert_eq!(numbers, (1..=18).chain([255]).collect::<Vec<u64>>(), "every number of the rules, in order");
     for known in NUMBERS {
         assert_eq!(meaning(known.number), Some(known.meaning));
         assert!(
@@ -292,7 +292,7 @@ fn refusals_say_what_they_mean() {
             "{known:?}"
         );
     }
-    assert_eq!((meaning(0), meaning(18), meaning(254)), (None, None, None));
+    assert_eq!((meaning(0), meaning(19), meaning(254)), (None, None, None));
     let cut = convert_to_vec(FIELDS, Rows::Binary2, Rows::TableData, &BINARY2[..15], &mut Vec::new());
     let cut = cut.expect_err("it is cut");
     assert_eq!(cut.refused().map(|cut| (cut.number, cut.row, cut.column, cut.offset)), Some((8, 1, 2, 8)));
@@ -420,6 +420,7 @@ fn pieces_with_a_damaged_row_in_the_middle() {
     let good = "<TR><TD>1</TD><TD>fog</TD></TR>\n";
     let bad = [
         ("<TR><TD>1.5</TD><TD>fog</TD></TR>", 11, 0),
+        ("<TR><TD>2147483648</TD><TD>fog</TD></TR>", 18, 0),
         ("<TR><TD>1</TD></TR>", 10, 1),
         ("<TR><TD>1</TD><TD>a</TD><TD/></TR>", 10, 2),
         ("<TR><TD>1</TD><TD>a</TD></TS>", 10, 2),

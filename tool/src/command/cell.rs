@@ -48,7 +48,7 @@ pub struct Standing<'a> {
 /// What stands where a row is refused; none where that cannot be found.
 pub fn standing<'a>(stream: &Stream<'a>, refused: &Refused) -> Option<Standing<'a>> {
     match (refused.number, stream.from) {
-        (8..=16, Rows::TableData) => tabledata::standing(stream, refused),
+        (8..=16 | 18, Rows::TableData) => tabledata::standing(stream, refused),
         (8..=16, _) => binary::standing(stream, refused),
         _ => None,
     }
@@ -74,6 +74,18 @@ pub fn noun(kind: Kind) -> (&'static str, &'static str) {
 /// Which element is at fault, as words that follow the cell.
 pub fn element_is(kind: Kind, place: usize, shown: &str) -> String {
     format!(", its {} {} is {shown}", ordinal(place as u64 + 1), noun(kind).0)
+}
+
+/// From where to where the integers of a kind go, as words that follow the cell; none for a kind of other values.
+pub fn range_is(kind: Kind) -> String {
+    let (integer, least, greatest) = match kind {
+        Kind::UnsignedByte => ("an unsignedByte", i64::from(u8::MIN), i64::from(u8::MAX)),
+        Kind::Short => ("a short", i64::from(i16::MIN), i64::from(i16::MAX)),
+        Kind::Int => ("an int", i64::from(i32::MIN), i64::from(i32::MAX)),
+        Kind::Long => ("a long", i64::MIN, i64::MAX),
+        _ => return String::new(),
+    };
+    format!(" where {integer} goes from {least} to {greatest}")
 }
 
 /// How many elements there are and how many a column takes, as words that follow the cell.

@@ -87,7 +87,7 @@ pub struct Stream<'a> {
     pub input: &'a [u8],
 }
 
-/// A refusal of a row (8 to 16); `stands` says what is written.
+/// A refusal of a row (8 to 16, and 18); `stands` says what is written.
 pub fn row(stream: &Stream, refused: &Refused, stands: &str) -> Report {
     let standing = cell::standing(stream, refused);
     let (file, number) = (shown(stream.input_name), refused.number);

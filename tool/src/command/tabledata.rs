@@ -2,7 +2,7 @@
 
 use sailmortar::{Column, Kind, Refused, Rows};
 
-use crate::cell::{element_is, elements_are, label, shows, Place, Standing};
+use crate::cell::{element_is, elements_are, label, range_is, shows, Place, Standing};
 use crate::probe::{self, Probe};
 use crate::report::Stream;
 use crate::shown::{character, plain, quoted};
@@ -67,7 +67,8 @@ fn in_cell<'a>(stream: &Stream, column: &Column, cell: &'a [u8], number: u64) ->
     }
     let text = after_tag(cell, "<TD", ">").map_or(&cell[..0], |inside| split_content(inside).0);
     let words = match number {
-        11 => format!(" {}{}", quoted(text), wrong_element(column.kind, text)),
+        11 => format!(" {}{}", quoted(text), wrong_element(number, column.kind, text)),
+        18 => format!(" {}{}{}", quoted(text), wrong_element(number, column.kind, text), range_is(column.kind)),
         12 => format!(" {}{}", quoted(text), wrong_count(column, text)),
         _ => shows(column, number, stream.to),
     };
@@ -126,9 +127,9 @@ fn characters(text: &[u8]) -> impl Iterator<Item = &[u8]> {
     })
 }
 
-/// The first element that is no value, where a cell has several.
-fn wrong_element(kind: Kind, text: &[u8]) -> String {
-    let probe = Probe { number: 11, kind, from: Rows::TableData, to: Rows::Binary2 };
+/// The first bad element, where a cell has several. It is the one that decided the cell's number: those before it are good.
+fn wrong_element(number: u64, kind: Kind, text: &[u8]) -> String {
+    let probe = Probe { number, kind, from: Rows::TableData, to: Rows::Binary2 };
     match probe.first(parts(kind, text)) {
         Some((place, part)) if part != text => {
             let has_line_end = kind == Kind::Char && parts(kind, text).take(place).any(|part| part == LINE_END);

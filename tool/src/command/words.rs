@@ -159,7 +159,8 @@ fn look_for(number: u64) -> &'static str {
         1..=5 => in_declarations(number),
         6 | 7 | 17 | 255 => in_sizes_and_base64(number),
         8 | 9 | 13 => in_binary(number),
-        10..=12 => in_cells(number),
+        10 | 12 => in_cells(number),
+        11 | 18 => in_values(number),
         _ => in_writing(number),
     }
 }
@@ -269,13 +270,6 @@ or < in a text (write &amp; and &lt;), &nbsp; or another name that XML does not
 have, a missing </TD>, tags around the rows (TABLEDATA, DATA), or a file that
 was cut. A column number after the last means the end of the row."
         }
-        11 => {
-            "\
-The cell holds something that its datatype does not have: 32768 in a short, 256
-or -1 in an unsignedByte, 1.5 or NaN in an int, 'yes' in a boolean, 1,2 (write
-1 2), a byte over 127 (an accent, a degree sign) in any cell, or a boolean byte
-that is none of T t 1 F f 0 ? blank and NUL."
-        }
         _ => {
             "\
 A column of arraysize n takes n elements in each cell that is not empty (char
@@ -283,6 +277,32 @@ may be shorter), one of n* or * at most n or 4096. Look for a value missing or
 too many, or a text longer than its column: 'dawns' where arraysize is 4.
 In a text a line end counts as one character, 10, whether the file has 13 10,
 13 or 10 there (XML reads it so); only &#13; or &#xD; is a carriage return."
+        }
+    }
+}
+
+fn in_values(number: u64) -> &'static str {
+    match number {
+        11 => {
+            "\
+The cell holds something that its datatype does not have: 1.5, NaN, 1,2 (write
+1 2) or more than 20 digits in an integer, a sign (-1, +1) in an unsignedByte,
+0x and more hexadigits than 2 in an unsignedByte, 4 in a short, 8 in an int or
+16 in a long, 'yes' in a boolean, a byte over 127 (an accent, a degree sign) in
+any cell, or a boolean byte that is none of T t 1 F f 0 ? blank and NUL.
+An integer that is written well, but is too small or too great, is refusal 18."
+        }
+        _ => {
+            "\
+The number is written well, but its column's datatype has no room for it:
+  unsignedByte goes from 0 to 255
+  short goes from -32768 to 32767
+  int goes from -2147483648 to 2147483647
+  long goes from -9223372036854775808 to 9223372036854775807
+Did the meter overflow? Then there is no reading: write <TD/>, which is null.
+Is the number right? Then the column's FIELD needs a wider datatype (int where
+it is short), and whoever reads the table needs that FIELD, too.
+More than 20 digits, leading zeros counted, and too many hexadigits are 11."
         }
     }
 }

@@ -165,10 +165,14 @@ fn every_flag_byte() {
     }
 }
 
+/// Words that are values of some kind, that are out of another's range, or that come near to being one.
+const WORDS: &str =
+    "1 -1 0 +7 T f true ? 0x1F 256 99999 -3000000000 99999999999999999999 000000000000000000007 0x11111111111111111 101 x 1,2 \
+    &#49; &#57;9999 &#32; - \x7f \x01 &#200; é";
+
 #[test]
 fn arrays_of_words_at_random() {
-    let words =
-        ["1", "-1", "0", "+7", "T", "f", "true", "?", "0x1F", "256", "99999", "101", "x", "1,2", "&#49;", "&#32;", "-", "\x7f", "é"];
+    let words: Vec<&str> = WORDS.split(' ').collect();
     let lengths = [Length::Fixed(3), Length::Bounded(4), Length::Free, Length::Fixed(1)];
     for seed in seeds(20_000_000, 120_000) {
         let mut random = Random::new(seed);

@@ -22,7 +22,13 @@ fn tells(fields: &str, from: Rows, to: Rows, input: &[u8], room: usize, six: [u6
 
 #[test]
 fn white_space_before_a_refused_row_belongs_to_it() {
-    let refused = [("<TR><TD>x</TD></TR>", 11, 0), ("<td>", 10, 0), ("<TR><TD>7</TD>\n</TR", 10, 1), ("<TR>\n<TD>7 8</TD></TR>", 12, 0)];
+    let refused = [
+        ("<TR><TD>x</TD></TR>", 11, 0),
+        ("<TR><TD>99999</TD></TR>", 18, 0),
+        ("<td>", 10, 0),
+        ("<TR><TD>7</TD>\n</TR", 10, 1),
+        ("<TR>\n<TD>7 8</TD></TR>", 12, 0),
+    ];
     for (to, bytes) in [(TableData, 20), (Binary, 2), (Binary2, 3)] {
         for (space, before) in [("", 0), (" \t", 2), ("\r\n\r\n ", 5)] {
             for (row, number, column) in refused {

@@ -112,7 +112,7 @@ fn in_every_spelling() {
 
 #[test]
 fn damaged_anyhow() {
-    let mut met = [0; 18];
+    let mut met = [0; 19];
     for seed in seeds(14_000_000, 50_000) {
         let mut random = Random::new(seed);
         let columns = some(&mut random, 1, 4);
@@ -122,12 +122,13 @@ fn damaged_anyhow() {
         let good = spelled(&mut random, &columns, from, &table);
         let input = damaged(&mut random, &good);
         for number in agree_to_every_kind(&mut random, &declarations(&columns), from, &input, seed) {
+            assert!(number != 18 || from == Rows::TableData, "seed {seed}: bytes are never out of range");
             met[number as usize] += 1;
         }
     }
     // Not where a single seed is run again: the damage must lead to every refusal that rows can meet.
     if met.iter().sum::<u64>() > 1_000 {
-        let unmet: Vec<usize> = [0, 8, 9, 10, 11, 12, 13, 14, 15, 16, 17].into_iter().filter(|number| met[*number] < 20).collect();
+        let unmet: Vec<usize> = [0].into_iter().chain(8..=18).filter(|number| met[*number] < 20).collect();
         assert!(unmet.is_empty(), "hardly ever met: {unmet:?} of {met:?}");
     }
 }
@@ -223,6 +224,7 @@ const PIECES: &[&str] = &[
     "T",
     "true",
     "-5",
+    "99999999999",
     "&amp;",
     "&lt;",
     "&#49;",

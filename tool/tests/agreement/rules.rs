@@ -51,11 +51,11 @@ fn integers_at_their_edges() {
     accepts(short, TableData, Binary, &td("0xffff"), b"\xff\xff");
     accepts(short, TableData, TableData, &td("0xffff"), &td("-1"));
     accepts(short, TableData, TableData, &td("0xff"), &td("255"));
-    refuses(short, TableData, Binary, &td("32768"), 11);
+    refuses(short, TableData, Binary, &td("32768"), 18);
     accepts(short, TableData, Binary, &td("-32768"), b"\x80\x00");
     accepts(long, TableData, Binary, &td("-9223372036854775808"), b"\x80\0\0\0\0\0\0\0");
     accepts(long, Binary, TableData, b"\x80\0\0\0\0\0\0\0", &td("-9223372036854775808"));
-    refuses(byte, TableData, Binary, &td("256"), 11);
+    refuses(byte, TableData, Binary, &td("256"), 18);
     accepts(byte, TableData, Binary, &td("0xff"), b"\xff");
     accepts(int, TableData, Binary, &td("+5"), b"\0\0\0\x05");
     refuses(byte, TableData, Binary, &td("+5"), 11);

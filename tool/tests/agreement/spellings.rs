@@ -5,7 +5,8 @@ use crate::generate::columns::{column, datatype, declarations, limits, EVERY_KIN
 use crate::model::converter::Rows::{Binary, Binary2, TableData};
 use crate::model::{Kind, Length};
 
-/// A word, and what it is in an unsignedByte, a short, an int and a long.
+/// A word, and what it is in an unsignedByte, a short, an int and a long: its value, `no` where it is not written as one (11), or `out`
+/// where it is outside the range (18).
 const WORDS: &str = "
     00 0 0 0 0
     000000000000000007 7 7 7 7
@@ -15,8 +16,8 @@ const WORDS: &str = "
     -00000000000000000007 no -7 -7 -7
     +00000000000000000007 no 7 7 7
     -000000000000000000007 no no no no
-    1234567890123456789 no no no 1234567890123456789
-    18446744073709551623 no no no no
+    1234567890123456789 out out out 1234567890123456789
+    18446744073709551623 out out out out
     +5 no 5 5 5
     -0 no 0 0 0
     +0 no 0 0 0
@@ -24,9 +25,37 @@ const WORDS: &str = "
     +-5 no no no no
     5- no no no no
     +255 no 255 255 255
-    +32768 no no 32768 32768
-    +9223372036854775808 no no no no
+    +32768 no out 32768 32768
+    +9223372036854775808 no out out out
+    255 255 255 255 255
+    256 out 256 256 256
+    00000000000000000256 out 256 256 256
+    000000000000000000256 no no no no
+    -1 no -1 -1 -1
+    -5 no -5 -5 -5
+    32767 out 32767 32767 32767
+    32768 out out 32768 32768
+    -32768 no -32768 -32768 -32768
+    -32769 no out -32769 -32769
+    2147483647 out out 2147483647 2147483647
+    2147483648 out out out 2147483648
+    -2147483648 no out -2147483648 -2147483648
+    -2147483649 no out out -2147483649
+    9223372036854775807 out out out 9223372036854775807
+    9223372036854775808 out out out out
+    -9223372036854775808 no out out -9223372036854775808
+    -9223372036854775809 no out out out
+    -00009223372036854775809 no no no no
+    99999999999999999999 out out out out
+    -99999999999999999999 no out out out
+    +99999999999999999999 no out out out
+    100000000000000000000 no no no no
+    -100000000000000000000 no no no no
     0x no no no no
+    0x100 no 256 256 256
+    0x10000 no no 65536 65536
+    0x100000000 no no no 4294967296
+    0x10000000000000000 no no no no
     0xf 15 15 15 15
     0x80 128 128 128 128
     0xFF 255 255 255 255
@@ -70,13 +99,17 @@ fn words_as_integers() {
         for (kind, value) in EVERY_KIND.into_iter().filter(|kind| kind.is_integer()).zip(parts) {
             let scalar = format!("<FIELD datatype='{}'/>", datatype(kind));
             let null = format!("<FIELD datatype='{}'><VALUES null=' {word}'/></FIELD>", datatype(kind));
-            if value == "no" {
-                refuses(&scalar, TableData, TableData, &td(word), 11);
-                refuses(&null, TableData, TableData, &td(word), 4);
-            } else {
-                accepts(&scalar, TableData, TableData, &td(word), &td(value));
-                accepts(&null, TableData, TableData, &td(word), b"<TR><TD/></TR>\n");
-            }
+            let number = match value {
+                "no" => 11,
+                "out" => 18,
+                _ => {
+                    accepts(&scalar, TableData, TableData, &td(word), &td(value));
+                    accepts(&null, TableData, TableData, &td(word), b"<TR><TD/></TR>\n");
+                    continue;
+                }
+            };
+            refuses(&scalar, TableData, TableData, &td(word), number);
+            refuses(&null, TableData, TableData, &td(word), 4);
         }
     }
 }
@@ -206,12 +239,27 @@ const CELLS: &[(&str, &[(&str, &str)])] = &[
             ("<TD>1 2 3 4</TD>", "12"),
             ("<TD>1 2 3 4 x</TD>", "11"),
             ("<TD>1 2 3 4 x &;</TD>", "10"),
+            ("<TD>1 2 3 4 2147483648</TD>", "18"),
+            ("<TD>2147483648</TD>", "18"),
+            ("<TD>2147483648 x</TD>", "18"),
+            ("<TD>x 2147483648</TD>", "11"),
+            ("<TD>2147483648 \x01 3</TD>", "18"),
+            ("<TD>\x01 2147483648 3</TD>", "11"),
+            ("<TD>2147483648\x01 2 3</TD>", "11"),
+            ("<TD>2147483648 2 &;</TD>", "10"),
             ("<TD>1\x0c2\x0c3</TD>", "11"),
         ],
     ),
     (
         "<FIELD datatype='short'><VALUES null='-99'/></FIELD>",
-        &[("<TD>-99</TD>", "<TD/>"), ("<TD>0xff9d</TD>", "<TD/>"), ("<TD>99</TD>", "<TD>99</TD>"), ("<TD>7 8</TD>", "12")],
+        &[
+            ("<TD>-99</TD>", "<TD/>"),
+            ("<TD>0xff9d</TD>", "<TD/>"),
+            ("<TD>99</TD>", "<TD>99</TD>"),
+            ("<TD>7 8</TD>", "12"),
+            ("<TD>99999</TD>", "18"),
+            ("<TD>-99 99999</TD>", "18"),
+        ],
     ),
 ];
 

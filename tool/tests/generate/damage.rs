@@ -21,7 +21,7 @@ fn change(random: &mut Random, bytes: &mut Vec<u8>) {
     let at = random.below(bytes.len());
     let other = random.below(bytes.len());
     let longest = random.pick(&[4, 12, 40]);
-    match random.below(10) {
+    match random.below(11) {
         0 => bytes[at] ^= 1 << random.below(8),
         1 => bytes[at] = random.pick(TELLING),
         2 => bytes[at] = random.next() as u8,
@@ -31,10 +31,19 @@ fn change(random: &mut Random, bytes: &mut Vec<u8>) {
         6 => bytes.swap(at, other),
         7 => bytes.truncate(at),
         8 => *bytes = with_line_ends(bytes, random.pick(&[b"\r\n", b"\r"])),
+        9 => overflow(random, bytes, at),
         _ => {
             let piece = bytes[at..bytes.len().min(at + 1 + random.below(longest))].to_vec();
             bytes.splice(other..other, piece);
         }
+    }
+}
+
+/// As a meter that overflowed writes the next number: digits more than its kind has room for, up to more than any kind has.
+fn overflow(random: &mut Random, bytes: &mut Vec<u8>, from: usize) {
+    if let Some(place) = (from..bytes.len()).find(|place| bytes[*place].is_ascii_digit()) {
+        let digits: Vec<u8> = (0..random.between(1, 20)).map(|_| random.pick(b"0123456789")).collect();
+        bytes.splice(place..place, digits);
     }
 }
 

@@ -69,7 +69,7 @@ fn damaged_rows_of_all_kinds() {
         is_the_place(&report, &fields, way, &input);
         numbers.insert(refused.number);
     }
-    assert_eq!(numbers.into_iter().collect::<Vec<_>>(), (8..=16).collect::<Vec<_>>());
+    assert_eq!(numbers.into_iter().collect::<Vec<_>>(), (8..=16).chain([18]).collect::<Vec<_>>());
 }
 
 #[test]

@@ -5,7 +5,9 @@ use std::ffi::OsStr;
 use sailmortar::{columns, meaning, Rows};
 
 use super::said::{of_rows, refused, Way, STANDS};
+use crate::generate::Random;
 use crate::report::{self, Stream, Value};
+use crate::shown::ordinal;
 
 const FIELDS: &str = concat!(
     "<FIELD name='sky' datatype='short'><VALUES null='-99'/></FIELD>\n",
@@ -129,7 +131,7 @@ fn a_text_that_is_no_value_is_shown() {
         TEXT,
         11,
         &[
-            (b"<TR><TD>32768</TD><TD/><TD/></TR>", "at row 0, column 0 (sky): short '32768'"),
+            (b"<TR><TD>seven</TD><TD/><TD/></TR>", "at row 0, column 0 (sky): short 'seven'"),
             (b"<TR><TD> 7.5 </TD><TD/><TD/></TR>", "at row 0, column 0 (sky): short ' 7.5 ', its 1st element is '7.5'"),
             (b"<TR><TD>&#49;x</TD><TD/><TD/></TR>", "at row 0, column 0 (sky): short '&#49;x'"),
             (b"<TR><TD>1\x1b[2J</TD><TD/><TD/></TR>", "at row 0, column 0 (sky): short '1\\u{1b}[2J'"),
@@ -145,6 +147,7 @@ fn a_text_that_is_no_value_is_shown() {
         11,
         &[
             (b"<TR><TD>1 2 x 4 y</TD>", "at row 0, column 0 (counts): int 3* '1 2 x 4 y', its 3rd element is 'x'"),
+            (b"<TR><TD>1 x 2147483648</TD>", "at row 0, column 0 (counts): int 3* '1 x 2147483648', its 2nd element is 'x'"),
             (b"<TR><TD/><TD>1 2</TD><TD/><TD>1012</TD></TR>", "at row 0, column 3 (open): bit 9 '1012', its 4th bit is '2'"),
             (
                 b"<TR><TD>1 2 3 4 5 6 7 8 9 10 11 12 13 14 15 16 17 18 x</TD>",
@@ -152,6 +155,58 @@ fn a_text_that_is_no_value_is_shown() {
             ),
         ],
     );
+}
+
+#[test]
+fn an_integer_outside_its_range_is_said_with_the_range() {
+    let cases: [(&[u8], &str); 4] = [
+        (b"<TR><TD>32768</TD><TD/><TD/></TR>", "'32768'"),
+        (b"<TR><TD> -32769\n</TD><TD/><TD/></TR>", "' -32769\\n', its 1st element is '-32769'"),
+        (b"<TR><TD>&#57;9999</TD><TD/><TD/></TR>", "'&#57;9999'"),
+        (b"<TR><TD>7 99999</TD><TD/><TD/></TR>", "'7 99999', its 2nd element is '99999'"),
+    ];
+    for (input, shown) in cases {
+        let words = format!("at row 0, column 0 (sky): short {shown} where a short goes from -32768 to 32767");
+        say(FIELDS, TEXT, 18, &[(input, &words)]);
+    }
+    say(
+        ARRAYS,
+        TEXT,
+        18,
+        &[(
+            b"<TR><TD>1 2147483648 x</TD>",
+            "at row 0, column 0 (counts): int 3* '1 2147483648 x', its 2nd element is '2147483648' \
+             where an int goes from -2147483648 to 2147483647",
+        )],
+    );
+    let ends = [
+        ("unsignedByte", "256", "an unsignedByte goes from 0 to 255"),
+        ("long", "-9223372036854775809", "a long goes from -9223372036854775808 to 9223372036854775807"),
+    ];
+    for (datatype, over, goes) in ends {
+        let (fields, input) = (format!("<FIELD datatype='{datatype}'/>"), format!("<TR><TD>{over}</TD></TR>"));
+        say(&fields, TEXT, 18, &[(input.as_bytes(), &format!("at row 0, column 0: {datatype} '{over}' where {goes}"))]);
+    }
+}
+
+/// Whatever else is bad in a cell, the element that is named is the first bad one, which decided the number.
+#[test]
+fn the_element_that_decided_is_the_one_that_is_named() {
+    let words = [("7", 0), ("+8", 0), ("x", 11), ("\u{b0}", 11), ("99999", 18), ("-40000", 18)];
+    let mut met = [0; 19];
+    for seed in 0..2_000 {
+        let mut random = Random::new(83_000_000 + seed);
+        let cell: Vec<(&str, usize)> = (0..random.between(2, 5)).map(|_| random.pick(&words)).collect();
+        let Some(place) = cell.iter().position(|(_, number)| *number != 0) else { continue };
+        let text = cell.iter().map(|(word, _)| *word).collect::<Vec<_>>().join(" ");
+        let report = of_rows("<FIELD datatype='short' arraysize='*'/>", TEXT, format!("<TR><TD>{text}</TD></TR>").as_bytes());
+        let (word, number) = cell[place];
+        let named = format!("short * '{text}', its {} element is '{word}'", ordinal(place as u64 + 1));
+        assert!(report.lines[0].contains(&named), "{named} in {}", report.lines[0]);
+        assert_eq!(report.number_of("number"), Some(number as u64), "{text}");
+        met[number] += 1;
+    }
+    assert!(met[11] > 200 && met[18] > 200, "{met:?}");
 }
 
 #[test]

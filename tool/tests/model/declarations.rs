@@ -158,12 +158,12 @@ fn elements(digits: &[u8]) -> Option<usize> {
     (elements <= super::MOST_ELEMENTS).then_some(elements)
 }
 
-/// A declared null is read as a cell of its kind is: one word, white space around it.
+/// A declared null is read as a cell of its kind is: one word, white space around it. Why it is no value makes no difference.
 fn null(kind: Kind, value: &[u8]) -> Option<i64> {
     let mut words = value.split(|byte| is_white_space(*byte)).filter(|word| !word.is_empty());
     let word = words.next()?;
     match words.next() {
         Some(_) => None,
-        None => integer::read(kind, word),
+        None => integer::read(kind, word).ok(),
     }
 }

@@ -1,7 +1,8 @@
 //! Rows of TABLEDATA.
 
+use super::integer::{self, Fault};
 use super::text::{is_white_space, Text};
-use super::{integer, refused, Cell, Column, Kind, Length, Refused, FALSE, TRUE, UNKNOWN};
+use super::{refused, Cell, Column, Kind, Length, Refused, FALSE, TRUE, UNKNOWN};
 
 /// Reads the row that begins at `start`: its cells and where it ends.
 pub fn read_row(columns: &[Column], input: &[u8], start: usize) -> Result<(Vec<Cell>, usize), Refused> {
@@ -30,11 +31,13 @@ fn tag(text: &mut Text, opening: &[u8]) -> bool {
     text.take(b">")
 }
 
-/// The whole cell is judged for its tags and references before any of its characters, and those before its length.
+/// The whole cell is judged for its tags and references before any of its elements, and those before their number.
 fn read_cell(column: &Column, text: &mut Text) -> Result<Cell, u64> {
-    let characters = cell_characters(text).ok_or(10u64)?;
-    let characters = characters.into_iter().map(character).collect::<Option<Vec<u8>>>().ok_or(11u64)?;
-    let elements = elements(column.kind, &characters).ok_or(11u64)?;
+    let codes = cell_codes(text).ok_or(10u64)?;
+    let elements = match column.kind.is_integer() {
+        true => integers(column.kind, &codes)?,
+        false => characters(&codes).and_then(|characters| elements(column.kind, &characters)).ok_or(11u64)?,
+    };
     if elements.is_empty() {
         return Ok(Cell::Null);
     }
@@ -49,7 +52,7 @@ fn read_cell(column: &Column, text: &mut Text) -> Result<Cell, u64> {
 }
 
 /// The codes between the tags of a cell, references expanded; `None` where tags or references are broken.
-fn cell_characters(text: &mut Text) -> Option<Vec<u32>> {
+fn cell_codes(text: &mut Text) -> Option<Vec<u32>> {
     text.skip_white_space();
     if !text.take(b"<TD") {
         return None;
@@ -61,12 +64,12 @@ fn cell_characters(text: &mut Text) -> Option<Vec<u32>> {
     if !text.take(b">") {
         return None;
     }
-    let mut characters = Vec::new();
+    let mut codes = Vec::new();
     loop {
         match text.peek()? {
-            b'<' => return tag(text, b"</TD").then_some(characters),
-            b'&' => characters.push(reference(text)?),
-            _ => characters.push(u32::from(literal(text)?)),
+            b'<' => return tag(text, b"</TD").then_some(codes),
+            b'&' => codes.push(reference(text)?),
+            _ => codes.push(u32::from(literal(text)?)),
         }
     }
 }
@@ -107,17 +110,31 @@ fn reference(text: &mut Text) -> Option<u32> {
     Some(value as u32)
 }
 
-fn character(code: u32) -> Option<u8> {
-    matches!(code, 9 | 10 | 13 | 32..=127).then_some(code as u8)
+/// The characters of these codes; `None` where one is of no character that a cell may hold.
+fn characters(codes: &[u32]) -> Option<Vec<u8>> {
+    codes.iter().map(|code| matches!(code, 9 | 10 | 13 | 32..=127).then_some(*code as u8)).collect()
 }
 
+/// The elements of an integer cell, or the number of the first bad one. What no cell may hold is part of an element.
+fn integers(kind: Kind, codes: &[u32]) -> Result<Vec<i64>, u64> {
+    let words = codes.split(|code| u8::try_from(*code).is_ok_and(is_white_space)).filter(|word| !word.is_empty());
+    words.map(|word| integer(kind, word)).collect()
+}
+
+fn integer(kind: Kind, word: &[u32]) -> Result<i64, u64> {
+    let word = characters(word).ok_or(11u64)?;
+    integer::read(kind, &word).map_err(|fault| match fault {
+        Fault::NotWritten => 11,
+        Fault::OutOfRange => 18,
+    })
+}
+
+/// The elements of a cell of any other kind.
 fn elements(kind: Kind, characters: &[u8]) -> Option<Vec<i64>> {
-    let words = characters.split(|byte| is_white_space(*byte)).filter(|word| !word.is_empty());
     match kind {
         Kind::Char => Some(characters.iter().map(|byte| i64::from(*byte)).collect()),
         Kind::Bit => trimmed(characters).iter().map(|byte| bit(*byte)).collect(),
-        Kind::Boolean => words.map(boolean).collect(),
-        _ => words.map(|word| integer::read(kind, word)).collect(),
+        _ => characters.split(|byte| is_white_space(*byte)).filter(|word| !word.is_empty()).map(boolean).collect(),
     }
 }
 
