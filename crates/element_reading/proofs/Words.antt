@@ -144,7 +144,8 @@ module _ (k : Shape) {f : List ℕ → Result ℕ ℤ} (q : (w : List ℕ) → t
     unfolding elementsFrom
     word-last u e = record {
       found = rw e (carried-judged s from next (carried-more (r .carried) (d .found (u .w) (u .stands)))
-          (r .passed .passes (textElements k) ∙ u .ends (λ cs. textElements k (r .w ++ cs)) ∙ rw (q (r .w ++ u .w), r .clean (u .w), words-last (u .w) (u .word), every-append f (words (r .w)) (notEmpty (u .w ∷ []))))
+          (r .passed .passes (textElements k) ∙ u .ends (λ cs. textElements k (r .w ++ cs))
+          ∙ rw (q (r .w ++ u .w), r .clean (u .w), words-last (u .w) (u .word), every-append f (words (r .w)) (notEmpty (u .w ∷ []))))
           (omega (arith, r .low, u .low)) (u .high));
       long = d .long ∙ r .long;
     }

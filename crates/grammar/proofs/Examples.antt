@@ -23,7 +23,8 @@ use Rattle.grammar.specs.Declarations.{Datatype, Declares}
 use Rattle.grammar.specs.Exact.{InGrammar, NotDecoded, tableOf}
 use Rattle.grammar.specs.Text.{Characters, Marked, char-amp, char-decimal, char-itself, char-line-end, chars-end, chars-return, chars-then, marked-text}
 use Rattle.grammar.specs.Valid.{Spells}
-use Rattle.grammar.specs.Words.{Digit, Hexadigit, IntegerWord, Itself, a-tag, bad-last, bad-then, decimal-plain, figure, hex-small, itself, one-digit, one-more, stands-negative, white-end, word-hexadecimal, word-outside}
+use Rattle.grammar.specs.Words.{Digit, Hexadigit, IntegerWord, Itself, OutsideWord, a-tag, bad-last, bad-then, decimal-plain, figure, hex-small, itself, one-digit, one-more}
+use Rattle.grammar.specs.Words.{stands-negative, white-end, word-hexadecimal, word-outside}
 use Rattle.table.proofs.Laws.{bad-good}
 use Rattle.table.specs.Bytes.{bytes}
 use Rattle.table.specs.Cell.{AreColumns, Cell, columnOf}
@@ -146,10 +147,13 @@ five-of-four k n flagged rest =
 -- "in one cell the first bad element decides": 99999 in a short array, and then a character that no cell may have
 pub first-decides : OutsideFirst (Whole true W2) (bytes "99999 " ++ (1 ∷ []))
 unfolding everything
-first-decides = first-outside (bad-then {v = bytes "99999"} 32 (1 ∷ []) white-end (word-outside (decimal-plain (one-more (one-more (one-more (one-more (one-digit nine) nine) nine) nine) nine) (lit≤ tt)) refl) refl)
+first-decides = first-outside (bad-then {v = bytes "99999"} 32 (1 ∷ []) white-end too-large refl)
   where
     nine : Digit 57 9
     nine = figure {d = 9} (lit< tt)
+
+    too-large : OutsideWord true 2 (bytes "99999")
+    too-large = word-outside (decimal-plain (one-more (one-more (one-more (one-more (one-digit nine) nine) nine) nine) nine) (lit≤ tt)) refl
 
 -- and the other way round
 pub first-decides-11 : OutsideFirst (Whole true W2) (1 ∷ bytes " 99999") → ⊥
@@ -161,8 +165,12 @@ pub no-byte-256 : (n : Null) (flagged : Bool) → NoCell TableData (columnOf Uns
 unfolding everything
 no-byte-256 n flagged = out-of-range {cs = bytes "256"} {rest = []}
     (record { white = []; taken = bytes "<TD>256</TD>"; is-white = white-end; whole = refl; marked = marked })
-    (first-outside (bad-last white-end (word-outside (decimal-plain (one-more (one-more (one-digit (figure {d = 2} (lit< tt))) (figure {d = 5} (lit< tt))) (figure {d = 6} (lit< tt))) (lit≤ tt)) refl)))
+    (first-outside (bad-last white-end too-large))
   where
+    too-large : OutsideWord false 1 (bytes "256")
+    too-large =
+        word-outside (decimal-plain (one-more (one-more (one-digit (figure {d = 2} (lit< tt))) (figure {d = 5} (lit< tt))) (figure {d = 6} (lit< tt))) (lit≤ tt)) refl
+
     plain : {b : ℕ} → 48 ≤ b → b ≤ 57 → {s cs : List ℕ} → Characters s cs → Characters (b ∷ s) (b ∷ cs)
     plain {b} l m r = chars-then (char-itself {b = b} (λ e. omega arith) (λ e. omega arith) (λ e. omega arith)) r
 

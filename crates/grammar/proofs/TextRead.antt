@@ -25,7 +25,8 @@ use Rattle.grammar.specs.Words.{BitLetters, Digit, Hexadigit, IntegerWor
 use Rattle.grammar.specs.Words.{hex-capital, hex-figure, hex-small, trimmed, white-end}
 use Rattle.number.specs.Number.{Fault, Outside, Unwritten, digit, hexadigit, numeral, sized}
 use Rattle.table.proofs.Bytes.{same-is}
-use Rattle.table.proofs.Laws.{and-both, between-is, between-yes, cond-cases, fails-as, fails-weaken, holds-as, holds-at, holds-bind, holds-cond, holds-else, holds-eq, holds-weaken, nil-not-null, no-white, or-either}
+use Rattle.table.proofs.Laws.{and-both, between-is, between-yes, cond-cases, fails-as, fails-weaken, holds-as, holds-at, holds-bind, holds-cond, holds-else, holds-eq}
+use Rattle.table.proofs.Laws.{holds-weaken, nil-not-null, no-white, or-either}
 use Rattle.table.proofs.LineEnds.{first-cases}
 use Rattle.table.specs.All.{All}
 use Rattle.table.specs.Bytes.{after, between, bytes, ends, isWhite, same, skipWhite, tag, words}

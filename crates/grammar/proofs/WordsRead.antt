@@ -13,7 +13,8 @@ use lib.ListN.{length, length-append}
 use borrow.Author.Tests.{eq-eqb, eqb-false, eqb-true, le-leb, le-ltb, lt-leb, lt-ltb, ltb-false, ltb-true, ne-eqb}
 use Rattle.grammar.proofs.Fronts.{digit-is, digit-read, fails-then, hexadigit-is, hexadigit-read, numeral-all, numeral-some, sized-is, sized-read}
 use Rattle.grammar.specs.Words.{AnyCapitals, AnyCase, BitLetters, DecimalWord, Digit, FirstBad, Hexadigit, IntegerWord, Numeral, OutsideWord, Spaced, Stands, TruthLetter, TruthWord}
-use Rattle.grammar.specs.Words.{White, as-capital, as-small, bad-last, bad-later, bad-then, bits-0, bits-1, bits-end, capitals-end, capitals-then, decimal-minus, decimal-plain, decimal-plus, figure, hex-capital, hex-figure}
+use Rattle.grammar.specs.Words.{White, as-capital, as-small, bad-last, bad-later, bad-then, bits-0, bits-1, bits-end, capitals-end, capitals-then}
+use Rattle.grammar.specs.Words.{decimal-minus, decimal-plain, decimal-plus, figure, hex-capital, hex-figure}
 use Rattle.grammar.specs.Words.{hex-small, letter-0, letter-1, letter-F, letter-T, letter-f, letter-t, one-digit, one-more, stands-negative, stands-positive}
 use Rattle.grammar.specs.Words.{stands-unsigned, truth-false, truth-letter, truth-true, truth-unknown, white-end, white-then, word-hexadecimal}
 use Rattle.grammar.specs.Words.{word-decimal, word-outside, words-last, words-none, words-then}

@@ -4,7 +4,7 @@ use mathlib.Core.Bool.{cond}
 use mathlib.Core.List.{List, [], _∷_}
 use lib.Dec.{eqb}
 use lib.ListN.{length}
-use Rattle.rows.specs.Sequence.{Sequence, finished, row, sequence, stopped}
+use Rattle.rows.specs.Sequence.{finished, row, sequence, stopped}
 use Rattle.rows.specs.Stream.{Table, atEnd, readEnd, readStart}
 use Rattle.table.specs.Cell.{Cell}
 use Rattle.table.specs.Outcome.{Refusal, at}

@@ -96,7 +96,8 @@ read-unsplit c s = go (cellText s) (cell-fails {P = λ n. unsplit k n ≡ n} (un
     counted es rest true = refl
     counted es rest false = ap bad (sym (unsplit-other k 12 (λ e. omega arith)))
 
-    elements : (r : Result ℕ (List ℤ)) (rest : List ℕ) → (refusedAs (unsplit k) r >>= λ es. cond {A = Result ℕ (Cell × List ℕ)} (countFits c (length es)) (good (emptyIsNull (show c es), rest)) (bad 12))
+    elements : (r : Result ℕ (List ℤ)) (rest : List ℕ)
+        → (refusedAs (unsplit k) r >>= λ es. cond {A = Result ℕ (Cell × List ℕ)} (countFits c (length es)) (good (emptyIsNull (show c es), rest)) (bad 12))
         ≡ refusedAs (unsplit k) (r >>= (λ es. cond (countFits c (length es)) (good (emptyIsNull (show c es))) (bad 12)) >>= λ x. good (x, rest))
     elements (good es) rest = counted es rest (countFits c (length es))
     elements (bad n) rest = refl

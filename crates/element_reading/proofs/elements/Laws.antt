@@ -12,7 +12,7 @@ use lib.IntN.{ℤ}
 use lib.ListN.{drop, length, length-append, length-set, set, take}
 use lib.Seq.{set-out, take-all, take-append-le, take-nil, take-suc-set}
 use borrow.Author.Tests.{ltb-false, ltb-true}
-use Rattle.table.specs.Result.{Result, bad, good}
+use Rattle.table.specs.Result.{bad, good}
 use Rattle.table.specs.Shape.{Shape}
 use Rattle.tabledata.specs.TableData.{textElements}
 use Rattle.element_reading.proofs.characters.Passing.{onward-bad, onward-broken, onward-end, passed-code, passed-none, passed-then}

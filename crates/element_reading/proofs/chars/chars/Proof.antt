@@ -1,7 +1,6 @@
 -- `element_reading::chars::chars` meets its contract. The invariant: the characters passed over are the elements so far.
 use Prim.Native.Nat.{_+_, _-_}
 use native.Mathlib.Omega.{arith}
-use mathlib.Core.List.{[], _∷_}
 use mathlib.Core.Path.{_∙_, subst, sym}
 use lib.ListN.{drop, length}
 use borrow.Author.Needs.{needs}

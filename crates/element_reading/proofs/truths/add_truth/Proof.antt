@@ -1,15 +1,13 @@
 -- `element_reading::truths::add_truth` meets its contract: no letters add nothing; the number of a word tells its element.
 use Prim.Native.Nat.{ℕ}
 use native.Mathlib.Omega.{arith}
-use mathlib.Core.List.{List, [], _∷_, append-nil}
+use mathlib.Core.List.{List, [], append-nil}
 use mathlib.Core.Path.{_∙_, _≡_, ap, refl, sym}
 use lib.Dec.{lit≤}
 use lib.ListN.{length, length-set}
 use borrow.Author.Needs.{needs}
 use mir.Facts.{toZ-ofZ}
 use mir.Syntax.{w64}
-use Rattle.table.specs.Bytes.{notEmpty}
-use Rattle.table.specs.Result.{every}
 use Rattle.tabledata.specs.TableData.{truthWord}
 use Rattle.element_reading.proofs.Words.{added-none, added-word}
 use Rattle.element_reading.proofs.elements.Laws.{put-more}
