@@ -44,6 +44,10 @@ truthNumber q =
     (cond (eqb q 0x166) 0 (cond (eqb q 0x130) 0 (cond (eqb q 0x166616c7365) 0
     (cond (eqb q 0x13f) 2 3))))))
 
+-- a character as a letter of an integer: one that is no byte is none, and neither is 255
+unfoldable pub letterOf : ℕ → ℕ
+letterOf c = cond (ltb c 256) c 255
+
 -- the text from a place has a word w before white space, or up to the end of the cell; what `Stands` for it was read
 pub record CutAt (Stands : List ℕ → Type 0) (source : Source) (s : List ℕ) (from next : ℕ) : Type 0 where
   pub w : List ℕ

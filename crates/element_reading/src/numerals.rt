@@ -18,10 +18,10 @@ use words::Quick;
 use words::Word;
 ghost use Prim.Native.Nat.{_<_, _≤_};
 ghost use Rattle.number.specs.Contracts.{isSigned, size, widthOf};
-ghost use Rattle.words.specs.Words.{feed, fresh, nextWord};
+ghost use Rattle.words.specs.Words.{feed, fresh};
 ghost use Rattle.table.specs.Shape.{Whole};
 ghost use Rattle.tabledata.specs.TableData.{integerWord};
-ghost use Rattle.element_reading.specs.Words.{Adds, NumeralIs, QuickWordIs, begunForm, spaceAt};
+ghost use Rattle.element_reading.specs.Words.{Adds, NumeralIs, QuickWordIs, begunForm, letterOf, spaceAt};
 ghost use Rattle.element_reading.specs.Characters.{TextEnds};
 ghost use Rattle.element_reading.specs.Elements.{TakesElements, elementsFrom};
 ghost use lib.ListN.{drop, length};
@@ -34,14 +34,14 @@ pub enum Numeral {
     Broken,
 }
 
-// The word with a character more; one that is no byte is as little a letter of an integer as 255 is.
-fn with_character(word: Word, c: u32) -> Word
-    ensures { λ r. ⌜ r ≡ nextWord word c ⌝ }
+// A character as a letter of a word; one that is no byte is as little a letter of an integer as 255 is.
+fn letter_of(c: u32) -> u8
+    ensures { λ r. ⌜ r ≡ letterOf c ⌝ }
 {
     if c < 256 {
-        return word.next(c as u8);
+        return c as u8;
     }
-    word.next(255)
+    255
 }
 
 // The word at a place, as the integers' reader has it.
@@ -59,7 +59,7 @@ fn integer_piece(s: &[u8], from: usize, source: Source) -> Numeral
                 if is_white(c) {
                     return Numeral::Cut(word, next);
                 }
-                word = with_character(word, c);
+                word = word.next(letter_of(c));
                 i = next;
             }
         }

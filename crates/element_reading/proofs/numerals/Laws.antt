@@ -8,7 +8,7 @@ use lib.Dec.{eqb, ltb}
 use lib.IntN.{ℤ}
 use lib.ListN.{drop, getD, length, length-drop, length-set, set, take}
 use lib.Seq.{length-take-le}
-use borrow.Author.Tests.{eqb-true, ltb-true, ne-eqb}
+use borrow.Author.Tests.{eqb-true, le-ltb, lt-ltb, ltb-false, ltb-true, ne-eqb}
 use Rattle.number.specs.Contracts.{isSigned, size, widthOf}
 use Rattle.number.specs.Number.{Fault, digit, hexadigit}
 use Rattle.number.specs.declared.Integer.{Integer}
@@ -29,7 +29,7 @@ use Rattle.element_reading.proofs.characters.Passing.{WordTo, passed-no
 use Rattle.element_reading.proofs.elements.Laws.{put-more}
 use Rattle.element_reading.specs.Characters.{TextEnds, ItemIs, charactersOf}
 use Rattle.element_reading.specs.Elements.{Passed}
-use Rattle.element_reading.specs.Words.{Adds, CutAt, LastAt, WordOf, begunForm, is-added, spaceAt}
+use Rattle.element_reading.specs.Words.{Adds, CutAt, LastAt, WordOf, begunForm, is-added, letterOf, spaceAt}
 use Rattle.element_reading.specs.declared.characters.Item.the-variants.{Code}
 use Rattle.text.specs.declared.Tag.the-variants.{At}
 use Rattle.words.proofs.WordLaws.{fed-reads, feed-more}
@@ -104,9 +104,6 @@ pub feed-start : feed fresh [] ≡ fresh
 unfolding feed
 feed-start = refl
 
-pub fed-letter : (x : Word) (w : List ℕ) (c : ℕ) → x ≡ feed fresh w → letter x c ≡ feed fresh (w ++ (c ∷ []))
-fed-letter x w c e = ap (λ (y : Word). letter y c) e ∙ sym (feed-more fresh w c)
-
 -- what is no byte is no letter of an integer, as 255 is none
 no-decimal : (f : Form) (n v c : ℕ) → 256 ≤ c → decimalNext f n v 255 ≡ decimalNext f n v c
 unfolding decimalNext
@@ -126,9 +123,24 @@ no-letter-from Minus n v c h = no-decimal Minus n v c h
 no-letter-from Hexadecimal n v c h = no-hexadecimal n v c h
 no-letter-from Form.Broken n v c h = refl
 
-pub no-letter : (x : Word) (c : ℕ) → 256 ≤ c → letter x 255 ≡ letter x c
+no-letter : (x : Word) (c : ℕ) → 256 ≤ c → letter x 255 ≡ letter x c
 unfolding letter
 no-letter x c h = no-letter-from (x .form) (x .count) (x .value) c h
+
+letter-same : (x : Word) (c : ℕ) → letter x (letterOf c) ≡ letter x c
+unfolding letterOf
+letter-same x c = cond-cases (λ (b : ℕ). letter x b ≡ letter x c) (ltb c 256) c 255 (λ _. refl) (λ e. no-letter x c (ltb-false c 256 e))
+
+pub letter-low : (c : ℕ) → c < 256 → letterOf c ≡ c
+unfolding letterOf
+letter-low c h = rw (lt-ltb c 256 h)
+
+pub letter-none : (c : ℕ) → 256 ≤ c → letterOf c ≡ 255
+unfolding letterOf
+letter-none c h = rw (le-ltb c 256 h)
+
+pub fed-letter : (x : Word) (w : List ℕ) (c b : ℕ) → x ≡ feed fresh w → b ≡ letterOf c → letter x b ≡ feed fresh (w ++ (c ∷ []))
+fed-letter x w c b e l = ap (letter x) l ∙ letter-same x c ∙ ap (λ (y : Word). letter y c) e ∙ sym (feed-more fresh w c)
 
 -- ---- what it adds
 

@@ -49,13 +49,13 @@ returns-3 c =
     record { found = word-cuts (at-loop .loop .inv) (item at-known) (sym (c .before .is-white .ensures) ∙ c .if1 .taken) }
 
 loop-less : tie.Need-loop-less Inv-loop μ-loop
-loop-less c = let t = item (c .before .before .before) in omega (arith, t .within .0, t .within .1)
+loop-less c = let t = item (c .before .before .before .before) in omega (arith, t .within .0, t .within .1)
 
 loop-again : tie.Need-loop-again Inv-loop μ-loop
 loop-again c =
-    let at-known = c .before .before .before in let at-loop = at-known .before .before .before .before in
+    let at-if1 = c .before .before in let at-known = at-if1 .before .before in let at-loop = at-known .before .before .before .before in
     let p = at-loop .loop .inv in
-    word-more p (item at-known) (sym (c .before .before .is-white .ensures) ∙ c .before .if1 .left) (c .with-character .ensures ∙ fed-letter _ (p .w) _ (p .stands))
+    word-more p (item at-known) (sym (at-if1 .before .is-white .ensures) ∙ at-if1 .if1 .left) (c .next2 .ensures ∙ fed-letter _ (p .w) _ _ (p .stands) (c .before .letter-of .ensures))
 
 pub integer-piece-spec : {M : Type 1} → statement M
 integer-piece-spec =
@@ -73,6 +73,7 @@ integer-piece-spec =
     (λ c. search needs)
     (λ c κs. search needs)
     returns-3
+    (λ c κs. search needs)
     (λ c κs. search needs)
     loop-less
     loop-again)
