@@ -84,7 +84,7 @@ pub data CarriedAs (number count : ℕ) (scratch : List ℤ) : Result ℕ (List 
 abbrev behind : Result ℕ (List ℤ) → Result ℕ (List ℤ) → Result ℕ (List ℤ)
 behind r t = r >>= λ x. t >>= λ y. good (x ++ y)
 
-pub bad-stays : (number later : ℕ) → 1 ≤ number → firstBad number later ≡ number
+bad-stays : (number later : ℕ) → 1 ≤ number → firstBad number later ≡ number
 unfolding firstBad
 bad-stays number later h = rw (ne-eqb number 0 (λ e. omega arith))
 
