@@ -4,7 +4,7 @@ use mathlib.Core.Option.{none, some}
 use mathlib.Core.List.{List, [], _∷_}
 use mathlib.Core.Path.{_≡_, refl}
 use Rattle.declaring.specs.Contracts.{answered}
-use Rattle.sailmortar.specs.Face.{Faced, betweenKinds, declaredNumbers, rowsOf}
+use Rattle.sailmortar.specs.Face.{Faced, betweenKinds, binaryOf, declaredNumbers, ofKind, rowsOf}
 use Rattle.declaring.specs.declared.Declared.{Declared}
 use Rattle.table.specs.Outcome.{Refusal}
 use Rattle.table.specs.Result.{Result, bad, good}
@@ -27,7 +27,23 @@ no-rows (suc zero) a b c = absurd (b refl)
 no-rows (suc (suc zero)) a b c = absurd (c refl)
 no-rows (suc (suc (suc n))) a b c = refl
 
--- ---- a call, by what its two numbers name
+pub no-binary : (n : ℕ) → (n ≡ 1 → ⊥) → (n ≡ 2 → ⊥) → binaryOf n ≡ none
+unfolding binaryOf
+no-binary zero a b = refl
+no-binary (suc zero) a b = absurd (a refl)
+no-binary (suc (suc zero)) a b = absurd (b refl)
+no-binary (suc (suc (suc n))) a b = refl
+
+-- ---- a call, by what its one number names, or its two
+
+module _ (from : ℕ) (otherwise : Faced) (call : Rows → Faced) where
+  pub of-none : binaryOf from ≡ none → ofKind (binaryOf from) otherwise call ≡ otherwise
+  unfolding ofKind
+  of-none e = rw e
+
+  pub of-binary : (source : Rows) → binaryOf from ≡ some source → ofKind (binaryOf from) otherwise call ≡ call source
+  unfolding ofKind
+  of-binary source e = rw e
 
 module _ (from to : ℕ) (otherwise : Faced) (call : Rows → Rows → Faced) where
   pub no-source : rowsOf from ≡ none → betweenKinds (rowsOf from) (rowsOf to) otherwise call ≡ otherwise

@@ -5,6 +5,8 @@ use mathlib.Core.Option.{Option, none, some}
 use lib.ListN.{length, replicate}
 use Rattle.base64.specs.Base64.{decodeCall, encodeCall}
 use Rattle.fields.specs.Fields.{declare}
+use Rattle.index.specs.Fetch.{fetch}
+use Rattle.index.specs.Index.{index}
 use Rattle.rows.specs.Convert.{convert}
 use Rattle.rows.specs.Pieces.{PieceCall, convertPiece}
 use Rattle.table.specs.Outcome.{Call, Refusal}
@@ -59,6 +61,25 @@ pieceFaced p = record { numbers = six (p .call .answer) (p .place); buffer = p .
 unfoldable pub pieceFace : List ℕ → ℕ → ℕ → List ℕ → List ℕ → Faced
 pieceFace decls from to input out =
     betweenKinds (rowsOf from) (rowsOf to) (noSuchKind 5 out) (λ source target. pieceFaced (convertPiece decls source target input out))
+
+-- ---- an index and one row by it, of BINARY and BINARY2: "beside a BINARY or BINARY2 stream"
+
+unfoldable pub binaryOf : ℕ → Option Rows
+binaryOf zero = none
+binaryOf (suc zero) = some Binary
+binaryOf (suc (suc zero)) = some Binary2
+binaryOf (suc (suc (suc n))) = none
+
+unfoldable pub ofKind : Option Rows → Faced → (Rows → Faced) → Faced
+ofKind (some from) otherwise call = call from
+ofKind none otherwise call = otherwise
+
+unfoldable pub indexFace : List ℕ → ℕ → List ℕ → List ℕ → Faced
+indexFace decls from input entries = ofKind (binaryOf from) (noSuchKind 4 entries) (λ source. faced (index decls source input entries))
+
+unfoldable pub fetchFace : List ℕ → ℕ → List ℕ → List ℕ → ℕ → ℕ → List ℕ → Faced
+fetchFace decls from input entries rows row out =
+    ofKind (binaryOf from) (noSuchKind 4 out) (λ source. faced (fetch decls source input entries rows row out))
 
 -- ---- base64
 

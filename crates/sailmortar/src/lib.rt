@@ -4,7 +4,7 @@ use convert::Piece;
 use table::Answer;
 use table::Rows;
 ghost use mathlib.Core.Path.{_≡_};
-ghost use Rattle.sailmortar.specs.Face.{convertFace, declareFace, decodeFace, encodeFace, five, pieceFace, rowsOf, six};
+ghost use Rattle.sailmortar.specs.Face.{binaryOf, convertFace, declareFace, decodeFace, encodeFace, fetchFace, five, indexFace, pieceFace, rowsOf, six};
 ghost use Rattle.sailmortar.specs.Named.{namedAs};
 
 // 01 has no number for it.
@@ -90,6 +90,61 @@ pub extern "C" fn sailmortar_convert_piece(
     };
     let piece = convert::convert_piece(decls, source, target, input, out);
     put_piece(piece, answer);
+}
+
+// BINARY or BINARY2 by its number, or none.
+fn binary_of(number: u32) -> Named
+    ensures { λ r. ⌜ namedAs r ≡ binaryOf number ⌝ }
+{
+    match number {
+        1 => Named::Known(Rows::Binary),
+        2 => Named::Known(Rows::Binary2),
+        _ => Named::Unknown,
+    }
+}
+
+// An index of a stream: `index` gets the start of row 64k at place k, and `answer` the number, the row, the column, the rows and 0.
+#[no_mangle]
+pub extern "C" fn sailmortar_index(
+    decls: &[u8],
+    from: u32,
+    input: &[u8],
+    index: &mut [u32],
+    answer: &mut [u64; 5],
+)
+    ensures numbers { λ _. ⌜ now (answer .exit) ≡ indexFace (now (decls .entry)) from (now (input .entry)) (now (index .entry)) .numbers ⌝ }
+    ensures buffer { λ _. ⌜ now (index .exit) ≡ indexFace (now (decls .entry)) from (now (input .entry)) (now (index .entry)) .buffer ⌝ }
+{
+    let Named::Known(source) = binary_of(from) else {
+        *answer = NO_SUCH_KIND;
+        return;
+    };
+    put_answer(indexing::index(decls, source, input, index), answer);
+}
+
+// One row by an index and the count of rows that came with it, as its TABLEDATA line.
+#[no_mangle]
+pub extern "C" fn sailmortar_fetch(
+    decls: &[u8],
+    from: u32,
+    input: &[u8],
+    index: &[u32],
+    rows: u64,
+    row: u64,
+    out: &mut [u8],
+    answer: &mut [u64; 5],
+)
+    ensures numbers { λ _. ⌜ now (answer .exit) ≡ fetchFace (now (decls .entry)) from (now (input .entry)) (now (index .entry)) rows row (now (out .entry)) .numbers ⌝ }
+    ensures buffer { λ _. ⌜ now (out .exit) ≡ fetchFace (now (decls .entry)) from (now (input .entry)) (now (index .entry)) rows row (now (out .entry)) .buffer ⌝ }
+{
+    let Named::Known(source) = binary_of(from) else {
+        *answer = NO_SUCH_KIND;
+        return;
+    };
+    put_answer(
+        indexing::fetch(decls, source, input, index, rows, row, out),
+        answer,
+    );
 }
 
 // Base64 to bytes.

@@ -1,0 +1,1 @@
+// What an index of a stream is, and one row fetched by it: no code.
