@@ -1,5 +1,4 @@
-// An index of a stream, and one row fetched by it: both walk rows by pass_row, and what is fetched is converted as a stream of its own.
-use convert::convert_columns;
+// An index of a stream, and a row found by it: both pass over rows.
 use declaring::front;
 use row_reading::Passed;
 use row_reading::at_end;
@@ -16,7 +15,7 @@ ghost use Rattle.table.specs.Cell.{mostElements};
 ghost use Rattle.table.specs.ColumnList.{listed};
 ghost use Rattle.table.specs.Outcome.{answerOf, bufferOf};
 ghost use Rattle.rows.specs.Bounds.{Within};
-ghost use Rattle.index.specs.Fetch.{Fetches, askedFor, fetchIndexed, fetchRow};
+ghost use Rattle.index.specs.Fetch.{fetchIndexed, fetchRow};
 ghost use Rattle.index.specs.Index.{Indexes, enter, startsOf, withoutBytes};
 ghost use mathlib.Core.List.{[]};
 ghost use Rattle.indexing.specs.Contracts.{Finds, enteredAt, hasPlace};
@@ -25,7 +24,7 @@ ghost use Rattle.indexing.specs.Contracts.{Finds, enteredAt, hasPlace};
 const SPACING: u64 = 64;
 
 // The row that is asked for: where it starts and where it ends; or the number and column of a row that does not read, itself or one before it.
-enum Wanted {
+pub enum Wanted {
     Row(usize, usize),
     Refused(u64, usize),
 }
@@ -153,7 +152,7 @@ fn within(start: usize, end: usize) -> usize
 }
 
 // The row by the index: from the start that its place holds.
-fn find_row(cols: Columns, from: Rows, s: &[u8], index: &[u32], rows: u64, row: u64) -> Wanted
+pub fn find_row(cols: Columns, from: Rows, s: &[u8], index: &[u32], rows: u64, row: u64) -> Wanted
     requires { ⌜ Within (listed cols) ⌝ }
     ensures { λ r. ⌜ Finds from (listed cols) (now (s .entry)) (λ room. fetchIndexed from (listed cols) room (now (s .entry)) (now (index .entry)) rows row) r ⌝ }
 {
@@ -168,80 +167,4 @@ fn find_row(cols: Columns, from: Rows, s: &[u8], index: &[u32], rows: u64, row: 
     let start = within(entry, s.len());
     let mut scratch = [0i64; table::MOST_ELEMENTS];
     find_from(cols, from, s, start, row % SPACING, &mut scratch)
-}
-
-// The answer for a row by its number: a refusal stands at the row asked for.
-fn asked_for(row: u64, a: Answer) -> Answer
-    ensures { λ r. ⌜ r ≡ askedFor row a ⌝ }
-{
-    if a.number == 0 {
-        return a;
-    }
-    Answer {
-        number: a.number,
-        row,
-        column: a.column,
-        rows: a.rows,
-        bytes: a.bytes,
-    }
-}
-
-// The row asked for, under a column list: its bytes are a stream of its own.
-fn fetch_row(
-    cols: Columns,
-    from: Rows,
-    s: &[u8],
-    index: &[u32],
-    rows: u64,
-    row: u64,
-    out: &mut [u8],
-) -> Answer
-    requires { ⌜ Within (listed cols) ⌝ }
-    ensures { λ r. ⌜ r ≡ askedFor row (answerOf (fetchIndexed from (listed cols) (length (now (out .entry))) (now (s .entry)) (now (index .entry)) rows row)) ⌝ }
-    ensures { λ _. ⌜ now (out .exit) ≡ bufferOf (fetchIndexed from (listed cols) (length (now (out .entry))) (now (s .entry)) (now (index .entry)) rows row) (now (out .entry)) ⌝ }
-{
-    let w = find_row(cols, from, s, index, rows, row);
-    match w {
-        Wanted::Refused(number, column) => asked_for(
-            row,
-            Answer {
-                number,
-                row: 0,
-                column: column as u64,
-                rows: 0,
-                bytes: 0,
-            },
-        ),
-        Wanted::Row(start, next) => {
-            let a = convert_columns(cols, from, Rows::TableData, &s[start..next], out);
-            asked_for(row, a)
-        }
-    }
-}
-
-// A row of the stream as its TABLEDATA line: the front of the call, then the row by the index.
-pub fn fetch(
-    decls: &[u8],
-    from: Rows,
-    input: &[u8],
-    index: &[u32],
-    rows: u64,
-    row: u64,
-    out: &mut [u8],
-) -> Answer
-    ensures { λ r. ⌜ Fetches (now (decls .entry)) from (now (input .entry)) (now (index .entry)) rows row (now (out .entry)) r (now (out .exit)) ⌝ }
-{
-    let d = front(decls, input.len());
-    let number = d.number;
-    if number != 0 {
-        return Answer {
-            number,
-            row: 0,
-            column: d.place as u64,
-            rows: 0,
-            bytes: 0,
-        };
-    }
-    let cols = d.columns;
-    fetch_row(cols, from, input, index, rows, row, out)
 }

@@ -142,7 +142,7 @@ pub extern "C" fn sailmortar_fetch(
         return;
     };
     put_answer(
-        indexing::fetch(decls, source, input, index, rows, row, out),
+        fetching::fetch(decls, source, input, index, rows, row, out),
         answer,
     );
 }

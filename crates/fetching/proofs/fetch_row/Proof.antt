@@ -1,14 +1,14 @@
--- indexing::fetch_row: a refusal on the way, or the part of the stream that is the row, converted as a stream of its own.
+-- fetching::fetch_row: a refusal on the way, or the part of the stream that is the row, converted as a stream of its own.
 use mathlib.Core.Path.{_∙_, ap, refl, subst, sym}
 use lib.ListN.{length}
 use denote.Ref.{now}
 use Rattle.index.specs.Fetch.{askedFor}
 use Rattle.indexing.specs.Contracts.{Finds}
 use Rattle.table.specs.Outcome.{Outcome, answerOf, at, bufferOf, written}
 use borrow.Author.Needs.{needs}
 use native.Mathlib.Omega.{arith}
-use Rattle.indexing.proofs.fetch_row.Statement.{statement}
-use Rattle.indexing.proofs.fetch_row.Tie as tie
+use Rattle.fetching.proofs.fetch_row.Statement.{statement}
+use Rattle.fetching.proofs.fetch_row.Tie as tie
 
 sub-convert-columns : tie.Need-sub-convert-columns
 sub-convert-columns c =

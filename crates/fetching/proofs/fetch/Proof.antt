@@ -1,4 +1,4 @@
--- indexing::fetch: the front of the call, then the row; each way out is one law of index' Calls.
+-- fetching::fetch: the front of the call, then the row; each way out is one law of index' Calls.
 use mathlib.Core.Path.{_≡_}
 use lib.ListN.{length}
 use denote.Ref.{now}
@@ -11,8 +11,8 @@ use Rattle.table.proofs.Laws.{holds-at}
 use Rattle.table.specs.ColumnList.{listed}
 use Rattle.table.specs.Result.{good}
 use borrow.Author.Needs.{needs}
-use Rattle.indexing.proofs.fetch.Statement.{statement}
-use Rattle.indexing.proofs.fetch.Tie as tie
+use Rattle.fetching.proofs.fetch.Statement.{statement}
+use Rattle.fetching.proofs.fetch.Tie as tie
 
 returns : tie.Need-returns
 returns c =

@@ -1,10 +1,10 @@
--- indexing::asked_for: number 0 leaves the answer as it is.
+-- fetching::asked_for: number 0 leaves the answer as it is.
 use mathlib.Core.Path.{refl}
 use borrow.Author.Tests.{eq-eqb, ne-eqb}
 use native.Mathlib.Omega.{arith}
 use Rattle.index.specs.Fetch.{askedFor}
-use Rattle.indexing.proofs.asked_for.Statement.{statement}
-use Rattle.indexing.proofs.asked_for.Tie as tie
+use Rattle.fetching.proofs.asked_for.Statement.{statement}
+use Rattle.fetching.proofs.asked_for.Tie as tie
 
 returns : tie.Need-returns
 unfolding askedFor
