@@ -1,3 +1,4 @@
+pub mod Indexed
 pub mod Everything
 pub mod PCases
 pub mod Night

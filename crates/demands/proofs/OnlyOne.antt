@@ -50,7 +50,7 @@ one-call from to cs input out c s =
     ap₂ (λ (a : Answer) (w : List ℕ). record { answer = a; buffer = w }) (sym (k .answers))
     (s .untouched ∙ ap (λ (n : ℕ). output c ++ drop n out) (s .bytes-are) ∙ ap (λ (w : List ℕ). w ++ drop (length w) out) (sym (k .writes)))
 
-same-refusal : (e : Refusal) (out : List ℕ) (c d : Call) → NoRows e out c → NoRows e out d → c ≡ d
+pub same-refusal : (e : Refusal) (out : List ℕ) (c d : Call) → NoRows e out c → NoRows e out d → c ≡ d
 same-refusal e out c d h k =
     ap₂ (λ (a : Answer) (w : List ℕ). record { answer = a; buffer = w }) (h .refused-at-once ∙ sym (k .refused-at-once)) (h .untouched ∙ sym (k .untouched))
 

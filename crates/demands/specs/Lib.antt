@@ -3,3 +3,4 @@ pub mod Demands
 pub mod Places
 pub mod Cases
 pub mod LineEnds
+pub mod OneRow

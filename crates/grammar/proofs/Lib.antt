@@ -21,3 +21,4 @@ pub mod Refused
 pub mod Exactly
 pub mod Cut
 pub mod Examples
+pub mod Fetched

@@ -52,7 +52,7 @@ up-to-count (suc m) finished h = absurd (not-suc-le-zero h)
 up-to-count (suc m) (stopped e) h = absurd (not-suc-le-zero h)
 up-to-count (suc m) (row xs t) h = ap suc (up-to-count m t (omega (arith, h)))
 
-behind-first : (from : Rows) (cs : List Column) (m : ℕ) (s : List ℕ) (xs : List Cell) (rest : List ℕ) → readRow from cs s ≡ good (xs, rest)
+pub behind-first : (from : Rows) (cs : List Column) (m : ℕ) (s : List ℕ) (xs : List Cell) (rest : List ℕ) → readRow from cs s ≡ good (xs, rest)
     → behindRows from cs (suc m) s ≡ behindRows from cs m rest
 unfolding behindRows behindRow
 behind-first from cs m s xs rest e = rw e
@@ -80,6 +80,17 @@ module _ (from : Rows) (cs : List Column) (i : AreColumns cs) where
         reads = rw q (read-row from cs i (k .taken ++ r .front-bytes) xs (r .front-bytes) (k .again (r .front-bytes)) ∙ ap (row xs) (r .reads ∙ ap (upTo m) (f .2)));
       }
 
+  -- the place where the first m rows end
+  pub behind-place : (m : ℕ) (s : List ℕ) → m ≤ count (read from cs s)
+      → (length (behindRows from cs m s) ≤ length s) × (drop (length s - length (behindRows from cs m s)) s ≡ behindRows from cs m s)
+  behind-place m s h =
+      let f : FrontOf m s = front-of m s (read from cs s) refl h in
+      let parts = ap length (f .whole) ∙ length-append (f .front-bytes) (behindRows from cs m s) in
+      let n : length s - length (behindRows from cs m s) ≡ length (f .front-bytes) = omega (arith, parts) in (
+        omega (arith, parts),
+        ap (λ (k : ℕ). drop k s) n ∙ ap (drop (length (f .front-bytes))) (f .whole) ∙ drop-at (f .front-bytes) (behindRows from cs m s) (length (f .front-bytes)) refl,
+      )
+
   -- the place cuts the input behind the rows done
   record CutAt (s : List ℕ) (place rows : ℕ) : Type 0 where
     before : List ℕ
@@ -97,10 +108,7 @@ module _ (from : Rows) (cs : List Column) (i : AreColumns cs) where
       }
   cut-at s (refused x r w) rows q h e =
       let f : FrontOf r s = front-of r s (read from cs s) refl (rw q h) in
-      let n : length s - length (behindRows from cs r s) ≡ length (f .front-bytes)
-      = omega (arith, ap length (f .whole), length-append (f .front-bytes) (behindRows from cs r s)) in
-      let d : drop (length s - length (behindRows from cs r s)) s ≡ behindRows from cs r s
-      = ap (λ (k : ℕ). drop k s) n ∙ ap (drop (length (f .front-bytes))) (f .whole) ∙ drop-at (f .front-bytes) (behindRows from cs r s) (length (f .front-bytes)) refl in
+      let d = behind-place r s (rw q h) .1 in
       record {
         before = f .front-bytes;
         whole = f .whole ∙ ap (λ (x : List ℕ). f .front-bytes ++ x) (sym d);

@@ -1,2 +1,3 @@
 pub mod Starts
+pub mod Entries
 pub mod Calls

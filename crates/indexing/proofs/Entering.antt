@@ -8,7 +8,8 @@ use mathlib.Core.Path.{_∙_, _≡_, ap, refl, sym}
 use lib.Dec.{eqb, ltb}
 use lib.ListN.{drop, getD, length, length-append, length-drop, length-set, set}
 use lib.Seq.{drop-cons, set-at, set-out}
-use borrow.Author.Tests.{eqb-false, eqb-true, le-ltb, lt-ltb, ltb-false, ltb-true}
+use borrow.Author.Tests.{eqb-false, eqb-true, ltb-false, ltb-true}
+use Rattle.index.proofs.Entries.{entry-fits, entry-lacks, no-entry-fits}
 use Rattle.index.proofs.Starts.{starts-step}
 use Rattle.index.specs.Index.{enter, entryOf, rowStart, startsOf, withoutBytes}
 use Rattle.indexing.specs.Contracts.{enteredAt, hasPlace}
@@ -46,10 +47,6 @@ module _ (rows start : ℕ) (entry entries buffer : List ℕ) (k : Entered rows 
     between : (rows % 64 ≡ 0) → ⊥
     between = eqb-false (rows % 64) 0 e
 
-    none-fits : fitted (length entry) entries (good (entryOf rows start)) ≡ good (entries ++ entryOf rows start)
-    unfolding fitted entryOf
-    none-fits = rw (e, append-nil entries, le-ltb (length entry) (length entries) (k .room))
-
     none-entered : Entered (rows + 1) entry (entries ++ entryOf rows start) (enteredAt rows start buffer)
     unfolding entryOf
     none-entered = rw (e, append-nil entries) (record { many = omega (arith, k .many, between); room = k .room; stand = k .stand })
@@ -59,21 +56,13 @@ module _ (rows start : ℕ) (entry entries buffer : List ℕ) (k : Entered rows 
     here : rows / 64 ≡ length entries
     here = omega (arith, k .many, eqb-true (rows % 64) 0 e)
 
-    one-longer : length (entries ++ (start ∷ [])) ≡ length entries + 1
-    one-longer = length-append entries (start ∷ [])
-
-    one-fits : rows / 64 < length buffer → fitted (length entry) entries (good (entryOf rows start)) ≡ good (entries ++ entryOf rows start)
-    unfolding fitted entryOf
-    one-fits h = rw (e, le-ltb (length entry) (length (entries ++ (start ∷ []))) (omega (arith, one-longer, here, long, h)))
-
-    one-lacks : length buffer ≤ rows / 64 → fitted (length entry) entries (good (entryOf rows start)) ≡ bad (at 0 17)
-    unfolding fitted entryOf
-    one-lacks h = rw (e, lt-ltb (length entry) (length (entries ++ (start ∷ []))) (omega (arith, one-longer, here, long, h)))
+    one-more : length (entries ++ (start ∷ [])) ≡ length entries + 1
+    one-more = length-append entries (start ∷ [])
 
     one-stands : rows / 64 < length buffer → set buffer (rows / 64) start ≡ (entries ++ (start ∷ [])) ++ drop (length (entries ++ (start ∷ []))) entry
     one-stands h =
         let n : ℕ = length entries in
-        let longer : suc n ≡ length (entries ++ (start ∷ [])) = omega (arith, one-longer) in
+        let longer : suc n ≡ length (entries ++ (start ∷ [])) = omega (arith, one-more) in
         let split : buffer ≡ entries ++ (getD entry n 0 ∷ drop (suc n) entry)
         = k .stand ∙ ap (λ (t : List ℕ). entries ++ t) (drop-cons entry n 0 (omega (arith, here, long, h))) in
         ap (λ (l : List ℕ). set l (rows / 64) start) split ∙ set-at entries (getD entry n 0) (drop (suc n) entry) start (rows / 64) (sym here)
@@ -82,8 +71,8 @@ module _ (rows start : ℕ) (entry entries buffer : List ℕ) (k : Entered rows 
     one-entered : rows / 64 < length buffer → Entered (rows + 1) entry (entries ++ entryOf rows start) (enteredAt rows start buffer)
     unfolding entryOf
     one-entered h = rw e (record {
-      many = omega (arith, one-longer, k .many, eqb-true (rows % 64) 0 e);
-      room = omega (arith, one-longer, here, long, h);
+      many = omega (arith, one-more, k .many, eqb-true (rows % 64) 0 e);
+      room = omega (arith, one-more, here, long, h);
       stand = one-stands h;
     })
 
@@ -92,8 +81,8 @@ module _ (rows start : ℕ) (entry entries buffer : List ℕ) (k : Entered rows 
     where
       cases : (b : Bool) → eqb (rows % 64) 0 ≡ b → cond b (ltb (rows / 64) (length buffer)) true ≡ true
           → fitted (length entry) entries (good (entryOf rows start)) ≡ good (entries ++ entryOf rows start)
-      cases true e h = one-fits e (ltb-true (rows / 64) (length buffer) h)
-      cases false e h = none-fits e
+      cases true e h = entry-fits (length entry) rows start entries (k .room) e (omega (arith, here e, long, ltb-true (rows / 64) (length buffer) h))
+      cases false e h = no-entry-fits (length entry) rows start entries (k .room) e
 
   entered : hasPlace rows buffer ≡ true → Entered (rows + 1) entry (entries ++ entryOf rows start) (enteredAt rows start buffer)
   entered = cases (eqb (rows % 64) 0) refl
@@ -110,7 +99,7 @@ module _ (rows start : ℕ) (entry entries buffer : List ℕ) (k : Entered rows 
           → (fitted (length entry) entries (good (entryOf rows start)) ≡ bad (at 0 17)) × (enteredAt rows start buffer ≡ buffer)
       cases true e h =
           let none : length buffer ≤ rows / 64 = ltb-false (rows / 64) (length buffer) h in
-          (one-lacks e none, rw e (set-out buffer (rows / 64) start none))
+          (entry-lacks (length entry) rows start entries (k .room) e (omega (arith, here e, long, none)), rw e (set-out buffer (rows / 64) start none))
       cases false e h = absurd (false≢true (sym h))
 
 -- ---- the loop
