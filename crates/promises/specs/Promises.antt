@@ -8,6 +8,7 @@ use mathlib.Core.Path.{_≡_}
 use lib.Dec.{eqb}
 use lib.ListN.{drop, getD, length}
 use Rattle.demands.specs.Demands.{Accepted, Comes, Ended, SameFate, Stream, output}
+use Rattle.demands.specs.OneRow.{FetchEnded, FetchesAlike, IndexEnded, StopsAsConverted}
 use Rattle.demands.specs.Places.{showsAt}
 use Rattle.demands.specs.Tables.{lines, upTo}
 use Rattle.fields.specs.Fields.{declare}
@@ -17,7 +18,7 @@ use Rattle.grammar.specs.Declarations.{Declares}
 use Rattle.grammar.specs.Exact.{Answers, CutFile, InGrammar, NotDecoded, Refuses, tableOf}
 use Rattle.grammar.specs.Valid.{Spells}
 use Rattle.rows.specs.Stream.{read}
-use Rattle.sailmortar.specs.Face.{rowsOf}
+use Rattle.sailmortar.specs.Face.{binaryOf, rowsOf}
 use Rattle.table.specs.All.{AreBytes}
 use Rattle.table.specs.Cell.{Cell}
 use Rattle.table.specs.LineEnds.{lineEnds}
@@ -208,3 +209,28 @@ joinedCall c d out =
 abbrev pub OneByTwo : (decls input : List ℕ) (first : Call) (rest : List ℕ) (second : Call) (out : List ℕ) (whole : Call) → Rows → Rows → Type 0
 OneByTwo decls input first rest second out whole from to =
     (cs : List Column) → Declares decls cs → length input ≤ 1073741824 → length out ≡ first .answer .bytes + length rest → whole ≡ joinedCall first second out
+
+-- ---- one row by an index
+
+-- what holds of BINARY or BINARY2, as a number names them
+abbrev pub OfBinary : ℕ → (Rows → Type 0) → Type 0
+OfBinary from P = (source : Rows) → binaryOf from ≡ some source → P source
+
+-- a number that names neither: 255 and zeros, and what was lent is untouched
+abbrev pub NotBinary : ℕ → List ℕ → List ℕ → List ℕ → Type 0
+NotBinary from lent numbers exit = binaryOf from ≡ none → (numbers ≡ 255 ∷ 0 ∷ 0 ∷ 0 ∷ 0 ∷ []) × (exit ≡ lent)
+
+-- 02, #101: "keep, beside a BINARY or BINARY2 stream, an index in a lent buffer of 32-bit numbers: place k holds the start of row 64k"
+pub record Indexed (decls input entry : List ℕ) (c : Call) (from : Rows) : Type 0 where
+  -- which rows are counted, which places are filled, and why it ended there
+  pub ended : IndexEnded (declare decls) from input entry c
+  -- "A stream that is refused in reading gets the same refusal while indexing."
+  pub stops : StopsAsConverted decls from input entry c
+
+-- "Fetching a row with the index that was built from that stream and those declarations"
+abbrev pub FetchedRow : List ℕ → List ℕ → ℕ → ℕ → List ℕ → Call → Rows → Type 0
+FetchedRow decls input rows row out d from = FetchEnded (declare decls) decls from input rows row out d
+
+-- two fetches that look at the same
+abbrev pub SameFetched : List ℕ → List ℕ → List ℕ → List ℕ → List ℕ → ℕ → List ℕ → List ℕ → Call → Call → Rows → Type 0
+SameFetched decls input other index others row out room c d from = FetchesAlike decls from input other index others row out room c d
