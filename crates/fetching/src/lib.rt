@@ -1,8 +1,8 @@
 // One row of a stream by an index: the part of the stream that is the row, converted as a stream of its own.
 use convert::convert_columns;
 use declaring::front;
-use indexing::Wanted;
-use indexing::find_row;
+use finding::Wanted;
+use finding::find_row;
 use table::Answer;
 use table::Columns;
 use table::Rows;
@@ -45,16 +45,16 @@ fn fetch_row(
 {
     let w = find_row(cols, from, s, index, rows, row);
     match w {
-        Wanted::Refused(number, column) => asked_for(
-            row,
-            Answer {
+        Wanted::Refused(number, column) => {
+            let refused = Answer {
                 number,
                 row: 0,
                 column: column as u64,
                 rows: 0,
                 bytes: 0,
-            },
-        ),
+            };
+            asked_for(row, refused)
+        }
         Wanted::Row(start, next) => {
             let a = convert_columns(cols, from, Rows::TableData, &s[start..next], out);
             asked_for(row, a)

@@ -1,3 +1,4 @@
+pub mod Examples
 pub mod Starts
 pub mod Entries
 pub mod Calls

@@ -3,7 +3,7 @@ use mathlib.Core.Path.{_∙_, ap, refl, subst, sym}
 use lib.ListN.{length}
 use denote.Ref.{now}
 use Rattle.index.specs.Fetch.{askedFor}
-use Rattle.indexing.specs.Contracts.{Finds}
+use Rattle.finding.specs.Contracts.{Finds}
 use Rattle.table.specs.Outcome.{Outcome, answerOf, at, bufferOf, written}
 use borrow.Author.Needs.{needs}
 use native.Mathlib.Omega.{arith}

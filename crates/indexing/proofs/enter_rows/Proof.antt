@@ -43,11 +43,13 @@ left c = sym (c .before .at-end .ensures) ∙ not-true _ (c .if1 .taken)
 
 returns : tie.Need-returns Inv-loop μ-loop
 returns c =
-    let l = c .before .before .before .before .before .before .before .before in
+    let passing = c .before .before .before .before .before in
+    let l = passing .before .before .before .before in
     let a = l .before .before .before in
-    let h = subst (PassesRow _ _ _) (c .before .p .given .1) (c .before .before .before .before .pass-row .ensures .0) in
-    enter-stop (a .args .from) (listed (a .args .cols)) (now (a .args .s)) (now (a .args .index)) (a .pre .0) (l .loop .at) (l .loop .rows) (l .loop .index) (l .loop .inv .0)
-    (left (c .before .before .before .before .before .before)) _ _ h
+    let h = subst (PassesRow _ _ _) (c .before .before .p .given .1) (passing .pass-row .ensures .0) in
+    let g = enter-stop (a .args .from) (listed (a .args .cols)) (now (a .args .s)) (now (a .args .index)) (a .pre .0) (l .loop .at) (l .loop .rows) (l .loop .index) (l .loop .inv .0)
+    (left (passing .before .before)) _ _ h in
+    (c .stop .ensures ∙ g .0, g .1)
 
 cast-enter : tie.Need-cast-enter Inv-loop μ-loop
 cast-enter c =
@@ -55,31 +57,34 @@ cast-enter c =
     record { fits = omega (arith, l .loop .inv .0 .inside, l .before .before .before .pre .1) }
 
 same-length : tie.Need-same-length Inv-loop μ-loop
-same-length c = entered-long (c .before .before .before .before .before .before .before .before .loop .inv .0 .so-far)
+same-length c = entered-long (c .before .before .before .before .before .before .before .before .before .loop .inv .0 .so-far)
 
 same-length-2 : tie.Need-same-length-2 Inv-loop μ-loop
-same-length-2 c = c .before .before .before .before .pass-row .ensures .1 ∙ c .before .before .before .before .before .before .before .before .loop .inv .1
+same-length-2 c =
+    let passing = c .before .before .before .before .before in
+    passing .pass-row .ensures .1 ∙ passing .before .before .before .before .loop .inv .1
 
 same-length-3 : tie.Need-same-length-3 Inv-loop μ-loop
 same-length-3 c =
-    let l = c .before .before .before .before .before .before .before .before .before .before .before .before .before in
-    ap length (c .before .before .before .enter .ensures .1) ∙ entered-at-long (l .loop .rows) (l .loop .at) (l .loop .index) ∙ entered-long (l .loop .inv .0 .so-far)
+    let entering = c .before .before .before .before in
+    let l = entering .before .before .before .before .before .before .before .before .before .before in
+    ap length (entering .enter .ensures .1) ∙ entered-at-long (l .loop .rows) (l .loop .at) (l .loop .index) ∙ entered-long (l .loop .inv .0 .so-far)
 
 same-length-4 : tie.Need-same-length-4 Inv-loop μ-loop
 same-length-4 c =
-    let l = c .before .before .before .before .before .before .before .before .before .before .before .before .before in
-    c .before .before .before .before .before .before .before .before .before .pass-row .ensures .1 ∙ l .loop .inv .1
+    let passing = c .before .before .before .before .before .before .before .before .before .before in
+    passing .pass-row .ensures .1 ∙ passing .before .before .before .before .loop .inv .1
 
 returns-2 : tie.Need-returns-2 Inv-loop μ-loop
 returns-2 c =
-    let entering = c .before .before .before in
+    let entering = c .before .before .before .before in
     let passing = entering .before .before .before .before .before .before in
     let l = passing .before .before .before .before in
     let a = l .before .before .before in
     let h = subst (PassesRow _ _ _) (entering .before .before .before .p2 .given .1) (passing .pass-row .ensures .0) in
     let g = enter-lacks (a .args .from) (listed (a .args .cols)) (now (a .args .s)) (now (a .args .index)) (a .pre .0) (l .loop .at) (l .loop .rows) (l .loop .index) (l .loop .inv .0)
-    (left (passing .before .before)) (h .0) (entering .before .before .before .p2 .given .0 .0) (h .1) (sym (entering .enter .ensures .0) ∙ not-true _ (c .if2 .taken)) in
-    (g .0, entering .enter .ensures .1 ∙ g .1)
+    (left (passing .before .before)) (h .0) (entering .before .before .before .p2 .given .0 .0) (h .1) (sym (entering .enter .ensures .0) ∙ not-true _ (c .before .if2 .taken)) in
+    (c .stop2 .ensures ∙ g .0, entering .enter .ensures .1 ∙ g .1)
 
 add-rows : tie.Need-add-rows Inv-loop μ-loop
 add-rows c =
@@ -131,11 +136,13 @@ enter-rows-spec =
     at-end-requires
     pass-row-requires
     (λ c. search needs)
+    (λ c κs. search needs)
     same-length
     same-length-2
     returns
     (λ c. search needs)
     cast-enter
+    (λ c κs. search needs)
     (λ c κs. search needs)
     same-length-3
     same-length-4

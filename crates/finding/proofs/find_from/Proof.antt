@@ -1,15 +1,15 @@
--- indexing::find_from: the loop over the rows before it (Skipped: what is fetched is what is fetched from here, behind those that are left), then the row;
+-- finding::find_from: the loop over the rows before it (Skipped: what is fetched is what is fetched from here, behind those that are left), then the row;
 -- each way out is one law of Finding.
 use mathlib.Core.Path.{_∙_, _≡_, refl, subst}
 use lib.ListN.{length}
 use denote.Ref.{now}
-use Rattle.indexing.proofs.Finding.{Skipped, find-stop, find-there, skip-more, skip-start, skip-stop}
+use Rattle.finding.proofs.Finding.{Skipped, find-stop, find-there, skip-more, skip-start, skip-stop}
 use Rattle.row_reading.specs.Contracts.{PassesRow}
 use Rattle.table.specs.ColumnList.{listed}
 use borrow.Author.Needs.{needs}
 use native.Mathlib.Omega.{arith}
-use Rattle.indexing.proofs.find_from.Statement.{statement}
-use Rattle.indexing.proofs.find_from.Tie as tie
+use Rattle.finding.proofs.find_from.Statement.{statement}
+use Rattle.finding.proofs.find_from.Tie as tie
 
 abbrev Inv-loop : tie.InvT-loop
 Inv-loop cols from s start before scratch₀ place₀ left₀ scratch place left = Skipped from (listed cols) s start before place left × (length scratch ≡ length scratch₀)

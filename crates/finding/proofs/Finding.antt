@@ -9,8 +9,8 @@ use lib.Dec.{ltb}
 use lib.ListN.{drop, drop-of-length-le, getD, length, length-drop, take}
 use borrow.Author.Tests.{le-ltb, lt-ltb, ltb-false, ltb-true}
 use Rattle.index.specs.Fetch.{behindThe, fetchIndexed, fetchRow, isIndexed}
-use Rattle.indexing.specs.Contracts.{Finds}
-use Rattle.indexing.specs.declared.Wanted.{Wanted}
+use Rattle.finding.specs.Contracts.{Finds}
+use Rattle.finding.specs.declared.Wanted.{Wanted}
 use Rattle.rows.specs.Stream.{readRow, run}
 use Rattle.table.proofs.Laws.{cond-cases}
 use Rattle.table.specs.Cell.{Cell}

@@ -1,14 +1,14 @@
--- indexing::find_row: past the end, without a place, or from the start that its place holds; each way is one law of Finding.
+-- finding::find_row: past the end, without a place, or from the start that its place holds; each way is one law of Finding.
 use Prim.Native.Nat.{_/_, _≤_, ℕ}
 use mathlib.Core.Path.{_∙_, ap, subst⁻¹}
 use lib.ListN.{drop, getD, length}
 use denote.Ref.{now}
-use Rattle.indexing.proofs.Finding.{by-entry, no-entry, past-end, within-end, within-inside}
+use Rattle.finding.proofs.Finding.{by-entry, no-entry, past-end, within-end, within-inside}
 use Rattle.table.specs.ColumnList.{listed}
 use borrow.Author.Needs.{needs}
 use native.Mathlib.Omega.{arith}
-use Rattle.indexing.proofs.find_row.Statement.{statement}
-use Rattle.indexing.proofs.find_row.Tie as tie
+use Rattle.finding.proofs.find_row.Statement.{statement}
+use Rattle.finding.proofs.find_row.Tie as tie
 
 returns : tie.Need-returns
 returns c =

@@ -1,9 +1,9 @@
--- indexing::within: the lesser of the two.
+-- finding::within: the lesser of the two.
 use borrow.Author.Tests.{le-ltb, lt-ltb}
 use mathlib.Core.Path.{refl}
 use native.Mathlib.Omega.{arith}
-use Rattle.indexing.proofs.within.Statement.{statement}
-use Rattle.indexing.proofs.within.Tie as tie
+use Rattle.finding.proofs.within.Statement.{statement}
+use Rattle.finding.proofs.within.Tie as tie
 
 returns : tie.Need-returns
 returns c = rw (lt-ltb (c .before .args .start) (c .before .args .end) (omega arith)) refl
