@@ -8,7 +8,7 @@ use mathlib.Core.Path.{_≡_}
 use lib.Dec.{eqb}
 use lib.ListN.{length, length-append}
 use borrow.Author.Tests.{le-ltb, lt-ltb}
-use Rattle.index.specs.Index.{entryOf}
+use Rattle.index.specs.Index.{entryOf, spacing}
 use Rattle.rows.specs.Stream.{fitted}
 use Rattle.table.specs.Outcome.{at}
 use Rattle.table.specs.Result.{bad, good}
@@ -17,14 +17,14 @@ module _ (room row start : ℕ) (entries : List ℕ) (fit : length entries ≤ r
   one-longer : length (entries ++ (start ∷ [])) ≡ length entries + 1
   one-longer = length-append entries (start ∷ [])
 
-  pub no-entry-fits : eqb (row % 64) 0 ≡ false → fitted room entries (good (entryOf row start)) ≡ good (entries ++ entryOf row start)
+  pub no-entry-fits : eqb (row % spacing) 0 ≡ false → fitted room entries (good (entryOf row start)) ≡ good (entries ++ entryOf row start)
   unfolding fitted entryOf
   no-entry-fits e = rw (e, append-nil entries, le-ltb room (length entries) fit)
 
-  pub entry-fits : eqb (row % 64) 0 ≡ true → length entries < room → fitted room entries (good (entryOf row start)) ≡ good (entries ++ entryOf row start)
+  pub entry-fits : eqb (row % spacing) 0 ≡ true → length entries < room → fitted room entries (good (entryOf row start)) ≡ good (entries ++ entryOf row start)
   unfolding fitted entryOf
   entry-fits e h = rw (e, le-ltb room (length (entries ++ (start ∷ []))) (omega (arith, one-longer, h)))
 
-  pub entry-lacks : eqb (row % 64) 0 ≡ true → room ≤ length entries → fitted room entries (good (entryOf row start)) ≡ bad (at 0 17)
+  pub entry-lacks : eqb (row % spacing) 0 ≡ true → room ≤ length entries → fitted room entries (good (entryOf row start)) ≡ bad (at 0 17)
   unfolding fitted entryOf
   entry-lacks e h = rw (e, lt-ltb room (length (entries ++ (start ∷ []))) (omega (arith, one-longer, h)))
