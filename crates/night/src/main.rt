@@ -2,7 +2,9 @@
 // The cases stand in `stdin`, each a title, a way, the declarations and an input in base64, with `|` behind each. A way is a letter, the two
 // kinds of rows and the room: `c` is one call, `w` one that tells where the rows done end, `p` a call for every prefix of the input, `r` one for
 // every room up to the one given, `d` the declarations alone, `e` the input encoded. A line has the numbers of the answer, a sum over every byte
-// of the buffer, which held 238 before the call, and the first bytes written.
+// of the buffer, which held 238 before the call, and the first bytes written. `i` is an index, and a row fetched by it: the second digit is how
+// many places the index has, which held 4008636142, and in the place of the room stands the row. Its line has the numbers of the index's answer
+// and its places first, then those of the fetch, into 100 bytes.
 ghost use Prim.Native.Nat.{_<_, _≤_};
 ghost use lib.ListN.{length};
 ghost use Rattle.night.specs.Places.{Behind};
@@ -127,6 +129,42 @@ fn encode(input: &[u8], out: &mut [u8]) {
     say_bytes(out, answer[4] as usize);
 }
 
+fn say_places(index: &[u32]) {
+    say(b" starts");
+    let mut k: usize = 0;
+    while k < index.len() {
+        say_number(index[k] as u64);
+        k += 1;
+    }
+}
+
+fn fetch(decls: &[u8], from: u32, input: &[u8], index: &[u32], rows: u64, row: u64) {
+    let mut out = [238u8; 100];
+    let mut answer = [9u64; 5];
+    sailmortar::sailmortar_fetch(decls, from, input, index, rows, row, &mut out, &mut answer);
+    say(b" fetched");
+    say_answer(&answer);
+    say_sum(&out);
+    say_bytes(&out, answer[4] as usize);
+}
+
+fn index_in(decls: &[u8], from: u32, input: &[u8], index: &mut [u32], row: u64) {
+    let mut answer = [9u64; 5];
+    sailmortar::sailmortar_index(decls, from, input, index, &mut answer);
+    say_answer(&answer);
+    say_places(index);
+    fetch(decls, from, input, index, answer[3], row);
+}
+
+// An index of so many places, and a row by it.
+fn index_of(decls: &[u8], from: u32, places: usize, input: &[u8], row: u64) {
+    let mut index = [4008636142u32; 9];
+    if 9 < places {
+        return;
+    }
+    index_in(decls, from, input, &mut index[..places], row);
+}
+
 fn call(letter: u8, decls: &[u8], from: u32, to: u32, input: &[u8], out: &mut [u8]) {
     match letter {
         b'p' => convert_prefixes(decls, from, to, input, out),
@@ -134,6 +172,7 @@ fn call(letter: u8, decls: &[u8], from: u32, to: u32, input: &[u8], out: &mut [u
         b'w' => convert_piece(decls, from, to, input, out),
         b'd' => declare(decls),
         b'e' => encode(input, out),
+        b'i' => index_of(decls, from, to as usize, input, out.len() as u64),
         _ => convert(decls, from, to, input, out),
     }
 }
