@@ -1,13 +1,14 @@
 /*
- * Sailmortar: rows of VOTable tables between TABLEDATA, BINARY and BINARY2, any to any, and base64.
+ * Sailmortar: rows of VOTable tables between TABLEDATA, BINARY and BINARY2, any to any, and base64; and one row of a long stream by an index.
  *
  * Link target/library/libsailmortar.a, or libsailmortar.so beside it; once installed, what `pkg-config --cflags --libs sailmortar` says.
  * All functions but sailmortar_version are proved: whatever bytes come in, the answer is rows or one numbered refusal with its row and
  * column, the good rows before it stand whole in the output, and every byte of the output after them is as it was. They allocate nothing,
  * keep nothing between calls, may be called from several threads at once, and use less than 100 KB of stack.
  *
- * What the caller sees to: a length is the number of bytes behind its pointer; a pointer may be null where its length is 0, `answer` never;
- * `out` and `answer` overlap nothing else; no length is over PTRDIFF_MAX.
+ * What the caller sees to: a length is the number of bytes behind its pointer, of an index the number of its 32-bit numbers; a pointer may be
+ * null where its length is 0, `answer` never; `out`, an index that is filled and `answer` overlap nothing else; no length is over PTRDIFF_MAX
+ * bytes.
  */
 #ifndef SAILMORTAR_H
 #define SAILMORTAR_H
@@ -71,9 +72,10 @@ enum {
     SAILMORTAR_EMPTY_HAS_NO_FORM = 14,     /* empty but not null, and the target has no form for it */
     SAILMORTAR_NULL_HAS_NO_FORM = 15,      /* null, and the target has no form for it */
     SAILMORTAR_CHARACTER_HAS_NO_FORM = 16, /* a character that has no XML form */
-    SAILMORTAR_NO_ROOM = 17,               /* the row, or the base64 result, is longer than the room left */
+    SAILMORTAR_NO_ROOM = 17,               /* the row, or the base64 result, is longer than the room left, or an index has no place left */
     SAILMORTAR_OUT_OF_RANGE = 18,          /* an integer outside its kind's range */
-    SAILMORTAR_NO_SUCH_KIND = 255          /* `from` or `to` is none of 0, 1 and 2; nothing else is judged */
+    SAILMORTAR_PAST_THE_END = 20,          /* a row that the stream, or its index, does not have */
+    SAILMORTAR_NO_SUCH_KIND = 255          /* `from` or `to` is none of 0, 1 and 2, for an index none of 1 and 2; nothing else is judged */
 };
 
 /*
@@ -103,6 +105,32 @@ void sailmortar_base64_encode(const uint8_t *input, size_t input_length, uint8_t
 
 /* Judges declarations alone, and counts their columns. */
 void sailmortar_declare(const uint8_t *decls, size_t decls_length, uint64_t answer[5]);
+
+/* How many rows stand from one start in an index to the next. */
+enum {
+    SAILMORTAR_ROWS_PER_START = 64
+};
+
+/*
+ * Where every 64th row of a stream of BINARY or BINARY2 begins: place k of `index` gets the start of row 64k, as a byte of `input`. At
+ * SAILMORTAR_ROWS the answer has how many rows were read, which sailmortar_fetch takes with the index; at SAILMORTAR_BYTES it has 0. A stream
+ * that does not read is refused as in sailmortar_convert. Place k is filled once row 64k is read; every other place is as it was. A row 64k for
+ * which there is no place k is SAILMORTAR_NO_ROOM, at column 0. (input_length + 63) / 64 places are room enough.
+ */
+void sailmortar_index(const uint8_t *decls, size_t decls_length, uint32_t from, const uint8_t *input, size_t input_length, uint32_t *index,
+                      size_t index_length, uint64_t answer[5]);
+
+/*
+ * One row of such a stream as a line of TABLEDATA, by the index and the rows that sailmortar_index gave for the same stream and declarations: what
+ * converting that row alone gives. A refusal stands at the row asked for, and `out` is as it was: SAILMORTAR_PAST_THE_END where the stream has no
+ * such row, what the row is refused with where it has no form in TABLEDATA, SAILMORTAR_NO_ROOM where its line does not fit.
+ *
+ * What is answered depends, of `input`, only on its length and on the bytes from the start at place row / 64 to the row's end, and, of `index`, only
+ * on its length and that place. So a stream in a file need not be read whole: all else may be zeros. With an index of another stream it is some row,
+ * or a refusal.
+ */
+void sailmortar_fetch(const uint8_t *decls, size_t decls_length, uint32_t from, const uint8_t *input, size_t input_length, const uint32_t *index,
+                      size_t index_length, uint64_t rows, uint64_t row, uint8_t *out, size_t out_length, uint64_t answer[5]);
 
 #ifdef __cplusplus
 }

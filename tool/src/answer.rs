@@ -5,6 +5,7 @@ use std::fmt;
 use std::io;
 
 use crate::numbers::meaning;
+use crate::Misfit;
 
 /// A kind of rows.
 #[derive(Clone, Copy, Debug, PartialEq, Eq)]
@@ -28,6 +29,10 @@ impl Rows {
             Rows::Binary => 1,
             Rows::Binary2 => 2,
         }
+    }
+
+    pub(crate) fn numbered(number: u32) -> Option<Rows> {
+        Rows::ALL.iter().copied().find(|rows| rows.number() == number)
     }
 
     /// The kind of this name (`tabledata`, `binary` or `binary2`, in any capitals).
@@ -55,9 +60,9 @@ impl fmt::Display for Rows {
 #[derive(Clone, Copy, Debug, PartialEq, Eq, Default)]
 #[non_exhaustive]
 pub struct Done {
-    /// How many rows were read and written; 0 for a base64 step.
+    /// How many rows were read and written, or read for an index; 0 for a base64 step.
     pub rows: u64,
-    /// How many bytes were written; every byte of a lent buffer after them is as it was.
+    /// How many bytes were written, none for an index; every byte of a lent buffer after them is as it was.
     pub bytes: u64,
 }
 
@@ -71,16 +76,21 @@ pub struct Refused {
     pub row: u64,
     /// The refused column, from 0; for refusals 1 to 5 the number of whole FIELDs before the refused element.
     pub column: u64,
-    /// How many rows before the refused one are written whole.
+    /// How many rows before the refused one are written whole, or read for an index; 0 where one row was asked for.
     pub rows: u64,
     /// How many bytes they take; every byte of a lent buffer after them is as it was.
     pub bytes: u64,
     /// Where in the input those rows end and the refused row begins. White space before a row of TABLEDATA belongs to that row. It is 0 where
-    /// no row was read (1 to 7).
+    /// no row was read (1 to 7), and where one row was asked for.
     pub offset: usize,
 }
 
 impl Refused {
+    /// Whether a row is refused, and not declarations, a size, base64 or a kind, which are judged before any row.
+    pub(crate) fn is_of_a_row(&self) -> bool {
+        !matches!(self.number, 1..=7 | 255)
+    }
+
     /// What the number means, in a line.
     pub fn meaning(&self) -> &'static str {
         meaning(self.number).unwrap_or("no refusal of this number is known")
@@ -95,7 +105,7 @@ impl fmt::Display for Refused {
                 let whole = if *column == 1 { "FIELD" } else { "FIELDs" };
                 write!(f, "refusal {number} in the declarations, at the element after {column} whole {whole}: {}", self.meaning())
             }
-            6 | 7 => write!(f, "refusal {number}: {}", self.meaning()),
+            6 | 7 | 255 => write!(f, "refusal {number}: {}", self.meaning()),
             _ => write!(f, "refusal {number} at row {row}, column {column}: {}", self.meaning()),
         }
     }
@@ -111,6 +121,8 @@ pub enum Error {
     Refused(Refused),
     /// The system said no: there is no memory, or a reader or a writer failed.
     System(io::Error),
+    /// An index is none, or not of this stream under these declarations, and is not used.
+    Misfit(Misfit),
 }
 
 impl Error {
@@ -118,7 +130,7 @@ impl Error {
     pub fn refused(&self) -> Option<&Refused> {
         match self {
             Error::Refused(refused) => Some(refused),
-            Error::System(_) => None,
+            Error::System(_) | Error::Misfit(_) => None,
         }
     }
 }
@@ -128,6 +140,7 @@ impl fmt::Display for Error {
         match self {
             Error::Refused(refused) => refused.fmt(f),
             Error::System(cause) => cause.fmt(f),
+            Error::Misfit(misfit) => misfit.fmt(f),
         }
     }
 }
@@ -138,6 +151,7 @@ impl std::error::Error for Error {
         match self {
             Error::Refused(refused) => refused.source(),
             Error::System(cause) => cause.source(),
+            Error::Misfit(misfit) => misfit.source(),
         }
     }
 }
@@ -145,6 +159,12 @@ impl std::error::Error for Error {
 impl From<Refused> for Error {
     fn from(refused: Refused) -> Error {
         Error::Refused(refused)
+    }
+}
+
+impl From<Misfit> for Error {
+    fn from(misfit: Misfit) -> Error {
+        Error::Misfit(misfit)
     }
 }
 

@@ -16,4 +16,28 @@ extern "C" {
     pub fn sailmortar_base64_decode(input: *const u8, input_length: usize, out: *mut u8, out_length: usize, answer: *mut [u64; 5]);
     pub fn sailmortar_base64_encode(input: *const u8, input_length: usize, out: *mut u8, out_length: usize, answer: *mut [u64; 5]);
     pub fn sailmortar_declare(decls: *const u8, decls_length: usize, answer: *mut [u64; 5]);
+    pub fn sailmortar_index(
+        decls: *const u8,
+        decls_length: usize,
+        from: u32,
+        input: *const u8,
+        input_length: usize,
+        index: *mut u32,
+        index_length: usize,
+        answer: *mut [u64; 5],
+    );
+    pub fn sailmortar_fetch(
+        decls: *const u8,
+        decls_length: usize,
+        from: u32,
+        input: *const u8,
+        input_length: usize,
+        index: *const u32,
+        index_length: usize,
+        rows: u64,
+        row: u64,
+        out: *mut u8,
+        out_length: usize,
+        answer: *mut [u64; 5],
+    );
 }

@@ -31,6 +31,9 @@ mod answer;
 mod base64;
 mod columns;
 mod face;
+mod index;
+mod index_file;
+mod indexed_rows;
 mod numbers;
 mod pieces;
 #[allow(unsafe_code)]
@@ -40,9 +43,12 @@ mod stream;
 pub use answer::{Done, Error, Refused, Rows};
 pub use base64::{base64_decode_to_vec, base64_encode_to_vec, Base64Writer};
 pub use columns::{columns, element, Column, Element, Kind, Length};
+pub use index::{Index, Indexed, Stopped, ROWS_PER_START};
+pub use index_file::Misfit;
+pub use indexed_rows::IndexedRows;
 pub use numbers::{meaning, Number, NUMBERS};
 pub use pieces::{convert_pieces, convert_to_vec, Piece};
-pub use proved::{base64_decode, base64_encode, convert, declare};
+pub use proved::{base64_decode, base64_encode, convert, declare, fetch, index};
 pub use stream::{base64_decode_stream, base64_encode_stream, convert_stream, read_input, within_limit, ROOM};
 
 /// The most bytes of a row input, or of an input of a base64 step.

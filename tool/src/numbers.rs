@@ -31,9 +31,10 @@ pub const NUMBERS: &[Number] = &[
     refusal(14, "EMPTY_HAS_NO_FORM", "a cell that is empty but not null, and the target has no form for that"),
     refusal(15, "NULL_HAS_NO_FORM", "a null, and the target has no form for it"),
     refusal(16, "CHARACTER_HAS_NO_FORM", "a character that has no XML form"),
-    refusal(17, "NO_ROOM", "the row, or the base64 result, is longer than the room left"),
+    refusal(17, "NO_ROOM", "the row, or the base64 result, is longer than the room left, or an index has no place left"),
     refusal(18, "OUT_OF_RANGE", "an integer outside its kind's range"),
-    refusal(255, "NO_SUCH_KIND", "the number of a kind of rows that is none of 0, 1 and 2"),
+    refusal(20, "PAST_THE_END", "a row past the end of the stream"),
+    refusal(255, "NO_SUCH_KIND", "a kind of rows that the call does not know, or does not take"),
 ];
 
 pub(crate) const INPUT_OVER_SIZE: u64 = 6;

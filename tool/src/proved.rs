@@ -3,7 +3,8 @@
 use std::mem::MaybeUninit;
 
 use crate::face::{sailmortar_base64_decode, sailmortar_base64_encode, sailmortar_convert_piece, sailmortar_declare};
-use crate::{Done, Refused, Rows};
+use crate::face::{sailmortar_fetch, sailmortar_index};
+use crate::{Done, Refused, Rows, ROWS_PER_START};
 
 /// Room that is lent for bytes to be written to. What it held before need not be anything.
 type Room = [MaybeUninit<u8>];
@@ -63,6 +64,49 @@ fn encode_in(input: &[u8], out: &mut Room) -> Result<Done, Refused> {
     outcome(answer, 0)
 }
 
+/// Room that is lent for starts of rows.
+type Places = [MaybeUninit<u32>];
+
+fn index_in(decls: &[u8], from: Rows, input: &[u8], index: &mut Places) -> Result<Done, Refused> {
+    let mut answer = [0; 5];
+    // SAFETY: as in `convert_in`; `index` is lent to this call alone, too.
+    unsafe {
+        sailmortar_index(
+            decls.as_ptr(),
+            decls.len(),
+            from.number(),
+            input.as_ptr(),
+            input.len(),
+            index.as_mut_ptr().cast(),
+            index.len(),
+            &mut answer,
+        );
+    }
+    outcome(answer, 0)
+}
+
+fn fetch_in(decls: &[u8], from: Rows, input: &[u8], index: &[u32], rows: u64, row: u64, out: &mut Room) -> Result<Done, Refused> {
+    let mut answer = [0; 5];
+    // SAFETY: as in `convert_in`.
+    unsafe {
+        sailmortar_fetch(
+            decls.as_ptr(),
+            decls.len(),
+            from.number(),
+            input.as_ptr(),
+            input.len(),
+            index.as_ptr(),
+            index.len(),
+            rows,
+            row,
+            out.as_mut_ptr().cast(),
+            out.len(),
+            &mut answer,
+        );
+    }
+    outcome(answer, 0)
+}
+
 /// Converts rows, from the kind `from` to the kind `to`, into `out`.
 ///
 /// `decls` is the text of the FIELD elements. Accepted or refused, the rows done stand whole in `out`, and every byte after them is as it
@@ -105,4 +149,45 @@ pub fn declare(decls: &[u8]) -> Result<u64, Refused> {
         [0, _, _, columns, _] => Ok(columns),
         [number, _, place, _, _] => Err(Refused { number, row: 0, column: place, rows: 0, bytes: 0, offset: 0 }),
     }
+}
+
+/// Where every 64th row of a stream of BINARY or BINARY2 begins, into `index`: place k gets the start of row 64k.
+///
+/// The answer's rows are those that were read well; [`fetch`] takes them with the index. A stream that does not read is refused as in
+/// [`convert`]; the places of the rows before are filled, and every other place is as it was. A row 64k for which there is no place k is
+/// refusal 17. TABLEDATA is refusal 255. A refusal's offset is 0; [`Index::build`](crate::Index::build), which makes the room itself, tells it.
+pub fn index(decls: &[u8], from: Rows, input: &[u8], index: &mut [u32]) -> Result<Done, Refused> {
+    // SAFETY: the two have one layout, and the proved function puts nothing but numbers there.
+    index_in(decls, from, input, unsafe { &mut *(index as *mut [u32] as *mut Places) })
+}
+
+pub(crate) fn index_behind(decls: &[u8], from: Rows, input: &[u8], index: &mut Vec<u32>) -> Result<Done, Refused> {
+    let answer = index_in(decls, from, input, index.spare_capacity_mut());
+    let rows = answer.map_or_else(|refused| refused.rows, |done| done.rows);
+    // SAFETY: the proved function fills place k of the room when it has read row 64k, and answers how many rows it has read.
+    unsafe { index.set_len(index.len() + rows.div_ceil(ROWS_PER_START) as usize) };
+    answer
+}
+
+/// One row of a stream of BINARY or BINARY2 as a line of TABLEDATA, into `out`, by the index and the count of rows that [`index`] gave for the
+/// same stream and declarations.
+///
+/// A refusal stands at the row asked for and writes nothing: 20 where the stream has no such row, what the row is refused with where it has no
+/// form in TABLEDATA, 17 where `out` has no room for its line. What is answered depends, of the input, only on its length and on the bytes from
+/// the start at place `row / 64` to the row's end, and, of the index, only on its length and that place: the rest need not be there. With an
+/// index of another stream the answer is some row, or a refusal. A refusal's offset is 0.
+pub fn fetch(decls: &[u8], from: Rows, input: &[u8], index: &[u32], rows: u64, row: u64, out: &mut [u8]) -> Result<Done, Refused> {
+    fetch_in(decls, from, input, index, rows, row, room_of(out))
+}
+
+pub(crate) fn fetch_behind(
+    decls: &[u8],
+    from: Rows,
+    input: &[u8],
+    index: &[u32],
+    rows: u64,
+    row: u64,
+    out: &mut Vec<u8>,
+) -> Result<Done, Refused> {
+    behind(out, |room| fetch_in(decls, from, input, index, rows, row, room))
 }

@@ -47,9 +47,50 @@ const CASES: &str = r#"
 #define IS(number, row, column, rows, bytes) \
     if (answer[0] != (number) || answer[1] != (row) || answer[2] != (column) || answer[3] != (rows) || answer[4] != (bytes)) return __LINE__
 #define TEXT(text) (const uint8_t *)(text), strlen(text)
+#define SHORT TEXT("<FIELD datatype='short'/>")
+/* 66 shorts, of which row r is r, and the last byte of the last one missing. */
+static int index_and_fetch(void) {
+    uint8_t night[131], line[24];
+    uint32_t starts[3] = {77, 77, 77};
+    uint64_t answer[5];
+    size_t row;
+    for (row = 0; row < sizeof night; row++) night[row] = (uint8_t)(row % 2 * (row / 2));
+    memset(line, 0xEE, sizeof line);
+    sailmortar_index(SHORT, SAILMORTAR_TABLEDATA, night, sizeof night, starts, 3, answer);
+    IS(SAILMORTAR_NO_SUCH_KIND, 0, 0, 0, 0);
+    sailmortar_index(TEXT("<FIELD datatype='int'/><FIELD/>"), SAILMORTAR_BINARY, night, sizeof night, starts, 3, answer);
+    IS(SAILMORTAR_DECLARATIONS_BROKEN, 0, 1, 0, 0);
+    sailmortar_index(SHORT, SAILMORTAR_BINARY, night, sizeof night, starts, 0, answer);
+    IS(SAILMORTAR_NO_ROOM, 0, 0, 0, 0);
+    if (starts[0] != 77) return __LINE__;
+    sailmortar_index(SHORT, SAILMORTAR_BINARY, night, sizeof night, starts, 1, answer);
+    IS(SAILMORTAR_NO_ROOM, 64, 0, 64, 0);
+    if (starts[0] != 0 || starts[1] != 77) return __LINE__;
+    sailmortar_index(SHORT, SAILMORTAR_BINARY, night, sizeof night, starts, 3, answer);
+    IS(SAILMORTAR_STREAM_ENDS, 65, 0, 65, 0);
+    if (starts[0] != 0 || starts[1] != 128 || starts[2] != 77) return __LINE__;
+    sailmortar_index(SHORT, SAILMORTAR_BINARY, night, 130, starts, 3, answer);
+    IS(SAILMORTAR_ACCEPTED, 0, 0, 65, 0);
+    sailmortar_fetch(SHORT, SAILMORTAR_BINARY, night, 130, starts, 3, answer[SAILMORTAR_ROWS], 64, line, 24, answer);
+    IS(SAILMORTAR_ACCEPTED, 0, 0, 1, 21);
+    if (memcmp(line, "<TR><TD>64</TD></TR>\n\xEE\xEE\xEE", 24) != 0) return __LINE__;
+    memset(line, 0xEE, sizeof line);
+    sailmortar_fetch(SHORT, SAILMORTAR_BINARY, night, 130, starts, 3, 65, 64, line, 20, answer);
+    IS(SAILMORTAR_NO_ROOM, 64, 0, 0, 0);
+    sailmortar_fetch(SHORT, SAILMORTAR_BINARY, night, 130, starts, 3, 65, 65, line, 24, answer);
+    IS(SAILMORTAR_PAST_THE_END, 65, 0, 0, 0);
+    sailmortar_fetch(SHORT, SAILMORTAR_BINARY, night, 130, starts, 1, 65, 64, line, 24, answer);
+    IS(SAILMORTAR_PAST_THE_END, 64, 0, 0, 0);
+    sailmortar_fetch(SHORT, 3, night, 130, starts, 3, 65, 64, line, 24, answer);
+    IS(SAILMORTAR_NO_SUCH_KIND, 0, 0, 0, 0);
+    if (line[0] != 0xEE || SAILMORTAR_PAST_THE_END != 20 || SAILMORTAR_ROWS_PER_START != 64) return __LINE__;
+    return 0;
+}
 int main(void) {
     uint8_t out[8];
     uint64_t answer[6] = {0, 0, 0, 0, 0, 77};
+    int wrong = index_and_fetch();
+    if (wrong != 0) return wrong;
     memset(out, 0xEE, sizeof out);
     sailmortar_convert(TEXT("<FIELD datatype='int'/>"), 3, SAILMORTAR_BINARY, TEXT(""), out, 8, answer);
     IS(SAILMORTAR_NO_SUCH_KIND, 0, 0, 0, 0);
@@ -184,6 +225,32 @@ static int nulls_in_rows(conversion *convert, uint32_t from, uint32_t to) {
     IS(SAILMORTAR_NO_SUCH_KIND);
     return 0;
 }
+static int nulls_in_an_index(uint32_t from) {
+    uint32_t starts[1] = {0};
+    sailmortar_index(NULL, 0, from, row[from], length[from], starts, 1, answer);
+    IS(SAILMORTAR_COLUMNS_OUT_OF_RANGE);
+    sailmortar_index(decls, sizeof decls - 1, from, NULL, 0, starts, 1, answer);
+    IS(SAILMORTAR_ACCEPTED);
+    sailmortar_index(decls, sizeof decls - 1, from, NULL, 0, NULL, 0, answer);
+    IS(SAILMORTAR_ACCEPTED);
+    sailmortar_index(decls, sizeof decls - 1, from, row[from], length[from], NULL, 0, answer);
+    IS(SAILMORTAR_NO_ROOM);
+    sailmortar_index(NULL, 0, 0, NULL, 0, NULL, 0, answer);
+    IS(SAILMORTAR_NO_SUCH_KIND);
+    sailmortar_fetch(NULL, 0, from, row[from], length[from], starts, 1, 1, 0, out, sizeof out, answer);
+    IS(SAILMORTAR_COLUMNS_OUT_OF_RANGE);
+    sailmortar_fetch(decls, sizeof decls - 1, from, NULL, 0, starts, 1, 1, 0, out, sizeof out, answer);
+    IS(SAILMORTAR_STREAM_ENDS);
+    sailmortar_fetch(decls, sizeof decls - 1, from, row[from], length[from], NULL, 0, 1, 0, out, sizeof out, answer);
+    IS(SAILMORTAR_PAST_THE_END);
+    sailmortar_fetch(decls, sizeof decls - 1, from, row[from], length[from], starts, 1, 1, 0, NULL, 0, answer);
+    IS(SAILMORTAR_NO_ROOM);
+    sailmortar_fetch(decls, sizeof decls - 1, from, NULL, 0, NULL, 0, 0, 0, NULL, 0, answer);
+    IS(SAILMORTAR_PAST_THE_END);
+    sailmortar_fetch(NULL, 0, 0, NULL, 0, NULL, 0, 0, 0, NULL, 0, answer);
+    IS(SAILMORTAR_NO_SUCH_KIND);
+    return 0;
+}
 static int nulls_elsewhere(void) {
     sailmortar_base64_decode(NULL, 0, out, sizeof out, answer);
     IS(SAILMORTAR_ACCEPTED);
@@ -204,6 +271,7 @@ static int nulls_elsewhere(void) {
 int main(void) {
     memset(answer, 0xEE, sizeof answer);
     int wrong = nulls_elsewhere();
+    for (uint32_t from = 1; from < 3 && wrong == 0; from++) wrong = nulls_in_an_index(from);
     for (uint32_t way = 0; way < 9 && wrong == 0; way++) wrong = nulls_in_rows(sailmortar_convert, way / 3, way % 3);
     sixth = 0;
     for (uint32_t way = 0; way < 9 && wrong == 0; way++) wrong = nulls_in_rows(sailmortar_convert_piece, way / 3, way % 3);

@@ -2,11 +2,13 @@
 
 use std::ffi::{OsStr, OsString};
 use std::fmt;
+use std::ops::RangeInclusive;
 use std::os::unix::ffi::{OsStrExt, OsStringExt};
 use std::path::PathBuf;
 
 use sailmortar::Rows;
 
+use crate::advice;
 use crate::report::shown;
 use crate::words::Topic;
 
@@ -26,6 +28,8 @@ pub enum Command {
     Convert(Conversion),
     Check(Checking),
     Columns(Place),
+    Index(Indexing),
+    Row(Fetching),
 }
 
 /// How the end of a run is told.
@@ -87,6 +91,20 @@ pub struct Checking {
     pub input: Place,
 }
 
+pub struct Indexing {
+    pub table: Table,
+    pub files: Files,
+}
+
+/// Rows to be fetched from a stream by its index, in the order in which they were asked for.
+pub struct Fetching {
+    pub rows: Vec<RangeInclusive<u64>>,
+    pub table: Table,
+    pub stream: PathBuf,
+    pub index: PathBuf,
+    pub output: Place,
+}
+
 /// What is wrong with the words, in a line.
 pub struct Usage(pub String);
 
@@ -120,13 +138,13 @@ pub fn asks_for_json(words: &[OsString]) -> bool {
     words.iter().take_while(|word| *word != "--").any(|word| word == "--json")
 }
 
-const COMMANDS: &str = "convert, check, columns, base64, explain and help";
+const COMMANDS: &str = "convert, check, index, row, columns, base64, explain and help";
 
 /// The command line without the program's name.
 pub fn request(words: Vec<OsString>) -> Result<Request, Usage> {
     let mut words = words.into_iter();
     let Some(first) = words.next() else {
-        return Err("say what to do: convert, check, columns, base64, explain or help".into());
+        return Err("say what to do: convert, check, index, row, columns, base64, explain or help".into());
     };
     match first.as_bytes() {
         b"-h" | b"--help" => Ok(plain_request(Command::Help(Topic::All))),
@@ -162,6 +180,8 @@ fn request_of(topic: Topic, words: impl Iterator<Item = OsString>) -> Result<Req
             files.into_iter().chain([valued("wrap"), valued("rest"), OUTPUT, VERBOSE, JSON]).collect()
         }
         Topic::Check => vec![valued("fields"), valued("from"), valued("to"), plain("base64-in"), JSON],
+        Topic::Index => vec![valued("fields"), valued("from"), plain("base64-in"), OUTPUT, VERBOSE, JSON],
+        Topic::Row => vec![valued("fields"), valued("from"), valued("index"), plain("base64-in"), OUTPUT, VERBOSE, JSON],
         Topic::Columns => vec![valued("fields"), JSON],
         Topic::Base64 => vec![valued("wrap"), OUTPUT, VERBOSE, JSON],
     };
@@ -176,6 +196,8 @@ fn request_of(topic: Topic, words: impl Iterator<Item = OsString>) -> Result<Req
         Topic::Explain => explain(words)?,
         Topic::Convert => conversion(words)?,
         Topic::Check => checking(words)?,
+        Topic::Index => indexing(words)?,
+        Topic::Row => fetching(words)?,
         Topic::Columns => columns(words)?,
         Topic::Base64 => base64(words)?,
     };
@@ -350,6 +372,73 @@ fn checking(mut words: Words) -> Result<Command, Usage> {
     let input = Words::input(operands.into_iter())?;
     let to = words.take("to").map(|to| kind("--to", &to)).transpose()?;
     Ok(Command::Check(Checking { table: table(&mut words, fields, &from, &input)?, to, input }))
+}
+
+fn indexing(mut words: Words) -> Result<Command, Usage> {
+    let operands = std::mem::take(&mut words.operands);
+    let [fields, from] = needed(Topic::Index, &mut words, [("fields", "FILE"), ("from", "KIND")])?;
+    let files = words.files(operands.into_iter())?;
+    Ok(Command::Index(Indexing { table: indexed_table(&mut words, fields, &from, &files.input)?, files }))
+}
+
+fn fetching(mut words: Words) -> Result<Command, Usage> {
+    let (asked, others): (Vec<_>, Vec<_>) = std::mem::take(&mut words.operands).into_iter().partition(|word| looks_like_rows(word));
+    let rows = asked.iter().map(|word| rows_asked_for(word)).collect::<Result<Vec<_>, Usage>>()?;
+    let [fields, from] = needed(Topic::Row, &mut words, [("fields", "FILE"), ("from", "KIND")])?;
+    let stream = stream_of_rows(others)?;
+    let table = indexed_table(&mut words, fields, &from, &Place::Named(stream.clone()))?;
+    if rows.is_empty() {
+        return Err("row needs the rows, from 0: a number as 40312, or a range as 40320-40329".into());
+    }
+    let index = match words.take("index") {
+        Some(index) if index == "-" => return Err("--index takes a file: standard input cannot be read from any place".into()),
+        Some(index) => PathBuf::from(index),
+        None => return Err(advice::for_no_index(&table, &stream, &asked).into()),
+    };
+    Ok(Command::Row(Fetching { rows, table, stream, index, output: Place::of(words.take("output")) }))
+}
+
+/// Digits, or digits, a `-` and digits. Any other word is the name of the stream.
+fn looks_like_rows(word: &OsStr) -> bool {
+    let mut ends = word.as_bytes().splitn(2, |byte| *byte == b'-');
+    ends.all(|digits| !digits.is_empty() && digits.iter().all(u8::is_ascii_digit))
+}
+
+fn rows_asked_for(word: &OsStr) -> Result<RangeInclusive<u64>, Usage> {
+    let text = word.to_str().unwrap_or_default();
+    let (first, last) = text.split_once('-').unwrap_or((text, text));
+    match (first.parse(), last.parse()) {
+        (Ok(first), Ok(last)) if first <= last => Ok(first..=last),
+        (Ok(_), Ok(_)) => Err(format!("a range of rows goes up, and '{text}' goes down: did you mean '{last}-{first}'?").into()),
+        _ => Err(format!("no stream has a row '{text}'").into()),
+    }
+}
+
+/// The one operand that is no row.
+fn stream_of_rows(others: Vec<OsString>) -> Result<PathBuf, Usage> {
+    match &others[..] {
+        [] => Err("row needs the file of the stream as well; a file whose name looks like rows is given as './40312'".into()),
+        [stream] if stream.is_empty() => Err("the file of the stream has no name".into()),
+        [stream] if stream == "-" => Err("row takes the stream as a file: standard input cannot be read from any place".into()),
+        [stream] => Ok(PathBuf::from(stream)),
+        [_, second, ..] => {
+            Err(format!("row takes rows and one stream, and '{}' is neither a row, nor a range as 40320-40329", shown(second)).into())
+        }
+    }
+}
+
+/// An index has places in bytes: TABLEDATA and base64 would have to be read whole for each row.
+fn indexed_table(words: &mut Words, fields: OsString, from: &OsStr, input: &Place) -> Result<Table, Usage> {
+    let table = table(words, fields, from, input)?;
+    match table {
+        Table { from: Rows::TableData, .. } => {
+            Err("an index is for BINARY and BINARY2: convert TABLEDATA first, with 'sailmortar convert --to binary2'".into())
+        }
+        Table { base64_in: true, .. } => {
+            Err("an index is of the bytes themselves: decode the base64 first, with 'sailmortar base64 decode INPUT -o OUTPUT'".into())
+        }
+        table => Ok(table),
+    }
 }
 
 fn columns(mut words: Words) -> Result<Command, Usage> {

@@ -23,7 +23,7 @@ pub fn content_bytes(kind: Kind, elements: usize) -> usize {
 
 pub fn standing<'a>(stream: &Stream<'a>, refused: &Refused) -> Option<Standing<'a>> {
     let row = stream.input.get(refused.offset..)?;
-    let flags = if stream.from == Rows::Binary2 { stream.columns.len().div_ceil(8) } else { 0 };
+    let flags = flag_bytes(stream);
     if is_in_flags(stream.columns.len(), row, flags, refused) {
         return Some(in_flags(stream.columns.len(), &row[..flags.min(row.len())], refused));
     }
@@ -32,6 +32,24 @@ pub fn standing<'a>(stream: &Stream<'a>, refused: &Refused) -> Option<Standing<'
     let cell = Cell::at(stream.columns.get(column)?, cells);
     let (words, shown) = cell.words(stream, refused.number);
     Some(Standing { place: Place::Cell, byte: stream.input.len() - cells.len(), words, shown, fault: None })
+}
+
+/// Where the row begins that has so many whole rows between it and `start`, which is a row's.
+pub fn row_start(stream: &Stream, start: usize, rows: u64) -> usize {
+    let after_row = |row: &[u8]| stream.columns.iter().try_fold(row.get(flag_bytes(stream)..)?, after_cell).map(<[u8]>::len);
+    (0..rows).fold(start, |start, _| {
+        let left = stream.input.get(start..).and_then(after_row);
+        left.map_or(start, |left| stream.input.len() - left)
+    })
+}
+
+/// The bytes of flags at the start of a row.
+fn flag_bytes(stream: &Stream) -> usize {
+    if stream.from == Rows::Binary2 {
+        stream.columns.len().div_ceil(8)
+    } else {
+        0
+    }
 }
 
 /// The flags are judged before any cell, under the first column's number: their length, then the spare ones.

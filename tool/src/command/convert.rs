@@ -15,9 +15,9 @@ use crate::{say, End};
 
 /// Declarations that are good.
 pub struct Fields {
-    identity: Option<Identity>,
+    pub identity: Option<Identity>,
     shared: Option<Identity>,
-    decls: Vec<u8>,
+    pub decls: Vec<u8>,
     pub columns: Vec<Column>,
 }
 
@@ -32,7 +32,7 @@ impl Fields {
     }
 
     /// The rows' file, opened. A pipe that the fields were read from has nothing left, which would look like a table without rows.
-    fn open_rows(&self, place: &Place) -> Result<Input, End> {
+    pub fn open_rows(&self, place: &Place) -> Result<Input, End> {
         let input = Input::open(place)?;
         match self.shared.is_some() && self.shared == input.shared() {
             true => Err(Usage("the fields and the rows cannot both come from one pipe or terminal".to_string()).into()),
@@ -59,20 +59,25 @@ pub fn convert(conversion: &Conversion) -> Result<Report, End> {
     }
 }
 
-fn stream<'a>(input: &'a Input, fields: &'a Fields, table: &Table, to: Rows, rows: &'a [u8]) -> Stream<'a> {
+pub fn stream<'a>(input: &'a Input, fields: &'a Fields, table: &Table, to: Rows, rows: &'a [u8]) -> Stream<'a> {
     Stream { input_name: &input.name, columns: &fields.columns, from: table.from, to, decoded: table.base64_in, input: rows }
 }
 
 /// The words and facts of a refused row, and of what stands before it, or could not be kept.
-fn refused_row(stream: &Stream, refused: &Refused, stands: Result<Stands, Trouble>) -> End {
+pub fn refused_row(stream: &Stream, refused: &Refused, stands: Result<Stands, Trouble>) -> End {
+    refused_with(stands, |words| report::row(stream, refused, words))
+}
+
+/// The same of any report that says what stands.
+pub fn refused_with(stands: Result<Stands, Trouble>, report: impl Fn(&str) -> Report) -> End {
     match stands {
         Ok(Stands { words, facts }) => {
-            let mut report = report::row(stream, refused, &words);
+            let mut report = report(&words);
             report.facts.extend(facts);
             End::Refused(report)
         }
         Err(trouble) => {
-            let mut report = report::row(stream, refused, &format!("what stands before it could not be kept: {trouble}"));
+            let mut report = report(&format!("what stands before it could not be kept: {trouble}"));
             report.facts.push(("message", Value::Text(trouble.to_string())));
             End::NotKept(report)
         }
@@ -80,9 +85,28 @@ fn refused_row(stream: &Stream, refused: &Refused, stands: Result<Stands, Troubl
 }
 
 /// What became of the rows before a refused one.
-struct Stands {
-    words: String,
-    facts: Vec<(&'static str, Value)>,
+pub struct Stands {
+    pub words: String,
+    pub facts: Vec<(&'static str, Value)>,
+}
+
+impl Stands {
+    /// No row was good: an output that is there stays as it was, and none is made.
+    pub fn nothing(output: &Output) -> Stands {
+        let left = if output.is_there() { format!("{} is left as it was", shown(&output.name)) } else { "nothing is written".to_string() };
+        Stands { words: format!("no row stands before it, and {left}"), facts: vec![] }
+    }
+}
+
+/// What is said of a run whose rows all were good, so many bytes of its input read.
+pub fn done_well(input: &Input, read: u64, rows: u64, output: &Output) -> Report {
+    let [bytes_read, bytes] = [read, output.written].map(|bytes| counted(bytes, "byte", "bytes"));
+    let [from, to] = [&input.name, &output.name].map(|name| shown(name));
+    let said = format!("{from}: {}, {bytes_read} read, {bytes} written to {to}", counted(rows, "row", "rows"));
+    let counts = [("rows", rows), ("read", read), ("bytes", output.written)];
+    let mut facts: Vec<_> = counts.into_iter().map(|(name, number)| (name, Value::Number(number))).collect();
+    facts.push(named("output", output));
+    Report { lines: vec![said], facts, is_urgent: false }
 }
 
 /// Where rows go, and where the rest goes if a row is refused.
@@ -116,13 +140,7 @@ impl Outputs {
     fn finish(mut self, input: &Input, done: &Done) -> Result<Report, End> {
         let is_urgent = input.read == 0 && self.output.replaces_something();
         self.output.finish()?;
-        let [read, bytes] = [input.read as u64, self.output.written].map(|bytes| counted(bytes, "byte", "bytes"));
-        let rows = counted(done.rows, "row", "rows");
-        let said = format!("{}: {rows}, {read} read, {bytes} written to {}", shown(&input.name), shown(&self.output.name));
-        let counts = [("rows", done.rows), ("read", input.read as u64), ("bytes", self.output.written)];
-        let mut facts: Vec<_> = counts.into_iter().map(|(name, number)| (name, Value::Number(number))).collect();
-        facts.push(named("output", &self.output));
-        Ok(Report { lines: vec![said], facts, is_urgent })
+        Ok(Report { is_urgent, ..done_well(input, input.read as u64, done.rows, &self.output) })
     }
 
     /// A row is refused: keeps what stands before it, and answers what became of that. The rest is written first: only where it stands
@@ -144,8 +162,7 @@ impl Outputs {
     fn keep_rows(&mut self, refused: &Refused) -> Result<Stands, Trouble> {
         let name = shown(&self.output.name);
         if refused.rows == 0 {
-            let left = if self.output.is_there() { format!("{name} is left as it was") } else { "nothing is written".to_string() };
-            return Ok(Stands { words: format!("no row stands before it, and {left}"), facts: vec![] });
+            return Ok(Stands::nothing(&self.output));
         }
         let before = format!("{} written to", rows_before(refused.rows));
         if !self.replaces_input {
@@ -158,7 +175,7 @@ impl Outputs {
     }
 }
 
-fn named(fact: &'static str, output: &Output) -> (&'static str, Value) {
+pub fn named(fact: &'static str, output: &Output) -> (&'static str, Value) {
     (fact, Value::Text(output.name.to_string_lossy().into_owned()))
 }
 

@@ -105,6 +105,11 @@ impl Input {
         }
     }
 
+    /// The file, for one who reads it from any place.
+    pub fn file(&self) -> &File {
+        &self.file
+    }
+
     /// Which file it is, if it is a plain file.
     pub fn identity(&self) -> Option<Identity> {
         self.file.metadata().ok().filter(Metadata::is_file).map(|metadata| Identity::of(&metadata))

@@ -2,6 +2,7 @@
 
 #![deny(unsafe_code)]
 
+mod advice;
 mod arguments;
 mod base64;
 mod binary;
@@ -11,12 +12,14 @@ mod convert;
 mod element;
 mod files;
 mod hint;
+mod index;
 mod json;
 mod letters;
 mod output;
 mod probe;
 mod progress;
 mod report;
+mod row;
 mod shown;
 #[allow(unsafe_code)]
 mod system;
@@ -108,6 +111,8 @@ fn run(command: &Command, telling: Telling) -> Result<Report, End> {
         Command::Decode(files) => base64::decode(files),
         Command::Convert(conversion) => convert::convert(conversion),
         Command::Check(checking) => convert::check(checking, telling),
+        Command::Index(indexing) => index::index(indexing),
+        Command::Row(fetching) => row::row(fetching),
         Command::Columns(fields) => columns::columns(fields, telling),
     }
 }

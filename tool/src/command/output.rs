@@ -8,9 +8,11 @@ use std::os::unix::fs::{fchown, FileTypeExt, MetadataExt};
 use std::path::{Path, PathBuf};
 use std::time::{SystemTime, UNIX_EPOCH};
 
-use crate::arguments::Place;
+use crate::arguments::{Place, Usage};
 use crate::files::{descriptor_named, name, Identity, Trouble};
+use crate::report::shown;
 use crate::system::{descriptor, Doomed};
+use crate::End;
 
 /// An output, opened. A plain file is written beside its name, and moved there by `finish`; dropped before that, nothing is left of it.
 pub struct Output {
@@ -72,6 +74,16 @@ impl Output {
         match self.moving.is_none() && inputs.iter().any(|input| self.replaces(*input)) {
             true => Err(self.trouble(io::Error::other("it is read as well, and would be written over; give '-o FILE'"))),
             false => Ok(()),
+        }
+    }
+
+    /// An output that is to be none of the files that are read, under whatever name; `what` says what it is.
+    pub fn open_apart(place: &Place, inputs: &[Option<Identity>], what: &str) -> Result<Output, End> {
+        let output = Output::open(place)?;
+        output.keep_off(inputs)?;
+        match inputs.iter().any(|input| output.replaces(*input)) {
+            true => Err(Usage(format!("{what} wants a file of its own, and {} is read as well", shown(&output.name))).into()),
+            false => Ok(output),
         }
     }
 

@@ -2,7 +2,7 @@
 
 use std::ffi::OsStr;
 
-use sailmortar::{Column, Refused, Rows, DECLARATIONS_LIMIT, INPUT_LIMIT};
+use sailmortar::{Column, Indexed, Misfit, Refused, Rows, DECLARATIONS_LIMIT, INPUT_LIMIT};
 
 use crate::cell::{self, Place};
 use crate::text::{line, without_space};
@@ -101,6 +101,38 @@ pub fn row(stream: &Stream, refused: &Refused, stands: &str) -> Report {
     let spot = report.spot(stream, refused, standing.as_ref());
     report.lines.push(format!("rows and columns count from 0; {spot}; 'sailmortar explain {number}' says more"));
     report.hint(hint::of_row(stream, refused, standing.and_then(|standing| standing.fault)));
+    report
+}
+
+/// A refusal of a row that a stream does not have (20); `check` is the command that says why its rows end before it does, if they do.
+pub fn past_the_end(file: &OsStr, of: &Indexed, refused: &Refused, check: &str, stands: &str) -> Report {
+    let mut report = Report::of(file, refused);
+    let (row, is_whole) = (refused.row, of.end == of.length);
+    let has = match of.rows.checked_sub(1) {
+        None if is_whole => "the stream has no rows".to_string(),
+        None => "no row of the stream can be read".to_string(),
+        Some(last) if is_whole => format!("the stream has rows 0 to {last}"),
+        Some(last) => format!("of the stream rows 0 to {last} can be read, and what stands behind them cannot"),
+    };
+    report.lines.push(format!("{}: refusal 20 at row {row}: {has}, row {row} is past the end", shown(file)));
+    report.lines.push(stands.to_string());
+    for (name, value) in [("row", row), ("column", refused.column), ("count", of.rows), ("rows", refused.rows), ("bytes", refused.bytes)] {
+        report.number(name, value);
+    }
+    report.lines.push("rows count from 0; 'sailmortar explain 20' says more".to_string());
+    let hint = format!("'{check}' says what is wrong behind them");
+    report.hint((!is_whole).then_some(&*hint));
+    report
+}
+
+/// An index that is not used; `build` is the command that builds the right one.
+pub fn misfit(file: &OsStr, misfit: Misfit, build: &str) -> Report {
+    let mut report = Report::default();
+    report.text("file", file.to_string_lossy());
+    report.text("message", misfit.to_string());
+    report.text("build", build);
+    report.lines.push(format!("{}: {misfit}", shown(file)));
+    report.lines.push(format!("it is not used, and nothing is written; build the index with '{build}'"));
     report
 }
 

@@ -11,13 +11,15 @@ pub enum Topic {
     All,
     Convert,
     Check,
+    Index,
+    Row,
     Columns,
     Base64,
     Explain,
 }
 
 impl Topic {
-    const COMMANDS: [Topic; 5] = [Topic::Convert, Topic::Check, Topic::Columns, Topic::Base64, Topic::Explain];
+    const COMMANDS: [Topic; 7] = [Topic::Convert, Topic::Check, Topic::Index, Topic::Row, Topic::Columns, Topic::Base64, Topic::Explain];
 
     /// The command of this name; `help` is help of everything.
     pub fn named(word: &OsStr) -> Option<Topic> {
@@ -29,6 +31,8 @@ impl Topic {
             Topic::All => "help",
             Topic::Convert => "convert",
             Topic::Check => "check",
+            Topic::Index => "index",
+            Topic::Row => "row",
             Topic::Columns => "columns",
             Topic::Base64 => "base64",
             Topic::Explain => "explain",
@@ -40,6 +44,8 @@ impl Topic {
             Topic::All => HELP,
             Topic::Convert => CONVERT,
             Topic::Check => CHECK,
+            Topic::Index => INDEX,
+            Topic::Row => ROW,
             Topic::Columns => COLUMNS,
             Topic::Base64 => BASE64,
             Topic::Explain => EXPLAIN,
@@ -52,6 +58,8 @@ Sailmortar converts VOTable rows: TABLEDATA, BINARY and BINARY2, any to any.
 
   sailmortar convert --fields FILE --from KIND --to KIND [INPUT] [-o OUTPUT]
   sailmortar check --fields FILE --from KIND [INPUT]     are the rows good?
+  sailmortar index --fields FILE --from KIND [INPUT] -o INDEX
+  sailmortar row N --fields FILE --from KIND INPUT --index INDEX    one row
   sailmortar columns FILE      what the FIELD elements are understood as
   sailmortar base64 encode|decode [INPUT] [-o OUTPUT]
   sailmortar explain [N]       what refusal N means, or all of them
@@ -103,6 +111,44 @@ Reads all rows and writes none: says how many rows, bytes and columns there
 are, or what is refused and where.
 ";
 
+const INDEX: &str = "\
+sailmortar index --fields FILE --from KIND [INPUT] [-o OUTPUT]
+
+  --fields FILE      the table's FIELD elements, and nothing around them
+  --from KIND        what INPUT holds: binary or binary2
+  -o, --output FILE  write a new file, moved to this name when it is done
+  -v, --verbose      say rows and bytes when all is accepted, too
+  --json             say how it ended as an object, on one line
+  -h, --help         this text
+
+Writes where every 64th row of INPUT begins, so that 'sailmortar row' finds a
+row without reading those before it. At a refusal the index of the good rows
+before it is written. Build it again when INPUT or the FIELD elements change:
+one that does not fit is not used. Not for TABLEDATA, nor for base64, which is
+decoded first. An index goes to a terminal only with '-o -'.
+
+  sailmortar index --fields F --from binary2 NIGHT -o NIGHT.index
+";
+
+const ROW: &str = "\
+sailmortar row N.. --fields FILE --from KIND INPUT --index INDEX [-o OUTPUT]
+
+  --fields FILE      the table's FIELD elements, and nothing around them
+  --from KIND        what INPUT holds: binary or binary2
+  --index FILE       the index of INPUT, as 'sailmortar index' wrote it
+  -o, --output FILE  write a new file, moved to this name when it is done
+  -v, --verbose      say rows and bytes when all is accepted, too
+  --json             say how it ended as an object, on one line
+  -h, --help         this text
+
+Writes rows of INPUT as TABLEDATA, in the order asked for. N is a row, from 0,
+or a range such as 40320-40329, both ends in it; the one other word is INPUT,
+which is given as './7' where its name looks like a row. INPUT is a file, and
+only the part of it is read in which the rows stand.
+
+  sailmortar row 40312 --fields F --from binary2 NIGHT --index NIGHT.index
+";
+
 const COLUMNS: &str = "\
 sailmortar columns FILE
 
@@ -134,8 +180,17 @@ What refusal N means and what to look for, or a list of all refusals.
 
 /// The numbers that a user can meet, in words.
 pub fn range() -> String {
-    let last = NUMBERS.iter().map(|known| known.number).filter(|number| *number < 255).max().unwrap_or_default();
-    format!("1 to {last}")
+    let numbers: Vec<u64> = NUMBERS.iter().map(|known| known.number).filter(|number| *number < 255).collect();
+    let runs: Vec<String> = numbers.chunk_by(|one, next| one + 1 == *next).map(run).collect();
+    runs.join(" and ")
+}
+
+/// Numbers without a gap, in words.
+fn run(numbers: &[u64]) -> String {
+    match numbers {
+        [first, .., last] => format!("{first} to {last}"),
+        _ => numbers.iter().map(u64::to_string).collect(),
+    }
 }
 
 /// Every refusal's number and meaning, a line each.
@@ -161,9 +216,17 @@ fn look_for(number: u64) -> &'static str {
         8 | 9 | 13 => in_binary(number),
         10 | 12 => in_cells(number),
         11 | 18 => in_values(number),
+        20 => PAST_THE_END,
         _ => in_writing(number),
     }
 }
+
+const PAST_THE_END: &str = "\
+Rows count from 0: a stream of 50 rows has rows 0 to 49. The message says which
+rows this one has, as its index has them. Was the stream cut, or is it another
+night? Where it says that what stands behind the rows cannot be read, the index
+is of the rows before a refusal: 'sailmortar check' says what is wrong there.
+If the stream has grown, build its index again.";
 
 fn in_declarations(number: u64) -> &'static str {
     match number {
@@ -222,14 +285,16 @@ text, or a file that was cut short."
         }
         17 => {
             "\
-Programs that call the library give it room for its output; this says that the
-next row does not fit. The rows before it are written. This command makes the
-room itself, so that you will not meet it here."
+Programs that call the library give it room for its output, or for an index;
+this says that the next row, or its start, does not fit. What comes before it
+is written. This command makes the room itself, so that you will not meet it
+here."
         }
         _ => {
             "\
 Programs that call the C functions name kinds of rows by number: 0 TABLEDATA,
-1 BINARY, 2 BINARY2. This command does not let another through."
+1 BINARY, 2 BINARY2. An index is for BINARY and BINARY2 alone. This command
+does not let another through."
         }
     }
 }
