@@ -14,6 +14,7 @@ mod agreement {
     mod cells;
     mod compare;
     mod declarations;
+    mod index;
     mod library;
     mod line_ends;
     mod out_of_range;

@@ -61,3 +61,21 @@ pub fn declare(decls: &[u8]) -> [u64; 5] {
     unsafe { face::sailmortar_declare(decls.as_ptr(), decls.len(), &mut answer) };
     answer
 }
+
+pub fn index(decls: &[u8], from: u32, input: &[u8], index: &mut [u32]) -> [u64; 5] {
+    let mut answer = [UNWRITTEN; 5];
+    let (places, length) = (index.as_mut_ptr(), index.len());
+    // SAFETY: as in `conversion`; `index` is lent to this call alone, too.
+    unsafe { face::sailmortar_index(decls.as_ptr(), decls.len(), from, input.as_ptr(), input.len(), places, length, &mut answer) };
+    answer
+}
+
+pub fn fetch(decls: &[u8], from: u32, input: &[u8], index: &[u32], rows: u64, row: u64, out: &mut [u8]) -> [u64; 5] {
+    let mut answer = [UNWRITTEN; 5];
+    let (text, stream, starts, room) = (decls.as_ptr(), input.as_ptr(), index.as_ptr(), out.as_mut_ptr());
+    // SAFETY: as in `conversion`.
+    unsafe {
+        face::sailmortar_fetch(text, decls.len(), from, stream, input.len(), starts, index.len(), rows, row, room, out.len(), &mut answer);
+    }
+    answer
+}

@@ -3,6 +3,7 @@
 use super::archive;
 use super::line_ends::translated;
 use crate::model::converter::{self, Piece, Rows};
+use crate::model::index::{self, Indexed};
 use crate::model::{base64, Answer, Written, MOST_INPUT};
 use std::fmt::Write;
 
@@ -119,6 +120,51 @@ pub fn agree_on_encoding(input: &[u8], room: usize, seed: u64) -> Answer {
         panic!("{}", report(&call, seed, &[("input", input)], &difference));
     }
     model.answer
+}
+
+/// A stream under declarations, of a kind by its number, be it one that can be indexed or not.
+#[derive(Clone, Copy)]
+pub struct Night<'a> {
+    pub declarations: &'a [u8],
+    pub from: u32,
+    pub input: &'a [u8],
+    pub seed: u64,
+}
+
+impl Night<'_> {
+    /// Compares indexing into so many places; hands out what the model says.
+    pub fn agree_on_index(&self, places: usize) -> Indexed {
+        let Night { declarations, from, input, .. } = *self;
+        let model = index::index(declarations, from, input, places);
+        for filling in FILLINGS.map(|filling| u32::from_le_bytes([filling; 4])) {
+            let mut proved: Vec<u32> = (0..places + 2 * FENCE).map(|place| place as u32 ^ filling).collect();
+            let mut expected = proved.clone();
+            expected[FENCE..FENCE + model.starts.len()].copy_from_slice(&model.starts);
+            let answer = archive::index(declarations, from, input, &mut proved[FENCE..FENCE + places]);
+            if answer != model.answer || proved != expected {
+                let at = proved.iter().zip(&expected).position(|(one, other)| one != other);
+                let place = at.map(|at| (at as i64 - FENCE as i64, proved[at], expected[at]));
+                let difference = format!("answer: proved {answer:?}, model {:?}; place, proved, model {place:?}", model.answer);
+                self.fail(&format!("index of {from}, places {places}"), &difference);
+            }
+        }
+        model
+    }
+
+    /// Compares fetching a row by any index and count; hands out what the model says.
+    pub fn agree_on_fetch(&self, starts: &[u32], rows: u64, row: u64, room: usize) -> Written {
+        let Night { declarations, from, input, .. } = *self;
+        let model = index::fetch(declarations, from, input, starts, rows, row, room);
+        let call = |out: &mut [u8]| archive::fetch(declarations, from, input, starts, rows, row, out);
+        if let Err(difference) = compare(model.answer, &model.bytes, room, &FILLINGS, call) {
+            self.fail(&format!("fetch of row {row} of {rows} of {from}, room {room}, starts {starts:?}"), &difference);
+        }
+        model
+    }
+
+    fn fail(&self, call: &str, difference: &str) -> ! {
+        panic!("{}", report(call, self.seed, &[("declarations", self.declarations), ("input", self.input)], difference))
+    }
 }
 
 /// Two fillings that differ in every byte, so that a byte which is written shows in one of them.

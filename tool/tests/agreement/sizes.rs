@@ -80,8 +80,33 @@ fn one_byte_over_the_greatest_input_is_refused() {
             assert_eq!(in_room(9, |out| archive::convert_piece(b"<FIELD", from, to, &input, out)), ([1, 0, 0, 0, 0, 0], Vec::new()));
         }
     }
+    for from in [1, 2] {
+        let mut starts = [77; 3];
+        assert_eq!(archive::index(field, from, &input, &mut starts), [6, 0, 0, 0, 0]);
+        assert_eq!(archive::index(b"<FIELD", from, &input, &mut starts), [1, 0, 0, 0, 0]);
+        assert_eq!(starts, [77; 3]);
+        // Before the row is judged, be there one or not.
+        for row in [0, 9] {
+            assert_eq!(in_room(90, |out| archive::fetch(field, from, &input, &[0], 5, row, out)), over_size);
+        }
+    }
     assert_eq!(in_room(100, |out| archive::base64_encode(&input, out)), over_size);
     assert_eq!(in_room(100, |out| archive::base64_decode(&input, out)), over_size);
+}
+
+#[test]
+fn the_greatest_input_is_indexed() {
+    let (input, field) = (zeros(MOST_INPUT), b"<FIELD datatype='char' arraysize='4096'/>");
+    let rows = MOST_INPUT / 4096;
+    let mut starts = vec![77; rows / 64 + 1];
+    assert_eq!(archive::index(field, 1, &input, &mut starts), [0, 0, 0, rows as u64, 0]);
+    assert!(starts[..rows / 64].iter().enumerate().all(|(place, start)| *start as usize == place * 64 * 4096) && starts[rows / 64] == 77);
+    for row in [0, 1, 63, 64, rows - 65, rows - 64, rows - 1] {
+        let call = |out: &mut [u8]| archive::fetch(field, 1, &input, &starts, rows as u64, row as u64, out);
+        assert_eq!(in_room(20, call), ([0, 0, 0, 1, 15], b"<TR><TD/></TR>\n".to_vec()));
+    }
+    let rows = rows as u64;
+    assert_eq!(in_room(20, |out| archive::fetch(field, 1, &input, &starts, rows, rows, out)), ([20, rows, 0, 0, 0], Vec::new()));
 }
 
 #[test]

@@ -6,6 +6,7 @@ pub mod base64;
 pub mod binary;
 pub mod converter;
 pub mod declarations;
+pub mod index;
 pub mod integer;
 pub mod tabledata;
 pub mod text;
