@@ -1,4 +1,4 @@
-"""Rows of VOTable tables between TABLEDATA, BINARY and BINARY2, any to any, and base64.
+"""Rows of VOTable tables between TABLEDATA, BINARY and BINARY2, any to any, base64, and one row of a long stream.
 
     >>> import sailmortar
     >>> fields = b"<FIELD datatype='short'><VALUES null='-99'/></FIELD>"
@@ -11,6 +11,9 @@
     refusal 11 at row 1, column 0: a byte or a text that is no value of its kind b'\\x00\\x07'
     >>> sailmortar.columns(fields)
     [Column(place=0, name=None, kind='short', length='1', bound=1, null=-99)]
+    >>> index = sailmortar.Index.build(fields, "binary2", bytes.fromhex("00 00 07 80 00 00"))
+    >>> index.rows, index.fetch(fields, bytes.fromhex("00 00 07 80 00 00"), 0)
+    (2, b'<TR><TD>7</TD></TR>\\n')
 
 The converter is proved: whatever bytes come in, the answer is rows or one numbered refusal with its row and column, and the rows before it
 stand. This file is the thin, unproved layer over its shared library, libsailmortar.so.0. Where the environment names a file in
@@ -25,9 +28,11 @@ TypeError.
 
 from __future__ import annotations
 
+import array
 import ctypes
 import enum
 import mmap
+import operator
 import os
 import pathlib
 import re
@@ -39,7 +44,7 @@ if TYPE_CHECKING:
 else:
     Buffer = Union[bytes, bytearray, memoryview]
 
-__all__ = ["Answer", "Column", "MEANINGS", "Refused", "Rows", "__version__"]
+__all__ = ["Answer", "Column", "Index", "MEANINGS", "Refused", "Rows", "__version__"]
 __all__ += ["base64_decode", "base64_encode", "columns", "convert", "declare"]
 
 __version__ = "0.1.0"
@@ -112,9 +117,10 @@ MEANINGS = {
     14: "a cell that is empty but not null, and the target has no form for that",
     15: "a null, and the target has no form for it",
     16: "a character that has no XML form",
-    17: "the row, or the base64 result, is longer than the room left",
+    17: "the row, or the base64 result, is longer than the room left, or an index has no place left",
     18: "an integer outside its kind's range",
-    255: "the number of a kind of rows that is none of 0, 1 and 2",
+    20: "a row past the end of the stream",
+    255: "a kind of rows that the call does not know, or does not take",
 }
 """What each refusal's number means."""
 
@@ -136,6 +142,8 @@ class Refused(ValueError):
         belongs to that row. It is 0 where no row was read (1 to 7)."""
         self.name = name
         """The name of the refused column, where it has one and a cell of it is refused: no flags, and no start or end of a row."""
+        self.index: Optional[Index] = None
+        """The index of the rows before the refused one, where an index was built; they can be fetched by it."""
         super().__init__(self._words())
 
     def __reduce__(self) -> Tuple[object, ...]:
@@ -182,6 +190,91 @@ def convert(fields: Buffer, source: Union[Rows, str], target: Union[Rows, str], 
         if answer.number:
             raise Refused(answer, output, end, _refused_name(answer, end, declared, kinds[0], given))
         return output
+
+
+_ROWS_PER_START = 64
+
+
+class Index(NamedTuple):
+    """Where every 64th row of a stream of BINARY or BINARY2 begins, so that one row is found without those before it."""
+
+    source: Rows
+    """The kind of the rows."""
+    rows: int
+    """How many rows can be fetched."""
+    starts: "array.array[int]"
+    """The starts of rows 0, 64, 128, .. in the stream, numbers of 32 bits."""
+
+    @classmethod
+    def build(cls, fields: Buffer, source: Union[Rows, str], rows: Buffer) -> "Index":
+        """The index of a stream of the kind `source`, which is BINARY or BINARY2.
+
+        A stream that does not read is refused as by convert, and the refusal has the index of the rows before in its `index`.
+        """
+        kind = Rows.named(source)
+        if kind is Rows.TABLEDATA:
+            raise ValueError("an index is for BINARY and BINARY2; TABLEDATA can be converted first")
+        with _view("fields", fields) as text, _view("rows", rows) as given:
+            declared = _columns(text)
+            answer, starts = _indexed(kind, text, given)
+            index = cls(kind, answer.rows, starts)
+            if answer.number:
+                raise _unindexed(index, answer, declared, text, given)
+            return index
+
+    def fetch(self, fields: Buffer, rows: Buffer, row: int) -> bytes:
+        """A row, from 0, as a line of TABLEDATA; `fields` and `rows` are those that the index was built from.
+
+        A refusal stands at the row asked for: 20 where there is no such row, else why it has no form in TABLEDATA. Of the stream only the row
+        and those between it and the start before it are looked at. With an index of another stream the answer is some row, or a refusal.
+        """
+        asked = operator.index(row)
+        if not 0 <= asked < 1 << 64:
+            raise ValueError(f"{asked} is the number of no row: rows count from 0")
+        with _view("fields", fields) as text, _view("rows", rows) as given, memoryview(self.starts) as starts:
+            declared = _columns(text)
+            stream = _address(text), text.nbytes, self.source, _address(given), given.nbytes
+
+            def call(out: Optional[int], room: int, numbers: object) -> None:
+                _library.sailmortar_fetch(*stream, _address(starts), len(starts), self.rows, asked, out, room, numbers)
+
+            answer, _, output = _answered(call, _LINE, _LINE)
+            if answer.number:
+                is_cell = answer.number in _IN_WRITING
+                raise Refused(answer, name=declared[answer.column].name if is_cell else None)
+            return output
+
+
+_LINE = 4096  # The room for a line at first.
+_IN_WRITING = (14, 16)  # What a row that reads is refused with: always at a cell.
+
+
+def _indexed(kind: Rows, text: memoryview, given: memoryview) -> Tuple[Answer, "array.array[int]"]:
+    """What the library answers, and the starts. A row takes a byte at least: there is a place for every start."""
+    places = (min(given.nbytes, 1 << 30) + _ROWS_PER_START - 1) // _ROWS_PER_START
+    numbers, starts = _Numbers(), array.array("I")
+    with _mapping(places * starts.itemsize) as mapping:
+        with memoryview(mapping) as room:
+            stream = _address(text), text.nbytes, kind, _address(given), given.nbytes
+            _library.sailmortar_index(*stream, _address(room), places, numbers)
+        answer = Answer(*numbers[:5])
+        starts.frombytes(mapping[: -(-answer.rows // _ROWS_PER_START) * starts.itemsize])
+    return answer, starts
+
+
+def _unindexed(index: Index, answer: Answer, declared: List[Column], text: memoryview, given: memoryview) -> Refused:
+    """The refusal of a stream, with the index of the rows before it. Where its row begins the converter tells, from the last start on."""
+    offset = 0
+    if answer.number >= _FIRST_OF_ROWS:
+        offset = index.starts[-1] if index.starts else 0
+        try:
+            with given.cast("B") as stream, stream[offset:] as rest:
+                convert(text, index.source, Rows.BINARY2, rest)
+        except Refused as there:
+            offset += there.offset
+    refused = Refused(answer, b"", offset, _refused_name(answer, offset, declared, index.source, given))
+    refused.index = index
+    return refused
 
 
 def base64_decode(text: Buffer) -> bytes:
@@ -517,7 +610,9 @@ def _declare_types(library: ctypes.CDLL) -> None:
     library.sailmortar_base64_decode.argtypes = part + part + numbers
     library.sailmortar_base64_encode.argtypes = part + part + numbers
     library.sailmortar_declare.argtypes = part + numbers
-    for function in ("convert_piece", "base64_decode", "base64_encode", "declare"):
+    library.sailmortar_index.argtypes = part + [ctypes.c_uint32] + part + part + numbers
+    library.sailmortar_fetch.argtypes = part + [ctypes.c_uint32] + part + part + [ctypes.c_uint64, ctypes.c_uint64] + part + numbers
+    for function in ("convert_piece", "base64_decode", "base64_encode", "declare", "index", "fetch"):
         getattr(library, "sailmortar_" + function).restype = None
 
 

@@ -59,7 +59,7 @@ fn the_example_runs() {
 fn the_example_in_its_text_holds() {
     let output = python(&["-m", "doctest", "-v", &format!("{ROOT}/python/sailmortar.py")]);
     assert_quiet(&output);
-    assert!(text(&output.stdout).contains("5 passed"), "{}", text(&output.stdout));
+    assert!(text(&output.stdout).contains("7 passed"), "{}", text(&output.stdout));
 }
 
 #[test]
@@ -103,6 +103,11 @@ fn columns_are_told_as_they_were_understood() {
 #[test]
 fn line_ends_in_texts_are_one_character() {
     assert_tests_pass("test_line_ends");
+}
+
+#[test]
+fn one_row_is_found_by_an_index() {
+    assert_tests_pass("test_index");
 }
 
 #[test]
