@@ -97,10 +97,10 @@ fn wrong_usage_is_said_in_a_line() {
     let scratch = Scratch::new("usage");
     let all = "convert --fields fields --from binary --to binary2";
     let wrong = [
-        (String::new(), "say what to do: convert, check, columns, base64, explain or help"),
+        (String::new(), "say what to do: convert, check, index, row, columns, base64, explain or help"),
         ("--hlep".into(), "unknown option '--hlep'"),
-        ("konvert".into(), "unknown command 'konvert'; there are convert, check, columns, base64, explain and help"),
-        ("help konvert".into(), "there is no command 'konvert'; there are convert, check, columns, base64, explain and help"),
+        ("konvert".into(), "unknown command 'konvert'; there are convert, check, index, row, columns, base64, explain and help"),
+        ("help konvert".into(), "there is no command 'konvert'; there are convert, check, index, row, columns, base64, explain and help"),
         ("help convert check".into(), "help takes one command at most"),
         ("convert --fields fields night.binary".into(), "convert needs --from KIND and --to KIND as well"),
         ("convert --to binary --from binary".into(), "convert needs --fields FILE as well"),
@@ -140,9 +140,9 @@ fn wrong_usage_is_said_in_a_line() {
         ("base64".into(), "say which: base64 encode or base64 decode"),
         ("base64 recode".into(), "base64 can encode and decode, not 'recode'"),
         ("base64 encode --from binary".into(), "unknown option '--from' for base64"),
-        ("explain eight".into(), "there is no refusal 'eight': they are 1 to 18"),
-        ("explain 19".into(), "there is no refusal '19': they are 1 to 18"),
-        ("explain 0".into(), "there is no refusal '0': they are 1 to 18"),
+        ("explain eight".into(), "there is no refusal 'eight': they are 1 to 18 and 20"),
+        ("explain 19".into(), "there is no refusal '19': they are 1 to 18 and 20"),
+        ("explain 0".into(), "there is no refusal '0': they are 1 to 18 and 20"),
         ("explain 1 2".into(), "explain takes one number at most"),
     ];
     for (words, line) in wrong {
@@ -154,8 +154,8 @@ fn wrong_usage_is_said_in_a_line() {
 #[test]
 fn help_fits_a_screen() {
     let scratch = Scratch::new("help");
-    let commands = ["convert", "check", "columns", "base64", "explain"];
-    for topic in ["", "convert", "check", "columns", "base64", "explain"] {
+    let commands = ["convert", "check", "index", "row", "columns", "base64", "explain"];
+    for topic in [""].into_iter().chain(commands) {
         let help = scratch.run(&format!("help {topic}"));
         let text = String::from_utf8(help.out.clone()).expect("help is text");
         assert!(help.status == 0 && help.err.is_empty() && text.lines().count() <= 24, "{text}");
@@ -176,12 +176,14 @@ fn help_fits_a_screen() {
 }
 
 /// The options of each command, as its help lists them.
-const OPTIONS: [(&str, &[&str]); 4] = [
+const OPTIONS: [(&str, &[&str]); 6] = [
     (
         "convert",
         &["--fields", "--from", "--to", "--base64-in", "--base64-out", "--wrap", "--output", "--rest", "--verbose", "--json", "--help"],
     ),
     ("check", &["--fields", "--from", "--to", "--base64-in", "--json", "--help"]),
+    ("index", &["--fields", "--from", "--output", "--verbose", "--json", "--help"]),
+    ("row", &["--fields", "--from", "--index", "--output", "--verbose", "--json", "--help"]),
     ("columns", &["--fields", "--json", "--help"]),
     ("base64", &["--wrap", "--output", "--verbose", "--json", "--help"]),
 ];

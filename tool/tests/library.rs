@@ -284,7 +284,7 @@ fn columns_are_read_off_where_values_look_like_tags() {
 #[test]
 fn refusals_say_what_they_mean() {
     let numbers: Vec<u64> = NUMBERS.iter().map(|known| known.number).collect();
-    assert_eq!(numbers, (1..=18).chain([255]).collect::<Vec<u64>>(), "every number of the rules, in order");
+    assert_eq!(numbers, (1..=18).chain([20, 255]).collect::<Vec<u64>>(), "every number of the rules, in order");
     for known in NUMBERS {
         assert_eq!(meaning(known.number), Some(known.meaning));
         assert!(

@@ -36,6 +36,7 @@ mod messages {
     mod damage;
     mod declarations;
     mod hints;
+    mod index;
     mod rows;
     mod said;
     mod shown;

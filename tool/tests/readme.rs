@@ -41,6 +41,7 @@ fn every_line_of_the_command_runs() {
     assert!(said.len() >= 8, "the README shows what the command can do");
     assert_eq!(said.iter().filter(|said| said.as_bytes() == TABLEDATA).count(), 2, "the night comes back twice");
     assert_eq!(scratch.get("night.binary2"), shell::BINARY2);
+    assert_eq!(said.iter().filter(|said| *said == "<TR><TD/><TD>dusk</TD><TD/></TR>\n").count(), 1, "one row is fetched");
 }
 
 #[test]
