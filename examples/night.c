@@ -1,5 +1,5 @@
 /*
- * The sample night from C: text to BINARY2, BINARY2 to base64, and a night of which the end is still to come.
+ * The sample night from C: text to BINARY2, BINARY2 to base64, one row by an index, and a night of which the end is still to come.
  *
  *     cc -I include examples/night.c target/library/libsailmortar.a -o night && ./night
  */
@@ -26,7 +26,8 @@ static void convert(uint32_t from, uint32_t to, const void *rows, size_t length,
 
 int main(void) {
     uint8_t binary2[64], letters[64], text[256];
-    uint64_t answer[6], encoded[5];
+    uint32_t starts[1];
+    uint64_t answer[6], encoded[5], fetched[5];
     size_t end;
 
     sailmortar_declare((const uint8_t *)fields, strlen(fields), answer);
@@ -38,6 +39,12 @@ int main(void) {
 
     convert(SAILMORTAR_BINARY2, SAILMORTAR_TABLEDATA, binary2, answer[SAILMORTAR_BYTES], text, sizeof text, answer);
     printf("%.*s", (int)answer[SAILMORTAR_BYTES], (const char *)text);
+
+    /* One row, found by an index; of a long night this takes no longer. */
+    sailmortar_index((const uint8_t *)fields, strlen(fields), SAILMORTAR_BINARY2, binary2, 16, starts, 1, answer);
+    sailmortar_fetch((const uint8_t *)fields, strlen(fields), SAILMORTAR_BINARY2, binary2, 16, starts, 1, answer[SAILMORTAR_ROWS], 1, text,
+                     sizeof text, fetched);
+    printf("row 1 of %" PRIu64 ": %.*s", answer[SAILMORTAR_ROWS], (int)fetched[SAILMORTAR_BYTES], (const char *)text);
 
     /* The last byte is missing: the first row stands, and the answer says where it went wrong. */
     convert(SAILMORTAR_BINARY2, SAILMORTAR_TABLEDATA, binary2, 15, text, sizeof text, answer);

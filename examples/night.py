@@ -1,4 +1,4 @@
-"""The sample night from Python: its columns, text to BINARY2, BINARY2 to base64, and a cut file.
+"""The sample night from Python: its columns, text to BINARY2, BINARY2 to base64, one row by an index, and a cut file.
 
     python3 examples/night.py
 """
@@ -20,6 +20,10 @@ binary2 = sailmortar.convert(fields, "tabledata", "binary2", text)
 print(binary2.hex(" "))
 print(sailmortar.base64_encode(binary2).decode())
 print(sailmortar.convert(fields, "binary2", "tabledata", binary2).decode(), end="")
+
+# One row, found by an index; of a long night this takes no longer.
+index = sailmortar.Index.build(fields, "binary2", binary2)
+print(f"row 1 of {index.rows}: {index.fetch(fields, binary2, 1).decode()}", end="")
 
 # The last byte is missing: the first row stands, and the refusal says where it went wrong.
 try:

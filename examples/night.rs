@@ -1,8 +1,8 @@
-//! The sample night from Rust: text to BINARY2 and back, both forms shown, and a cut file.
+//! The sample night from Rust: text to BINARY2 and back, both forms shown, one row by an index, and a cut file.
 //!
 //!     cargo run --release --example night
 
-use sailmortar::{convert_to_vec, Error, Rows};
+use sailmortar::{convert_to_vec, Error, Index, Rows};
 
 const FIELDS: &[u8] = include_bytes!("night.fields");
 const NIGHT: &[u8] = include_bytes!("night.tabledata");
@@ -15,6 +15,12 @@ fn main() -> Result<(), Error> {
 
     let done = convert_to_vec(FIELDS, Rows::Binary2, Rows::TableData, &binary2, &mut text)?;
     println!("and back, {} rows:\n{}", done.rows, String::from_utf8_lossy(&text));
+
+    // One row, found by an index; of a long night this takes no longer.
+    text.clear();
+    let index = Index::build(FIELDS, Rows::Binary2, &binary2)?;
+    index.fetch(FIELDS, &binary2, 1, &mut text)?;
+    println!("row 1 of {}:\n{}", index.of().rows, String::from_utf8_lossy(&text));
 
     // The last byte is missing: the first row stands, and the refusal says where it went wrong.
     text.clear();

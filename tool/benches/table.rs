@@ -107,9 +107,14 @@ impl Random {
 
 /// About so many bytes of text, in whole rows.
 pub fn night(bytes_of_text: usize) -> Night {
+    night_without(&[], bytes_of_text)
+}
+
+/// The same without the columns of these names.
+pub fn night_without(left_out: &[&str], bytes_of_text: usize) -> Night {
     let mut random = Random(11);
     let mut night = Night {
-        declarations: declarations(),
+        declarations: declarations(left_out),
         text: Vec::with_capacity(bytes_of_text + 2_000),
         binary: Vec::new(),
         binary2: Vec::new(),
@@ -117,7 +122,7 @@ pub fn night(bytes_of_text: usize) -> Night {
     };
     while night.text.len() < bytes_of_text {
         let values = row(&mut random, night.rows as i64);
-        night.add(&values);
+        night.add(left_out, &values);
     }
     night
 }
@@ -137,9 +142,14 @@ pub fn with_line_ends(text: &[u8], line_end: &str) -> Vec<u8> {
     lines.into_bytes()
 }
 
-fn declarations() -> Vec<u8> {
+/// The columns but for those of these names.
+fn columns<'a>(left_out: &'a [&str]) -> impl Iterator<Item = (usize, &'static Column)> + 'a {
+    COLUMNS.iter().enumerate().filter(|(_, column)| !left_out.contains(&column.name))
+}
+
+fn declarations(left_out: &[&str]) -> Vec<u8> {
     let mut text = String::new();
-    for column in &COLUMNS {
+    for (_, column) in columns(left_out) {
         text += &format!("<FIELD name=\"{}\" datatype=\"{}\"", column.name, column.datatype);
         if let Some(arraysize) = column.arraysize {
             text += &format!(" arraysize=\"{arraysize}\"");
@@ -187,11 +197,11 @@ fn row(random: &mut Random, row: i64) -> [Value; 20] {
 }
 
 impl Night {
-    fn add(&mut self, values: &[Value; 20]) {
+    fn add(&mut self, left_out: &[&str], values: &[Value; 20]) {
         let flags = self.binary2.len();
-        self.binary2.extend([0; COLUMNS.len().div_ceil(8)]);
+        self.binary2.resize(flags + columns(left_out).count().div_ceil(8), 0);
         self.text.extend(b"<TR>");
-        for (place, (column, value)) in COLUMNS.iter().zip(values).enumerate() {
+        for (place, (value, column)) in columns(left_out).map(|(place, column)| (&values[place], column)).enumerate() {
             if let Null = value {
                 self.binary2[flags + place / 8] |= 0x80 >> (place % 8);
             }

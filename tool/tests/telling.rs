@@ -212,7 +212,12 @@ fn bytes_go_to_a_terminal_only_where_they_are_asked_for_twice() {
     let scratch = Scratch::new("terminal");
     scratch.put("letters", b"Zm9v");
     let convert = "convert --fields fields --from tabledata night.tabledata --to";
-    for (words, what) in [(format!("{convert} binary"), "BINARY"), ("base64 decode letters".to_string(), "what base64 stands for")] {
+    let cases = [
+        (format!("{convert} binary"), "BINARY"),
+        ("base64 decode letters".to_string(), "what base64 stands for"),
+        ("index --fields fields --from binary2 night.binary2".to_string(), "an index"),
+    ];
+    for (words, what) in cases {
         let said = at_a_terminal(&scratch, &words);
         let line = format!(
             "sailmortar: {what} is no text, and standard output is a terminal: give '-o FILE', or '-o -' to write it here all the same"
