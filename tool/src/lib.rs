@@ -2,7 +2,8 @@
 //!
 //! The converter is proved: whatever bytes come in, the answer is rows or one numbered refusal with its row and column, the good rows
 //! before it stand whole in the output, and every byte after them is untouched. This crate is the thin, unproved layer over it: slices in,
-//! results out.
+//! results out. One row of a long stream of BINARY or BINARY2 is found by an [`Index`], of a file without reading the rest of it
+//! ([`IndexedRows`]).
 //!
 //! ```
 //! # fn main() -> Result<(), sailmortar::Error> {

@@ -287,6 +287,7 @@ fn out_of_memory_is_said_and_leaves_nothing() {
             "cat long | \"$PROGRAM\" convert --fields byte --from binary --to binary2 -o out",
             "\"$PROGRAM\" convert --fields byte --from binary --to binary2 --base64-out long -o out",
             "\"$PROGRAM\" check --fields byte --from binary long > /dev/null",
+            "\"$PROGRAM\" index --fields byte --from binary long -o out",
         ],
     );
 }
@@ -306,14 +307,32 @@ fn out_of_memory_for_base64_is_said_and_leaves_nothing() {
     );
 }
 
+/// Room as long as the stream is asked for, and not used: some systems do not give it all the same.
+#[test]
+fn out_of_memory_for_one_row_is_said() {
+    let scratch = Scratch::new("memory_row");
+    File::create(scratch.path("long")).and_then(|file| file.set_len(256 << 20)).expect("a long file");
+    scratch.put("byte", b"<FIELD datatype='char' arraysize='4096'/>");
+    assert_eq!(scratch.run("index --fields byte --from binary long -o index"), Said::good(b""));
+    let line = "\"$PROGRAM\" row 60000 --fields byte --from binary long --index index -o out";
+    assert_eq!(with_memory(&scratch, 200_000, line), Said::trouble("out of memory"));
+    assert_eq!((scratch.has("out"), scratch.parts()), (false, vec![]));
+    assert_eq!(with_memory(&scratch, 400_000, line), Said::good(b""));
+    assert_eq!(scratch.get("out"), b"<TR><TD/></TR>\n");
+}
+
 #[test]
 fn a_long_file_is_refused_by_its_size_and_not_read() {
     let scratch = Scratch::new("unread");
     File::create(scratch.path("long")).and_then(|file| file.set_len((1 << 30) + 1)).expect("a long file");
     // There is memory for a hundredth of it, and an input that is read would be the first to miss it.
-    for words in
-        ["convert --fields fields --from binary --to binary2", "base64 encode", "base64 decode", "check --fields fields --from binary"]
-    {
+    for words in [
+        "convert --fields fields --from binary --to binary2",
+        "base64 encode",
+        "base64 decode",
+        "check --fields fields --from binary",
+        "index --fields fields --from binary",
+    ] {
         let said = with_memory(&scratch, 20_000, &format!("\"$PROGRAM\" {words} long"));
         assert!(said.status == 1 && said.err.contains("long: refusal 6") && said.err.contains("1 GiB"), "{words}: {said:?}");
         let said = with_memory(&scratch, 20_000, &format!("\"$PROGRAM\" {words} < long"));

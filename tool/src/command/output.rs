@@ -87,6 +87,11 @@ impl Output {
         }
     }
 
+    /// Whether something was written that cannot be taken back.
+    pub fn has_gone_out(&self) -> bool {
+        self.moving.is_none() && self.written > 0
+    }
+
     /// Whether something stands under its name that is left as it was where nothing is written.
     pub fn is_there(&self) -> bool {
         self.moving.is_some() && self.identity.is_some()

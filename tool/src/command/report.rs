@@ -125,14 +125,14 @@ pub fn past_the_end(file: &OsStr, of: &Indexed, refused: &Refused, check: &str, 
     report
 }
 
-/// An index that is not used; `build` is the command that builds the right one.
-pub fn misfit(file: &OsStr, misfit: Misfit, build: &str) -> Report {
+/// An index that is not used; `stands` says what is written, and `build` is the command that builds the right one.
+pub fn misfit(file: &OsStr, misfit: Misfit, stands: &str, build: &str) -> Report {
     let mut report = Report::default();
     report.text("file", file.to_string_lossy());
     report.text("message", misfit.to_string());
     report.text("build", build);
     report.lines.push(format!("{}: {misfit}", shown(file)));
-    report.lines.push(format!("it is not used, and nothing is written; build the index with '{build}'"));
+    report.lines.push(format!("it is not used, and {stands}; build the index with '{build}'"));
     report
 }
 

@@ -42,7 +42,7 @@ pub fn row(fetching: &Fetching) -> Result<Report, End> {
             (refused.rows, refused.bytes) = (lines.rows, lines.bytes);
             Err(refused_one(fetching, &fields, &input, &rows, refused, stands))
         }
-        Err(Stop::Misfit(misfit)) => Err(misfitting(fetching, &index, misfit)),
+        Err(Stop::Misfit(misfit)) => Err(misfitting(fetching, &index, misfit, output.has_gone_out())),
         Err(Stop::Trouble(trouble)) => Err(trouble.into()),
         Err(Stop::System(cause)) => Err(Trouble::with(&input.name)(cause).into()),
     }
@@ -129,20 +129,21 @@ fn open_index(fetching: &Fetching) -> Result<Input, End> {
 fn not_opened(fetching: &Fetching, input: &Input, index: &Input, error: Error) -> End {
     match error {
         Error::Refused(refused) if refused.number == 6 => End::Refused(report::too_long(&input.name, "")),
-        Error::Misfit(misfit) => misfitting(fetching, index, misfit),
+        Error::Misfit(misfit) => misfitting(fetching, index, misfit, false),
         Error::System(cause) => Trouble::with(&index.name)(cause).into(),
         other => Trouble::with(&input.name)(io::Error::other(other)).into(),
     }
 }
 
 /// What is no index may be a night that was named by mistake: the words do not say to write over it.
-fn misfitting(fetching: &Fetching, index: &Input, misfit: Misfit) -> End {
+fn misfitting(fetching: &Fetching, index: &Input, misfit: Misfit, has_gone_out: bool) -> End {
     let name = match misfit {
         Misfit::NoIndex => advice::name_for_index(&fetching.stream),
         _ => fetching.index.clone().into_os_string(),
     };
     let build = advice::to_build(&fetching.table, &fetching.stream, &name);
-    End::Refused(report::misfit(&index.name, misfit, &build))
+    let stands = if has_gone_out { "what it gave so far is not to be trusted" } else { "nothing is written" };
+    End::Refused(report::misfit(&index.name, misfit, stands, &build))
 }
 
 fn refused_one(

@@ -285,9 +285,22 @@ fn a_stream_that_has_changed_is_said() {
         &format!("it is not used, and nothing is written; {BUILD}"),
     ];
     assert_eq!(scratch.run(&format!("row 70 {ROW}")), Said::refused(b"", &lines));
-    let json = scratch.run(&format!("row 70 {ROW} --json")).err;
+    // The first part is as it was, and so much of it was asked for that some has gone out.
+    let last = start(Rows::Binary2, 190);
+    scratch.put("night", &[&input[..last], &input[last + 1..], b"x"].concat());
+    let (first, said) = (["0-63"; 500].join(" "), "what it gave so far is not to be trusted");
+    let told = scratch.run(&format!("row {first} 195 {ROW}"));
+    assert!(!told.out.is_empty() && lines_of_first(&told.out) && told.err.contains(said) && told.status == 1, "{}", told.err);
+    let told = scratch.run(&format!("row {first} 195 {ROW} -o out"));
+    assert!(told.err.contains("it is not used, and nothing is written") && !scratch.has("out"), "{}", told.err);
+    let json = scratch.run(&format!("row 195 {ROW} --json")).err;
     assert!(json.starts_with("{\"status\":1,\"file\":\"night.index\",\"message\":\"the stream has changed"), "{json}");
     assert!(json.contains("\"build\":\"sailmortar index --fields f --from binary2 night -o night.index\"}"), "{json}");
+}
+
+/// Whether these are lines of rows 0 to 63, over and over.
+fn lines_of_first(out: &[u8]) -> bool {
+    lines(0..64).repeat(500).as_bytes().starts_with(out)
 }
 
 /// A night that was named as the index by mistake must not be lost by following the words.

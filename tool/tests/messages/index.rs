@@ -43,10 +43,10 @@ fn a_row_past_the_end() {
 
 #[test]
 fn an_index_that_does_not_fit() {
-    let report = report::misfit(OsStr::new("night.index"), Misfit::OtherDeclarations, "sailmortar index");
+    let report = report::misfit(OsStr::new("night.index"), Misfit::OtherDeclarations, STANDS, "sailmortar index");
     let lines = [
         "night.index: this index was built with other FIELD elements",
-        "it is not used, and nothing is written; build the index with 'sailmortar index'",
+        "it is not used, and the rows before it stand; build the index with 'sailmortar index'",
     ];
     assert_eq!(report.lines, lines);
     assert_eq!((report.text_of("file"), report.text_of("build")), (Some("night.index"), Some("sailmortar index")));
