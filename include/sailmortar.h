@@ -33,12 +33,12 @@ enum {
     SAILMORTAR_BINARY2 = 2
 };
 
-/* Places in the answer of a conversion or a base64 step. */
+/* Places in the answer of a conversion, a base64 step, an index or a fetch. */
 enum {
     SAILMORTAR_NUMBER = 0, /* 0 accepted, else the refusal's number */
     SAILMORTAR_ROW = 1,    /* the refused row, from 0 */
     SAILMORTAR_COLUMN = 2, /* the refused column, from 0; for 1 to 5 the whole FIELDs before the refused element */
-    SAILMORTAR_ROWS = 3,   /* how many rows stand whole in the output; 0 for base64 */
+    SAILMORTAR_ROWS = 3,   /* how many rows stand whole in the output, or were read for an index; 0 for base64 */
     SAILMORTAR_BYTES = 4   /* how many bytes were written */
 };
 

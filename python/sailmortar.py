@@ -95,7 +95,7 @@ class Answer(NamedTuple):
     column: int
     """The refused column, from 0; for refusals 1 to 5 the number of whole FIELDs before the refused element."""
     rows: int
-    """How many rows stand whole in the output."""
+    """How many rows stand whole in the output, or were read for an index."""
     bytes: int
     """How many bytes were written."""
 

@@ -94,17 +94,18 @@ impl Index {
         self.starts.try_reserve_exact(input.len().min(INPUT_LIMIT).div_ceil(ROWS_PER_START as usize))?;
         let answer = index_behind(decls, self.of.from, input, &mut self.starts);
         self.starts.shrink_to_fit();
-        match answer {
-            Ok(done) => {
-                (self.of.rows, self.of.end) = (done.rows, self.of.length);
-                Ok(())
-            }
-            Err(refused) => {
-                let offset = self.offset_of(decls, input, &refused)?;
-                (self.of.rows, self.of.end) = (refused.rows, offset as u64);
-                Err(Refused { offset, ..refused }.into())
-            }
-        }
+        let (rows, end, stopped) = match answer {
+            Ok(done) => (done.rows, input.len(), Ok(())),
+            Err(refused) => match self.offset_of(decls, input, &refused) {
+                Ok(offset) => (refused.rows, offset, Err(Refused { offset, ..refused }.into())),
+                Err(error) => {
+                    self.starts.clear();
+                    (0, 0, Err(error))
+                }
+            },
+        };
+        (self.of.rows, self.of.end) = (rows, end as u64);
+        stopped
     }
 
     /// Where the refused row begins: converting from the last start on is refused there, too, and tells.

@@ -19,7 +19,7 @@
 use std::fmt;
 use std::io::{self, Read, Write};
 
-use crate::{Error, Index, Indexed, Rows, INPUT_LIMIT};
+use crate::{Error, Index, Indexed, Rows, INPUT_LIMIT, ROWS_PER_START};
 
 const MAGIC: &[u8; 16] = b"sailmortar-index";
 const FORMAT: u32 = 1;
@@ -128,6 +128,24 @@ impl Indexed {
         let can_be = rows <= end && end <= length && length <= INPUT_LIMIT as u64 && starts == of.starts();
         (can_be && from != Rows::TableData && signature == fingerprint(signed).to_le_bytes()).then_some(of)
     }
+
+    /// Whether these can be all its starts.
+    fn are_starts(&self, starts: &[u32]) -> bool {
+        starts.iter().enumerate().all(|(place, start)| {
+            let next = starts.get(place + 1).map_or(self.end, |next| u64::from(*next));
+            self.can_be_part(place as u64, u64::from(*start), next)
+        })
+    }
+
+    /// Whether the rows from this place's start on can stand between these two bytes: row 0 alone begins at 0, and each takes a byte at least.
+    pub(crate) fn can_be_part(&self, place: u64, start: u64, next: u64) -> bool {
+        (start == 0) == (place == 0) && next <= self.end && start + self.rows_of(place) <= next
+    }
+
+    /// How many rows stand from this place's start to the next.
+    pub(crate) fn rows_of(&self, place: u64) -> u64 {
+        (self.rows - place * ROWS_PER_START).min(ROWS_PER_START)
+    }
 }
 
 impl Index {
@@ -156,27 +174,5 @@ impl Index {
             true => Ok(Index { of, starts }),
             false => Err(Misfit::Damaged.into()),
         }
-    }
-}
-
-impl Indexed {
-    /// Whether these can be all its starts: the first row begins at 0, and rows take at least a byte each.
-    fn are_starts(&self, starts: &[u32]) -> bool {
-        starts.first().is_none_or(|first| *first == 0)
-            && starts.iter().enumerate().all(|(place, start)| {
-                let next = starts.get(place + 1).map_or(self.end, |next| u64::from(*next));
-                self.can_be_part(place as u64, u64::from(*start), next)
-            })
-    }
-
-    /// Whether the rows from this place's start on can stand between these two bytes.
-    pub(crate) fn can_be_part(&self, place: u64, start: u64, next: u64) -> bool {
-        let is_first = place == 0;
-        (start == 0) == is_first && next <= self.end && start + self.rows_of(place) <= next
-    }
-
-    /// How many rows stand from this place's start to the next.
-    pub(crate) fn rows_of(&self, place: u64) -> u64 {
-        (self.rows - place * crate::ROWS_PER_START).min(crate::ROWS_PER_START)
     }
 }

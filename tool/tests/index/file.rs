@@ -182,6 +182,10 @@ fn starts_that_are_not_the_streams_are_found() {
             if damaged == good {
                 continue;
             }
+            // Without the stream only what cannot be is seen.
+            if other == u32::MAX as usize || other == 0 {
+                assert_eq!(misfit(Index::read(&damaged[..])), Misfit::Damaged, "{other} at {place}");
+            }
             let mut rows = IndexedRows::open(FIELDS, Rows::Binary, Cursor::new(&input), Cursor::new(&damaged)).expect("the header is good");
             let found = misfit(rows.fetch(64 * place as u64 + 5, &mut Vec::new()));
             let expected = [Misfit::Damaged, Misfit::OtherRows { row: 64 * place as u64 }];
