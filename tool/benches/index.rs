@@ -142,25 +142,18 @@ impl Stream {
         });
         let path = self.file.with_extension("index");
         index.write(File::create(&path).expect("a file for the index")).expect("it is written");
-        let mut read = 0;
+        let open = |path| File::open(path).expect("it is there");
+        let rows = IndexedRows::open(&self.declarations, Rows::Binary2, open(&self.file), open(&path));
+        let mut rows = rows.expect("the index fits");
         let from_files = self.median(FETCHES, |row| {
             line.clear();
-            read += self.fetch_from_files(&path, row, &mut line);
+            rows.fetch(row, &mut line).expect("it has a form");
         });
         let by_command = self.by_command(&path);
         let _ = fs::remove_file(&path);
         let whole = best(|| self.convert(Rows::TableData));
-        let (size, part) = (self.mega(), read / FETCHES as u64);
+        let (size, part) = (self.mega(), rows.read() / FETCHES as u64);
         format!("| {size:.1} | {in_memory:.1} | {from_files:.1} | {part} | {by_command:.0} | {:.0} |", whole * 1e6)
-    }
-
-    /// As the command does it: both files are opened for the one row.
-    fn fetch_from_files(&self, index: &PathBuf, row: u64, line: &mut Vec<u8>) -> u64 {
-        let open = |path| File::open(path).expect("it is there");
-        let rows = IndexedRows::open(&self.declarations, Rows::Binary2, open(&self.file), open(index));
-        let mut rows = rows.expect("the index fits");
-        rows.fetch(row, line).expect("it has a form");
-        rows.read()
     }
 
     /// Microseconds of a run of the command for one row, from its start to its end.

@@ -32,18 +32,20 @@ pub struct IndexedRows<'a, S, I> {
     stream: S,
     index: I,
     part: Option<Part>,
+    /// As long as the stream, and zeros but for the part: what is fetched from it depends on no other byte. It is made once, since to make it
+    /// again for each part may take as long as to clear all of it.
+    bytes: Vec<u8>,
+    /// As many as the index has, and zeros but for the part's.
+    starts: Vec<u32>,
     read: u64,
 }
 
 /// The part of the stream that was read last, from one start to the next.
-#[derive(Debug)]
+#[derive(Clone, Copy, Debug)]
 struct Part {
     place: u64,
     start: usize,
-    /// As long as the stream, and zeros but for the part: what is fetched from it depends on no other byte.
-    bytes: Vec<u8>,
-    /// As many as the index has, and zeros but for the one.
-    starts: Vec<u32>,
+    next: usize,
 }
 
 impl<'a, S: Read + Seek, I: Read + Seek> IndexedRows<'a, S, I> {
@@ -63,7 +65,7 @@ impl<'a, S: Read + Seek, I: Read + Seek> IndexedRows<'a, S, I> {
             return Err(Misfit::OtherSize { wanted: of.file_size(), found }.into());
         }
         of.fits(decls, from, length)?;
-        Ok(IndexedRows { decls, of, stream, index, part: None, read: 0 })
+        Ok(IndexedRows { decls, of, stream, index, part: None, bytes: Vec::new(), starts: Vec::new(), read: 0 })
     }
 
     /// What the index says that it is the index of.
@@ -86,45 +88,64 @@ impl<'a, S: Read + Seek, I: Read + Seek> IndexedRows<'a, S, I> {
             return Ok(fetch(self.decls, from, &[], &[], rows, row, &mut [])?);
         }
         let place = row / ROWS_PER_START;
-        if self.part.as_ref().is_none_or(|part| part.place != place) {
-            // One at a time: what the last one took goes back first.
-            self.part = None;
-            self.part = Some(self.read_part(place)?);
+        if self.part.is_none_or(|part| part.place != place) {
+            self.go_to(place)?;
         }
-        let (decls, part) = (self.decls, self.part.as_ref());
-        let (bytes, starts) = part.map_or((&[][..], &[][..]), |part| (&part.bytes, &part.starts));
+        let (decls, bytes, starts) = (self.decls, &self.bytes, &self.starts);
         growing(out, |out| fetch_behind(decls, from, bytes, starts, rows, row, out))
     }
 
     /// The stream as far as it is in memory, from the start before the row that was fetched last to the start behind it; and where that start is.
     /// Every other byte is 0.
     pub fn part(&self) -> Option<(&[u8], usize)> {
-        self.part.as_ref().map(|part| (&part.bytes[..], part.start))
+        self.part.map(|part| (&self.bytes[..], part.start))
     }
 
-    fn read_part(&mut self, place: u64) -> Result<Part, Error> {
-        let (start, next) = self.bounds(place)?;
-        let mut part = Part { place, start, bytes: zeros(self.of.length as usize)?, starts: zeros(self.of.starts() as usize)? };
-        part.starts[place as usize] = start as u32;
-        let bytes = &mut part.bytes[start..next];
+    /// Has the part of this place, and nothing where it cannot be had.
+    fn go_to(&mut self, place: u64) -> Result<(), Error> {
+        self.let_go();
+        let part = self.part_of(place)?;
+        if self.bytes.is_empty() {
+            (self.bytes, self.starts) = (zeros(self.of.length as usize)?, zeros(self.of.starts() as usize)?);
+        }
+        self.part = Some(part);
+        let read = self.read_part(part);
+        if read.is_err() {
+            self.let_go();
+        }
+        read
+    }
+
+    fn let_go(&mut self) {
+        if let Some(part) = self.part.take() {
+            self.bytes[part.start..part.next].fill(0);
+            self.starts[part.place as usize] = 0;
+        }
+    }
+
+    fn read_part(&mut self, Part { place, start, next }: Part) -> Result<(), Error> {
+        let bytes = &mut self.bytes[start..next];
         self.stream.seek(SeekFrom::Start(start as u64))?;
         self.stream.read_exact(bytes)?;
+        self.starts[place as usize] = start as u32;
         self.read += bytes.len() as u64;
         // As a stream of its own it has to be so many rows: a stream that is not the one that was indexed hardly ever is.
         match index(self.decls, self.of.from, bytes, &mut [0]) {
-            Ok(done) if done.rows == self.of.rows_of(place) => Ok(part),
+            Ok(done) if done.rows == self.of.rows_of(place) => Ok(()),
             _ => Err(Misfit::OtherRows { row: place * ROWS_PER_START }.into()),
         }
     }
 
-    /// Where the rows from this place's start to the next begin and end.
-    fn bounds(&mut self, place: u64) -> Result<(usize, usize), Error> {
+    /// Where the rows from this place's start to the next begin and end, as the index has it.
+    fn part_of(&mut self, place: u64) -> Result<Part, Error> {
         let mut starts = Vec::new();
         self.index.seek(SeekFrom::Start(HEADER as u64 + place * START as u64))?;
         self.index.by_ref().take(2 * START as u64).read_to_end(&mut starts)?;
         let mut starts = starts.as_chunks().0.iter().map(|bytes| u64::from(u32::from_le_bytes(*bytes)));
         match (starts.next(), starts.next().unwrap_or(self.of.end)) {
-            (Some(start), next) if self.of.can_be_part(place, start, next) => Ok((start as usize, next as usize)),
+            (Some(start), next) if self.of.can_be_part(place, start, next) => {
+                Ok(Part { place, start: start as usize, next: next as usize })
+            }
             _ => Err(Misfit::Damaged.into()),
         }
     }

@@ -213,6 +213,31 @@ fn a_stream_that_has_changed_is_found() {
     }
 }
 
+#[test]
+fn a_part_that_does_not_fit_spoils_no_other() {
+    let mut input = night(Rows::Binary, 200);
+    let index = file(Rows::Binary, &input);
+    // A text of the second part says that it is longer than it is.
+    let spoiled = start(Rows::Binary, 70) + 7;
+    input[spoiled] += 1;
+    let mut rows = IndexedRows::open(FIELDS, Rows::Binary, Cursor::new(&input), Cursor::new(&index)).expect("it seems to fit");
+    for row in [3, 70, 71, 130, 64, 5, 127, 199] {
+        let mut out = Vec::new();
+        match rows.fetch(row, &mut out) {
+            Ok(_) => assert_eq!((row / 64 == 1, out), (false, line(row as usize).into_bytes())),
+            other => assert_eq!((row / 64, misfit(other)), (1, Misfit::OtherRows { row: 64 })),
+        }
+        let (from, to) = (start(Rows::Binary, row as usize / 64 * 64), start(Rows::Binary, (row as usize / 64 * 64 + 64).min(200)));
+        match rows.part() {
+            None => assert_eq!(row / 64, 1),
+            Some((bytes, first)) => {
+                assert!(row / 64 != 1 && first == from && bytes[from..to] == input[from..to]);
+                assert!(bytes[..from].iter().chain(&bytes[to..]).all(|byte| *byte == 0), "row {row}");
+            }
+        }
+    }
+}
+
 /// A file that counts what is read of it.
 struct Counted<'a> {
     file: Cursor<&'a [u8]>,
