@@ -125,9 +125,9 @@ void sailmortar_index(const uint8_t *decls, size_t decls_length, uint32_t from, 
  * converting that row alone gives. A refusal stands at the row asked for, and `out` is as it was: SAILMORTAR_PAST_THE_END where the stream has no
  * such row, what the row is refused with where it has no form in TABLEDATA, SAILMORTAR_NO_ROOM where its line does not fit.
  *
- * What is answered depends, of `input`, only on its length and on the bytes from the start at place row / 64 to the row's end, and, of `index`, only
- * on its length and that place. So a stream in a file need not be read whole: all else may be zeros. With an index of another stream it is some row,
- * or a refusal.
+ * What is answered depends, of `input`, only on its length and on the bytes from the start at place row / 64 to the row's end (where that row, or one
+ * on the way to it, does not read, on all that follow the start), and, of `index`, only on its length and that place. So a stream in a file need not be
+ * read whole: all else may be zeros. With an index of another stream it is some row, or a refusal.
  */
 void sailmortar_fetch(const uint8_t *decls, size_t decls_length, uint32_t from, const uint8_t *input, size_t input_length, const uint32_t *index,
                       size_t index_length, uint64_t rows, uint64_t row, uint8_t *out, size_t out_length, uint64_t answer[5]);

@@ -129,7 +129,8 @@ impl<'a, S: Read + Seek, I: Read + Seek> IndexedRows<'a, S, I> {
         self.stream.read_exact(bytes)?;
         self.starts[place as usize] = start as u32;
         self.read += bytes.len() as u64;
-        // As a stream of its own it has to be so many rows: a stream that is not the one that was indexed hardly ever is.
+        // As a stream of its own it has to be so many rows: a stream that is not the one that was indexed hardly ever is. And where they read, no
+        // byte behind them counts.
         match index(self.decls, self.of.from, bytes, &mut [0]) {
             Ok(done) if done.rows == self.of.rows_of(place) => Ok(()),
             _ => Err(Misfit::OtherRows { row: place * ROWS_PER_START }.into()),

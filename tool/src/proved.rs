@@ -173,9 +173,11 @@ pub(crate) fn index_behind(decls: &[u8], from: Rows, input: &[u8], index: &mut V
 /// same stream and declarations.
 ///
 /// A refusal stands at the row asked for and writes nothing: 20 where the stream has no such row, what the row is refused with where it has no
-/// form in TABLEDATA, 17 where `out` has no room for its line. What is answered depends, of the input, only on its length and on the bytes from
-/// the start at place `row / 64` to the row's end, and, of the index, only on its length and that place: the rest need not be there. With an
-/// index of another stream the answer is some row, or a refusal. A refusal's offset is 0.
+/// form in TABLEDATA, 17 where `out` has no room for its line. A refusal's offset is 0.
+///
+/// What is answered depends, of the input, only on its length and on the bytes from the start at place `row / 64` to the row's end (where that
+/// row, or one on the way to it, does not read, on all that follow the start), and, of the index, only on its length and that place: the rest
+/// need not be there. With an index of another stream the answer is some row, or a refusal.
 pub fn fetch(decls: &[u8], from: Rows, input: &[u8], index: &[u32], rows: u64, row: u64, out: &mut [u8]) -> Result<Done, Refused> {
     fetch_in(decls, from, input, index, rows, row, room_of(out))
 }
