@@ -4,7 +4,7 @@
  * Link target/library/libsailmortar.a, or libsailmortar.so beside it; once installed, what `pkg-config --cflags --libs sailmortar` says.
  * All functions but sailmortar_version are proved: whatever bytes come in, the answer is rows or one numbered refusal with its row and
  * column, the good rows before it stand whole in the output, and every byte of the output after them is as it was. They allocate nothing,
- * keep nothing between calls, may be called from several threads at once, and use less than 100 KB of stack.
+ * keep nothing between calls, may be called from several threads at once, and use less than 128 KB of stack.
  *
  * What the caller sees to: a length is the number of bytes behind its pointer, of an index the number of its 32-bit numbers; a pointer may be
  * null where its length is 0, `answer` never; `out`, an index that is filled and `answer` overlap nothing else; no length is over PTRDIFF_MAX

@@ -50,7 +50,8 @@ unfolding behindRows
 behind-add from cs a zero s = ap (λ (n : ℕ). behindRows from cs n s) (add-zero a)
 behind-add from cs a (suc b) s =
     let more : a + suc b ≡ suc (a + b) = omega arith in
-    ap (λ (n : ℕ). behindRows from cs n s) more ∙ behind-step from cs (a + b) s ∙ ap (λ (t : List ℕ). behindRow (readRow from cs t) t (λ rest. rest)) (behind-add from cs a b s) ∙ sym (behind-step from cs b (behindRows from cs a s))
+    ap (λ (n : ℕ). behindRows from cs n s) more ∙ behind-step from cs (a + b) s
+    ∙ ap (λ (t : List ℕ). behindRow (readRow from cs t) t (λ rest. rest)) (behind-add from cs a b s) ∙ sym (behind-step from cs b (behindRows from cs a s))
 
 behind-count : {j : ℕ} {t u : Table} → Behind j t u → count t ≡ j + count u
 unfolding count

@@ -1,7 +1,7 @@
 -- The calls by their front: refused there, the answer is the refusal and nothing is touched; else it is the rows, or the row asked for.
 use Prim.Native.Nat.{_≤_, ℕ}
 use mathlib.Core.List.{List, []}
-use mathlib.Core.Path.{_∙_, _≡_, ap, sym}
+use mathlib.Core.Path.{_∙_, _≡_}
 use lib.Dec.{ltb}
 use lib.ListN.{length}
 use borrow.Author.Tests.{ltb-false}

@@ -1,5 +1,5 @@
 -- Sentences of 02 that compute: which rows have an entry, that all are counted, and the numbers of a row that has no place or is past the end.
-use mathlib.Core.List.{List, [], _∷_}
+use mathlib.Core.List.{[], _∷_}
 use mathlib.Core.Path.{_≡_, refl}
 use Rattle.index.specs.Fetch.{fetchIndexed, isIndexed}
 use Rattle.index.specs.Index.{enter, entryOf}

@@ -1,8 +1,8 @@
 -- An index and a row fetched by it, as calls of the face: the theorems of the definitions, carried to the numbers and the buffers.
 use Prim.Native.Nat.{ℕ}
-use mathlib.Core.List.{List, [], _∷_}
-use mathlib.Core.Option.{none, some}
-use mathlib.Core.Path.{_≡_, ap₂, subst, subst⁻¹}
+use mathlib.Core.List.{List}
+use mathlib.Core.Option.{some}
+use mathlib.Core.Path.{_≡_, subst, subst⁻¹}
 use lib.ListN.{getD}
 use Rattle.demands.proofs.Indexed.{index-ended, stops-as-converted}
 use Rattle.demands.specs.OneRow.{FetchEnded, FetchesAlike}
