@@ -8,7 +8,7 @@ use Rattle.binary.specs.Binary.{unpack, writeBinary, writeBinary2, zeros}
 use Rattle.demands.specs.Cases.{allPass, cameOut, cases, passes, sameAnswer}
 use Rattle.demands.specs.Demands.{output}
 use Rattle.demands.specs.Places.{cellsShow, contentShows, marksOf, rowShows, showsAt, streamShows, throughNul}
-use Rattle.demands.specs.Tables.{count, inOrder, lines, rowAt, rowLength, rowLengths, sum, upTo}
+use Rattle.demands.specs.Tables.{count, lines, rowAt, rowLength, rowLengths, sum, upTo}
 use Rattle.fields.specs.Fields.{atMostOne, attributeComes, attributes, attributesF, beforeStar, begins, boundedLen, declare, exactlyOne, fieldBody, fieldsF}
 use Rattle.fields.specs.Fields.{fieldsThen, isNameByte, judge, kindOf, kinds, lenBefore, lenOf, lengthOf, nameComes, nullOf, nullValue, readAttribute, readField}
 use Rattle.fields.specs.Fields.{readValue, readValues, someName, spanName, spanValue, valuesOf}
@@ -16,7 +16,7 @@ use Rattle.number.specs.Number.{decimal, digit, digits, hexadecimal, hexadigit,
 use Rattle.rows.specs.Convert.{convert, converting, underColumns}
 use Rattle.rows.specs.Stream.{atEnd, fitted, flag, flagsLeft, isEmpty, isSet, read, readCell, readCells, readEnd, readRow, readStart, run, write, writeCell}
 use Rattle.rows.specs.Stream.{writeCells, writeEnd, writeRow, writeStart, wroteThen}
-use Rattle.rows.specs.Sequence.{rowThen, sequence, sequenceF}
+use Rattle.rows.specs.Sequence.{inOrder, rowThen, sequence, sequenceF}
 use Rattle.fields.specs.Front.{front}
 use Rattle.table.specs.Bytes.{after, attach, between, ends, isWhite, notEmpty, pieces, same, skipWhite, tag, words}
 use Rattle.table.specs.Cell.{below, emptyIsNull, isElement, isNull, isNullList, nullElement, roomFits, sameInteger, show, standsForNull, truthByte}

@@ -8,12 +8,12 @@ use mathlib.Core.Path.{_≡_, refl, sym}
 use lib.ListN.{length}
 use Rattle.demands.proofs.Demand2.{accepted-ends, declared-columns}
 use Rattle.demands.specs.Demands.{Accepted}
-use Rattle.demands.specs.Tables.{Ends, inOrder, rowLength, rowLengths, sum}
+use Rattle.demands.specs.Tables.{Ends, rowLength, rowLengths, sum}
 use Rattle.fields.specs.Fields.{declare}
 use Rattle.rows.proofs.Laws.{fuel, row-less}
 use Rattle.rows.specs.Convert.{convert}
 use Rattle.rows.specs.Stream.{Table, atEnd, isEmpty, read, readRow}
-use Rattle.rows.specs.Sequence.{Sequence, finished, rowThen, sequence, sequenceF}
+use Rattle.rows.specs.Sequence.{Sequence, finished, inOrder, rowThen, sequence, sequenceF}
 use Rattle.table.proofs.Laws.{holds-at, holds-weaken}
 use Rattle.table.specs.Cell.{AreColumns, Cell}
 use Rattle.table.specs.Outcome.{Refusal}

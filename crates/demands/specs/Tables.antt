@@ -3,7 +3,7 @@ use Prim.Native.Nat.{_+_, _-_, suc, zero, ℕ}
 use mathlib.Core.List.{List, [], _++_, _∷_}
 use mathlib.Core.Option.{Option, none, some}
 use lib.ListN.{length}
-use Rattle.rows.specs.Sequence.{Sequence, finished, row, sequence, stopped}
+use Rattle.rows.specs.Sequence.{finished, inOrder, row, sequence, stopped}
 use Rattle.rows.specs.Stream.{Table, atEnd, readRow, writeRow}
 use Rattle.table.specs.Cell.{Cell}
 use Rattle.table.specs.Outcome.{Refusal}
@@ -54,12 +54,6 @@ unfoldable pub lines : Rows → List Column → Table → Result Refusal (List �
 lines to cs finished = good []
 lines to cs (stopped e) = good []
 lines to cs (row xs t) = writeRow to cs xs >>= λ b. lines to cs t >>= λ r. good (b ++ r)
-
--- what each row of a stream gives, in order
-unfoldable pub inOrder : {A : Type 0} → Sequence A → List A
-inOrder finished = []
-inOrder (stopped e) = []
-inOrder (row x more) = x ∷ inOrder more
 
 -- the length of a row: what it took of the stream
 unfoldable pub rowLength : Rows → List Column → List ℕ → Result Refusal (ℕ × List ℕ)

@@ -1,4 +1,4 @@
--- Rows that are passed over, one after the other: the count for the whole stream is the count of going on from here. Cited by pass_rows.
+-- Rows that are passed over, one after the other: the count from the start on is the count of going on from here. Cited by pass_rows.
 use Prim.Native.Nat.{_+_, _<_, _≤_, ℕ}
 use native.Mathlib.Omega.{arith}
 use mathlib.Core.Bool.{false, true}
@@ -15,26 +15,28 @@ use Rattle.table.specs.Result.{bad, good}
 use Rattle.table.specs.declared.Column.{Column}
 use Rattle.table.specs.declared.Rows.{Rows}
 
-pub record RowsPassed (from : Rows) (cols : List Column) (s : List ℕ) (place rows : ℕ) : Type 0 where
+pub record RowsPassed (from : Rows) (cols : List Column) (s : List ℕ) (start before place rows : ℕ) : Type 0 where
   pub inside : place ≤ length s
   pub fewer : rows ≤ place
-  pub ahead : passed 0 (read from cols s) ≡ passed rows (read from cols (drop place s))
+  pub ahead : passed before (read from cols (drop start s)) ≡ passed rows (read from cols (drop place s))
 
-module _ (from : Rows) (cols : List Column) (s : List ℕ) where
-  pub pass-start : RowsPassed from cols s 0 0
-  pass-start = record { inside = omega arith; fewer = omega arith; ahead = refl }
+module _ (from : Rows) (cols : List Column) (s : List ℕ) (start before : ℕ) where
+  pub pass-start : start ≤ length s → before ≤ start → RowsPassed from cols s start before start before
+  pass-start h k = record { inside = h; fewer = k; ahead = refl }
 
-  module _ (are : Within cols) (place rows : ℕ) (inv : RowsPassed from cols s place rows) where
-    pub pass-end : atEnd from (drop place s) ≡ true → record { number = 0; row = 0; column = 0; rows = rows; bytes = 0 } ≡ answerOf (passed 0 (read from cols s))
+  module _ (are : Within cols) (place rows : ℕ) (inv : RowsPassed from cols s start before place rows) where
+    pub pass-end : atEnd from (drop place s) ≡ true → record { number = 0; row = 0; column = 0; rows = rows; bytes = 0 } ≡ answerOf (passed before (read from cols (drop start s)))
     unfolding answerOf passed
     pass-end h = rw (inv .ahead, within-step from cols are (drop place s), h)
 
     module _ (more : atEnd from (drop place s) ≡ false) where
-      pub pass-stop : (n k : ℕ) → readRow from cols (drop place s) ≡ bad (at k n) → record { number = n; row = rows; column = k; rows = rows; bytes = 0 } ≡ answerOf (passed 0 (read from cols s))
+      pub pass-stop : (n k : ℕ) → readRow from cols (drop place s) ≡ bad (at k n)
+          → record { number = n; row = rows; column = k; rows = rows; bytes = 0 } ≡ answerOf (passed before (read from cols (drop start s)))
       unfolding answerOf passed rowThen at
       pass-stop n k e = rw (inv .ahead, within-step from cols are (drop place s), more, e)
 
-      pub pass-more : (xs : List Cell) (next : ℕ) → readRow from cols (drop place s) ≡ good (xs, drop next s) → place < next → next ≤ length s → RowsPassed from cols s next (rows + 1)
+      pub pass-more : (xs : List Cell) (next : ℕ) → readRow from cols (drop place s) ≡ good (xs, drop next s) → place < next → next ≤ length s
+          → RowsPassed from cols s start before next (rows + 1)
       unfolding passed rowThen
       pass-more xs next e lo hi = record {
         inside = hi;

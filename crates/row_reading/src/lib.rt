@@ -205,13 +205,21 @@ pub fn pass_row(cols: Columns, from: Rows, s: &[u8], at: usize, scratch: &mut [i
     }
 }
 
-// A whole stream: how many rows it has, or the refusal of the first that does not read.
-pub fn pass_rows(cols: Columns, from: Rows, s: &[u8], scratch: &mut [i64]) -> Answer
-    requires { ⌜ Within (listed cols) × (mostElements ≤ length (now scratch)) ⌝ }
-    ensures { λ r. ⌜ r ≡ answerOf (passed 0 (read from (listed cols) (now (s .entry)))) ⌝ }
+// A stream from a place on, behind so many rows: how many rows it has in all, or the refusal of the first that does not read.
+pub fn pass_rows(
+    cols: Columns,
+    from: Rows,
+    s: &[u8],
+    start: usize,
+    before: u64,
+    scratch: &mut [i64],
+) -> Answer
+    requires { ⌜ Within (listed cols) × (start ≤ length (now s)) × (before ≤ start) × (mostElements ≤ length (now scratch)) ⌝ }
+    ensures { λ r. ⌜ r ≡ answerOf (passed before (read from (listed cols) (drop start (now (s .entry))))) ⌝ }
+    ensures { λ _. ⌜ length (now (scratch .exit)) ≡ length (now (scratch .entry)) ⌝ }
 {
-    let mut at: usize = 0;
-    let mut rows: u64 = 0;
+    let mut at = start;
+    let mut rows = before;
     while !at_end(from, s, at) {
         let p = pass_row(cols, from, s, at, scratch);
         match p {

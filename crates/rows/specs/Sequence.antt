@@ -1,7 +1,7 @@
 -- A stream over any row reader: row after row from the front, to the end or to the first refusal.
 use Prim.Native.Nat.{suc, zero, ℕ}
 use mathlib.Core.Bool.{Bool, cond}
-use mathlib.Core.List.{List}
+use mathlib.Core.List.{List, [], _∷_}
 use lib.ListN.{length}
 use Rattle.table.specs.Outcome.{Refusal, at}
 use Rattle.table.specs.Result.{Result, bad, good}
@@ -27,3 +27,9 @@ module _ {A : Type 0} where
   -- each row takes at least a byte, so that no stream outlasts this bound
   unfoldable pub sequence : (List ℕ → Bool) → (List ℕ → Result Refusal (A × List ℕ)) → List ℕ → Sequence A
   sequence ended next s = sequenceF (suc (length s)) ended next s
+
+  -- what each row of a stream gives, in order
+  unfoldable pub inOrder : Sequence A → List A
+  inOrder finished = []
+  inOrder (stopped e) = []
+  inOrder (row x more) = x ∷ inOrder more

@@ -1,0 +1,11 @@
+-- Sentences of 02 that compute.
+use mathlib.Core.List.{[], _∷_}
+use mathlib.Core.Path.{_≡_, refl}
+use lib.IntN.{pos}
+use Rattle.compare.specs.Compare.{cellDiffers, differences, placed, rowDiffers, sameCell, sameElements}
+use Rattle.table.specs.Cell.{null, sameInteger, shown}
+
+-- "Empty and null differ": of two rows of three cells
+pub empty-and-null : differences 0 ((null ∷ shown [] ∷ shown (pos 3 ∷ []) ∷ []) ∷ []) ((null ∷ null ∷ shown (pos 4 ∷ []) ∷ []) ∷ []) ≡ record { row = 0; column = 1 } ∷ record { row = 0; column = 2 } ∷ []
+unfolding differences rowDiffers cellDiffers sameCell sameElements sameInteger
+empty-and-null = refl
