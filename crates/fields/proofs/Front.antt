@@ -3,12 +3,12 @@ use Prim.Native.Nat.{_<_, _≤_, zero-le, ℕ}
 use mathlib.Core.List.{List}
 use mathlib.Core.Path.{_≡_}
 use lib.Dec.{lit≤, ltb}
-use borrow.Author.Tests.{le-ltb, lt-ltb}
+use borrow.Author.Tests.{le-ltb, lt-ltb, ltb-false}
 use Rattle.fields.proofs.Laws.{declare-is}
 use Rattle.fields.proofs.Refusals.{AtPlace, declare-fails}
 use Rattle.fields.specs.Fields.{declare}
 use Rattle.fields.specs.Front.{front}
-use Rattle.table.proofs.Laws.{fails-bind, fails-cond, holds-bind, holds-cond}
+use Rattle.table.proofs.Laws.{fails-bind, fails-cond, holds-any, holds-bind, holds-cond}
 use Rattle.table.specs.Cell.{AreColumns}
 use Rattle.table.specs.Outcome.{Refusal, at, mostInput}
 use Rattle.table.specs.Result.{Fails, Holds, bad, fails, gives, good, holds, refuses}
@@ -23,6 +23,11 @@ front-fails decls size = fails-bind (declare-fails decls) (λ cs. fails-cond (lt
 pub front-is : (decls : List ℕ) (size : ℕ) → Holds AreColumns (front decls size)
 unfolding front
 front-is decls size = holds-bind (declare-is decls) (λ cs h. holds-cond (ltb mostInput size) (λ _. refuses) (λ _. holds h))
+
+-- an input that the front lets through has its size
+pub front-sized : (decls : List ℕ) (size : ℕ) → Holds (λ (cs : List Column). size ≤ mostInput) (front decls size)
+unfolding front
+front-sized decls size = holds-bind (holds-any (declare decls)) (λ cs _. holds-cond (ltb mostInput size) (λ _. refuses) (λ h. holds (ltb-false mostInput size h)))
 
 module _ (decls : List ℕ) (size : ℕ) where
   pub front-undeclared : (e : Refusal) → declare decls ≡ bad e → front decls size ≡ bad e

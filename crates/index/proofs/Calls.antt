@@ -1,26 +1,17 @@
 -- The calls by their front: refused there, the answer is the refusal and nothing is touched; else it is the rows, or the row asked for.
-use Prim.Native.Nat.{_≤_, ℕ}
+use Prim.Native.Nat.{ℕ}
 use mathlib.Core.List.{List, []}
 use mathlib.Core.Path.{_∙_, _≡_}
-use lib.Dec.{ltb}
 use lib.ListN.{length}
-use borrow.Author.Tests.{ltb-false}
-use Rattle.fields.specs.Fields.{declare}
 use Rattle.fields.specs.Front.{front}
 use Rattle.index.specs.Fetch.{Fetches, askedFor, fetch, fetchIndexed, fetchUnder}
 use Rattle.index.specs.Index.{Indexes, enter, index, indexing, startsOf, withoutBytes}
 use Rattle.rows.specs.Convert.{underColumns}
-use Rattle.table.proofs.Laws.{holds-any, holds-bind, holds-cond}
-use Rattle.table.specs.Outcome.{answerOf, at, bufferOf, ending, mostInput, written}
-use Rattle.table.specs.Result.{Holds, bad, good, holds, refuses}
+use Rattle.table.specs.Outcome.{answerOf, at, bufferOf, ending, written}
+use Rattle.table.specs.Result.{bad, good}
 use Rattle.table.specs.declared.Answer.{Answer}
 use Rattle.table.specs.declared.Column.{Column}
 use Rattle.table.specs.declared.Rows.{Rows}
-
--- an input that the front lets through has its size
-pub front-sized : (decls : List ℕ) (size : ℕ) → Holds (λ (cs : List Column). size ≤ mostInput) (front decls size)
-unfolding front
-front-sized decls size = holds-bind (holds-any (declare decls)) (λ cs _. holds-cond (ltb mostInput size) (λ _. refuses) (λ h. holds (ltb-false mostInput size h)))
 
 module _ (decls : List ℕ) (from : Rows) (input : List ℕ) where
   module _ (entry : List ℕ) where

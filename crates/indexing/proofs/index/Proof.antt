@@ -4,9 +4,9 @@ use mathlib.Core.Path.{_≡_}
 use lib.ListN.{length}
 use denote.Ref.{now}
 use Rattle.declaring.proofs.Answers.{accepted-is, refused-is}
-use Rattle.fields.proofs.Front.{front-fails, front-is}
+use Rattle.fields.proofs.Front.{front-fails, front-is, front-sized}
 use Rattle.fields.specs.Front.{front}
-use Rattle.index.proofs.Calls.{front-sized, index-refused, rows-indexed}
+use Rattle.index.proofs.Calls.{index-refused, rows-indexed}
 use Rattle.rows.proofs.Laws.{columns-within}
 use Rattle.table.proofs.Laws.{holds-at}
 use Rattle.table.specs.ColumnList.{listed}
