@@ -15,9 +15,11 @@ ghost use lib.ListN.{length};
 ghost use Rattle.number.specs.Number.{toDigits};
 ghost use Rattle.table.specs.Cell.{mostElements};
 ghost use Rattle.table.specs.ColumnList.{listed};
+ghost use Rattle.table.specs.Outcome.{at};
 ghost use Rattle.rows.specs.Bounds.{Within};
-ghost use Rattle.compare.specs.Compare.{Compares, filled, refusedIn};
-ghost use Rattle.comparing.specs.Contracts.{NotedAs, Steps, haveRows, marked, notedAt};
+ghost use Rattle.rows.specs.Stream.{read};
+ghost use Rattle.compare.specs.Compare.{Compares, beforeRows, comparedAs, filled, placed, refusedIn, rowsShown};
+ghost use Rattle.comparing.specs.Contracts.{Notes, Steps, behindFirst, haveRows, inStep, marked, markedAt, notedAt, rowsBoth};
 
 // ---- places in the buffer
 
@@ -31,20 +33,31 @@ fn note(places: &mut [u32], noted: usize, row: u32, column: u32)
     }
 }
 
-// The places of a row, by the flags of its columns, behind so many others: how many there are with them.
+// A column of a row, if its cells differ: how many places there are with it.
+fn note_column(places: &mut [u32], noted: usize, row: u32, column: u32, differs: bool) -> usize
+    requires { ⌜ noted + 1 < 2 ^ 64 ⌝ }
+    ensures { λ r. ⌜ Notes noted (now (places .entry)) (markedAt row column differs) (now (places .exit)) r ⌝ }
+{
+    if !differs {
+        return noted;
+    }
+    note(places, noted, row, column);
+    noted + 1
+}
+
+// The places of a row, by the flags of its columns, behind so many others.
 fn note_row(places: &mut [u32], noted: usize, row: u32, differing: u64, count: usize) -> usize
     requires { ⌜ (count ≤ 64) × (noted + count < 2 ^ 64) ⌝ }
-    ensures { λ r. ⌜ r ≡ noted + length (marked row 0 (toDigits 2 count differing)) ⌝ }
-    ensures { λ _. ⌜ NotedAs noted (now (places .entry)) (marked row 0 (toDigits 2 count differing)) (now (places .exit)) ⌝ }
-    ensures { λ _. ⌜ length (now (places .exit)) ≡ length (now (places .entry)) ⌝ }
+    ensures { λ r. ⌜ Notes noted (now (places .entry)) (marked row 0 (toDigits 2 count differing)) (now (places .exit)) r ⌝ }
 {
+    if differing == 0 {
+        return noted;
+    }
     let mut n = noted;
     let mut i: usize = 0;
     while i < count {
-        if is_flagged(differing, count, i) {
-            note(places, n, row, i as u32);
-            n += 1;
-        }
+        let differs = is_flagged(differing, count, i);
+        n = note_column(places, n, row, i as u32, differs);
         i += 1;
     }
     n
@@ -118,9 +131,7 @@ fn step_rows(
         let RowPair::Read(word, next, behind) = p else {
             break;
         };
-        if word != 0 {
-            differing = note_row(places, differing, rows as u32, word, count);
-        }
+        differing = note_row(places, differing, rows as u32, word, count);
         rows += 1;
         at = next;
         place = behind;
@@ -162,4 +173,113 @@ fn filled(places: usize, size: usize) -> usize
     ensures { λ r. ⌜ r ≡ filled places size ⌝ }
 {
     if size / 2 < places { size / 2 } else { places }
+}
+
+// The places that differ, so many of them, into the buffer: both inputs in step once more, where there is a place to fill.
+fn fill(
+    cols: Columns,
+    from: Rows,
+    first: &[u8],
+    kind: Rows,
+    second: &[u8],
+    differing: usize,
+    places: &mut [u32],
+    a: &mut [i64],
+    b: &mut [i64],
+)
+    requires { ⌜ Within (listed cols) × (length (now first) < 2 ^ 32) × (mostElements ≤ length (now a)) × (mostElements ≤ length (now b)) ⌝ }
+    ensures { λ _. ⌜ (differing ≡ length (inStep from (listed cols) (now (first .entry)) kind (now (second .entry))) → now (places .exit) ≡ placed (inStep from (listed cols) (now (first .entry)) kind (now (second .entry))) (now (places .entry))) ⌝ }
+{
+    if filled(differing, places.len()) == 0 {
+        return;
+    }
+    step_rows(cols, from, first, kind, second, places, a, b);
+}
+
+// The rows of two inputs. A refusal of either comes before anything is written, so both are read in step without the buffer first, and what is left of
+// each is passed over.
+fn compare_rows(
+    cols: Columns,
+    from: Rows,
+    first: &[u8],
+    kind: Rows,
+    second: &[u8],
+    places: &mut [u32],
+) -> Comparison
+    requires { ⌜ Within (listed cols) × (length (now first) < 2 ^ 32) ⌝ }
+    ensures { λ r. ⌜ r ≡ comparedAs (rowsBoth (listed cols) from (now (first .entry)) kind (now (second .entry))) (now (places .entry)) .answer ⌝ }
+    ensures { λ _. ⌜ now (places .exit) ≡ comparedAs (rowsBoth (listed cols) from (now (first .entry)) kind (now (second .entry))) (now (places .entry)) .buffer ⌝ }
+{
+    let mut a = [0i64; table::MOST_ELEMENTS];
+    let mut b = [0i64; table::MOST_ELEMENTS];
+    let mut none = [0u32; 1];
+    let s = step_rows(cols, from, first, kind, second, &mut none, &mut a, &mut b);
+    let p = pass_rows(cols, from, first, s.first, s.rows, &mut a);
+    if p.number != 0 {
+        return refuse(p.number, p.row, p.column, 0);
+    }
+    let q = pass_rows(cols, kind, second, s.second, s.rows, &mut b);
+    if q.number != 0 {
+        return refuse(q.number, q.row, q.column, 1);
+    }
+    let differing = s.differing;
+    fill(
+        cols,
+        from,
+        first,
+        kind,
+        second,
+        differing,
+        places,
+        &mut a,
+        &mut b,
+    );
+    Comparison {
+        number: 0,
+        row: 0,
+        column: 0,
+        input: 0,
+        differing: differing as u64,
+        first: beyond(p.rows, q.rows),
+        second: beyond(q.rows, p.rows),
+        places: filled(differing, places.len()) as u64,
+    }
+}
+
+// The first input's rows, and a refusal of the second that stands before its own.
+fn refuse_second(cols: Columns, from: Rows, first: &[u8], number: u64, place: usize) -> Comparison
+    requires { ⌜ Within (listed cols) ⌝ }
+    ensures { λ r. ⌜ r ≡ behindFirst (rowsShown 0 (read from (listed cols) (now (first .entry)))) (refusedIn 1 (beforeRows (at place number))) ⌝ }
+{
+    let mut a = [0i64; table::MOST_ELEMENTS];
+    let p = pass_rows(cols, from, first, 0, 0, &mut a);
+    if p.number != 0 {
+        return refuse(p.number, p.row, p.column, 0);
+    }
+    refuse(number, 0, place as u64, 1)
+}
+
+// Two inputs under the same declarations: the front of each, then their rows.
+pub fn compare(
+    decls: &[u8],
+    from: Rows,
+    first: &[u8],
+    kind: Rows,
+    second: &[u8],
+    places: &mut [u32],
+) -> Comparison
+    ensures { λ r. ⌜ Compares (now (decls .entry)) from (now (first .entry)) kind (now (second .entry)) (now (places .entry)) r (now (places .exit)) ⌝ }
+{
+    let d = front(decls, first.len());
+    let number = d.number;
+    if number != 0 {
+        return refuse(number, 0, d.place as u64, 0);
+    }
+    let cols = d.columns;
+    let e = front(decls, second.len());
+    let late = e.number;
+    if late != 0 {
+        return refuse_second(cols, from, first, late, e.place);
+    }
+    compare_rows(cols, from, first, kind, second, places)
 }
