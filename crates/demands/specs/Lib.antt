@@ -4,3 +4,4 @@ pub mod Places
 pub mod Cases
 pub mod LineEnds
 pub mod OneRow
+pub mod TwoNights
