@@ -12,3 +12,4 @@ pub mod Demand3
 pub mod LineEnds
 pub mod Hidden
 pub mod Wrong
+pub mod Differing
