@@ -13,3 +13,4 @@ pub mod LineEnds
 pub mod Hidden
 pub mod Wrong
 pub mod Differing
+pub mod Nights
