@@ -1,15 +1,14 @@
 -- Cells are the same exactly where they are equal; so nothing differs between two lists of rows exactly where they are one list, and the places that
 -- differ are the same from either side. By induction along the rows, each step one cell. And what an input shows: its rows, where it is read to its end.
-use Prim.Native.Nat.{_+_, suc, zero, ℕ}
+use Prim.Native.Nat.{_+_, suc, ℕ}
 use native.Mathlib.Omega.{arith}
 use mathlib.Core.Bool.{Bool, cond, false, false≢true, true}
 use mathlib.Core.List.{List, [], _++_, _∷_}
 use mathlib.Core.Path.{_∙_, _≡_, ap, ap₂, refl, sym}
 use lib.IntN.{ℤ}
 use lib.ListN.{length, length-append}
-use Rattle.compare.specs.Compare.{Place, cellDiffers, differences, rowDiffers, sameCell, sameElements}
+use Rattle.compare.specs.Compare.{cellDiffers, differences, rowDiffers, sameCell, sameElements}
 use Rattle.rows.proofs.Sequences.{AllRows, sequence-all}
-use Rattle.rows.specs.Sequence.{inOrder}
 use Rattle.rows.specs.Stream.{atEnd, flag, flagsLeft, read, readCell, readCells, readEnd, readRow, readStart}
 use Rattle.table.proofs.Laws.{and-both, holds-any, holds-bind, same-self, same-true}
 use Rattle.table.specs.All.{All}

@@ -3,7 +3,7 @@
 use Prim.Native.Nat.{_*_, _+_, _/_, _<_, _≤_, min, suc, zero, ℕ}
 use native.Mathlib.Omega.{arith}
 use mathlib.Core.List.{List, [], _++_, _∷_}
-use mathlib.Core.Logic.{_⊎_, inl, inr, ⊎-elim}
+use mathlib.Core.Logic.{_⊎_, inl, inr}
 use mathlib.Core.Option.{Option·none-ne-some, some}
 use mathlib.Core.Path.{_∙_, _≡_, ap, ap₂, refl, subst, sym}
 use lib.Dec.{ltb}

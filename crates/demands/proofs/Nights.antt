@@ -7,7 +7,7 @@ use native.Mathlib.Omega.{arith}
 use mathlib.Core.Bool.{Bool, cond, false, true}
 use mathlib.Core.List.{List, [], _∷_}
 use mathlib.Core.Logic.{_↔_}
-use mathlib.Core.Option.{Option·none-ne-some, none, some}
+use mathlib.Core.Option.{Option·none-ne-some, some}
 use mathlib.Core.Path.{_∙_, _≡_, ap, ap₂, refl, subst, sym}
 use lib.Dec.{eqb, ltb}
 use lib.ListN.{getD, getElem?, length}
@@ -23,7 +23,7 @@ use Rattle.demands.proofs.Unseen.{unseen}
 use Rattle.demands.proofs.Writing.{up-to-all}
 use Rattle.demands.specs.Demands.{Converter, Demand2, Valid, output}
 use Rattle.demands.specs.Tables.{Ends, count, rowAt, stopAt, upTo}
-use Rattle.demands.specs.TwoNights.{Among, AsConverted, Comparer, ComparesNights, ComparisonEnded, Differ, InputRead, InputRefused, NightsCompared, NothingCompared}
+use Rattle.demands.specs.TwoNights.{Comparer, ComparesNights, ComparisonEnded, Differ, InputRead, InputRefused, NightsCompared}
 use Rattle.demands.specs.TwoNights.{NothingDiffers, SameExactly, Swapped, allTheSame, both-read, declarations-refused, first-refused, input-oversized, row-unread}
 use Rattle.demands.specs.TwoNights.{Unseen, second-refused, turned}
 use Rattle.fields.proofs.Front.{front-declared, front-oversized, front-undeclared}
@@ -32,7 +32,7 @@ use Rattle.fields.specs.Front.{front}
 use Rattle.rows.proofs.Sequences.{AllRows}
 use Rattle.rows.specs.Sequence.{finished, inOrder, row, stopped}
 use Rattle.rows.specs.Stream.{Table, read}
-use Rattle.table.proofs.Laws.{all-weaken, bad-good}
+use Rattle.table.proofs.Laws.{all-weaken}
 use Rattle.table.specs.All.{All, AreBytes}
 use Rattle.table.specs.Cell.{Cell}
 use Rattle.table.specs.Outcome.{Call, Refusal, accepted, answerOf, at, ending, mostInput, refused, written}
