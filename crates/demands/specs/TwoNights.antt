@@ -52,7 +52,8 @@ pub record NothingCompared (input number row column : ℕ) (entry : List ℕ) (c
 
 -- ---- two tables that were read to their ends
 
--- "cells that show differently in rows both have": both have the row, and in that column of it one cell and another
+-- "cells that show differently in rows both have": both have the row, and in that column of it one cell and another. A row that is read has a cell for each
+-- column (law rows-long), so no cell of such a row is without its fellow
 pub record Differ (t u : Table) (p : Place) : Type 0 where
   pub first-row : List Cell
   pub second-row : List Cell
@@ -113,19 +114,20 @@ pub data ComparisonEnded (decls : List ℕ) (from-first : Rows) (first : List �
   both-read : {cs : List Column} → InputRead decls cs from-first first → InputRead decls cs from-second second
       → NightsCompared (read from-first cs first) (read from-second cs second) entry c → ComparisonEnded decls from-first first from-second second entry c
 
--- ---- what two calls, or a comparison and a conversion, have to do with each other
+-- ---- what two calls, or a comparison and a conversion, have to do with each other. A comparer that answers zeros to everything would meet most of these:
+-- each is to be read beside `ended`, which one comparer meets (theorem only-comparison)
 
 -- no cell shows differently, and neither has a row beyond the other
 abbrev pub NothingDiffers : Compared → Type 0
 NothingDiffers c = (c .answer .differing ≡ 0) × (c .answer .first ≡ 0) × (c .answer .second ≡ 0)
 
--- nothing differs exactly when both inputs show the same rows
+-- "the exact number": nothing differs exactly when both inputs show the same rows, all of them
 abbrev pub SameExactly : List ℕ → Rows → List ℕ → Rows → List ℕ → Compared → Type 0
 SameExactly decls from-first first from-second second c =
     (cs : List Column) → InputRead decls cs from-first first → InputRead decls cs from-second second
     → NothingDiffers c ↔ (inOrder (read from-first cs first) ≡ inOrder (read from-second cs second))
 
--- a comparison as one has it from the other side: the same cells and places, and each has beyond the other what the other had beyond it
+-- a comparison as one has it from the other side: the same places, and "the rows that each has beyond the other" change sides
 unfoldable pub turned : Compared → Compared
 turned c = record {
   answer = record {
