@@ -1,5 +1,5 @@
 -- Cells are the same exactly where they are equal; so nothing differs between two lists of rows exactly where they are one list, and the places that
--- differ are the same from either side. By induction along the rows, each step one cell. And what an input shows: its rows, where it is read to its end.
+-- differ are the same from either side. By induction along the rows, each step one cell. And a row that is read has one cell to a column.
 use Prim.Native.Nat.{_+_, suc, ℕ}
 use native.Mathlib.Omega.{arith}
 use mathlib.Core.Bool.{Bool, cond, false, false≢true, true}
