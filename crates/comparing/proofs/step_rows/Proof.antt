@@ -96,8 +96,7 @@ returns : tie.Need-returns Inv-loop μ-loop
 returns c =
     let l = c .before .before in
     let a = l .before .before .before .before in
-    let inv = l .loop .inv in
-    (
+    let inv = l .loop .inv in (
       step-end (a .args .from) (a .args .kind) (listed (a .args .cols)) (now (a .args .first)) (now (a .args .second)) (now (a .args .places)) (a .pre .0) _ _ _ _ _ (inv .0)
           (none-left (a .args .from) (a .args .kind) (listed (a .args .cols)) (a .pre .0) (now (a .args .first)) (now (a .args .second)) (l .loop .at) (l .loop .place) _ (sym (c .before .have-rows .ensures) ∙ c .if1 .left)),
       (inv .2, inv .3),
@@ -119,8 +118,7 @@ returns-2 c =
     let inv = l .loop .inv in
     let p = c .before .before .before .before .compare-row in
     let more = sym (c .before .before .before .before .before .before .before .before .have-rows .ensures) ∙ c .before .before .before .before .before .before .before .if1 .taken in
-    let u = subst (PairsRow _ _ _ _ _ _ _) (c .enum-told .given .1) (p .ensures .0) in
-    (
+    let u = subst (PairsRow _ _ _ _ _ _ _) (c .enum-told .given .1) (p .ensures .0) in (
       step-end (a .args .from) (a .args .kind) (listed (a .args .cols)) (now (a .args .first)) (now (a .args .second)) (now (a .args .places)) (a .pre .0) _ _ _ _ _ (inv .0)
           (unread-left (a .args .from) (a .args .kind) (listed (a .args .cols)) (a .pre .0) (now (a .args .first)) (now (a .args .second)) (l .loop .at) (l .loop .place) _ more u),
       (p .ensures .1 .0 ∙ inv .2, p .ensures .1 .1 ∙ inv .3),
