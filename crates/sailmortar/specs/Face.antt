@@ -4,6 +4,8 @@ use mathlib.Core.List.{List, [], _++_, _∷_}
 use mathlib.Core.Option.{Option, none, some}
 use lib.ListN.{length, replicate}
 use Rattle.base64.specs.Base64.{decodeCall, encodeCall}
+use Rattle.compare.specs.Compare.{Compared, compare}
+use Rattle.compare.specs.declared.Comparison.{Comparison}
 use Rattle.fields.specs.Fields.{declare}
 use Rattle.index.specs.Fetch.{fetch}
 use Rattle.index.specs.Index.{index}
@@ -80,6 +82,18 @@ indexFace decls from input entries = ofKind (binaryOf from) (noSuchKind 4 entrie
 unfoldable pub fetchFace : List ℕ → ℕ → List ℕ → List ℕ → ℕ → ℕ → List ℕ → Faced
 fetchFace decls from input entries rows row out =
     ofKind (binaryOf from) (noSuchKind 4 out) (λ source. faced (fetch decls source input entries rows row out))
+
+-- ---- two inputs compared: number, row, column, input, cells that differ, rows that the first has beyond, rows that the second has beyond, places filled
+
+unfoldable pub eight : Comparison → List ℕ
+eight c = c .number ∷ c .row ∷ c .column ∷ c .input ∷ c .differing ∷ c .first ∷ c .second ∷ c .places ∷ []
+
+unfoldable pub comparedFaced : Compared → Faced
+comparedFaced c = record { numbers = eight (c .answer); buffer = c .buffer }
+
+unfoldable pub compareFace : List ℕ → ℕ → List ℕ → ℕ → List ℕ → List ℕ → Faced
+compareFace decls from-first first from-second second places =
+    betweenKinds (rowsOf from-first) (rowsOf from-second) (noSuchKind 7 places) (λ source other. comparedFaced (compare decls source first other second places))
 
 -- ---- base64
 

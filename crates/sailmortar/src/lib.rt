@@ -1,16 +1,19 @@
 // The public face: the functions for C, Rust and Python, numbers and slices only. `answer` gets the number, the row, the column, the rows done
 // and the bytes written.
+use compare::Comparison;
 use convert::Piece;
 use table::Answer;
 use table::Rows;
 ghost use mathlib.Core.Path.{_≡_};
-ghost use Rattle.sailmortar.specs.Face.{binaryOf, convertFace, declareFace, decodeFace, encodeFace, fetchFace, five, indexFace, pieceFace, rowsOf, six};
+ghost use Rattle.sailmortar.specs.Face.{binaryOf, compareFace, convertFace, declareFace, decodeFace, eight, encodeFace, fetchFace, five, indexFace, pieceFace, rowsOf, six};
 ghost use Rattle.sailmortar.specs.Named.{namedAs};
 
 // 01 has no number for it.
 const NO_SUCH_KIND: [u64; 5] = [255, 0, 0, 0, 0];
 
 const NO_SUCH_KIND_OF_PIECE: [u64; 6] = [255, 0, 0, 0, 0, 0];
+
+const NO_SUCH_KIND_TO_COMPARE: [u64; 8] = [255, 0, 0, 0, 0, 0, 0, 0];
 
 fn put_answer(a: Answer, answer: &mut [u64; 5])
     ensures { λ _. ⌜ now (answer .exit) ≡ five a ⌝ }
@@ -145,6 +148,48 @@ pub extern "C" fn sailmortar_fetch(
         fetching::fetch(decls, source, input, index, rows, row, out),
         answer,
     );
+}
+
+fn put_comparison(c: Comparison, answer: &mut [u64; 8])
+    ensures { λ _. ⌜ now (answer .exit) ≡ eight c ⌝ }
+{
+    *answer = [
+        c.number,
+        c.row,
+        c.column,
+        c.input,
+        c.differing,
+        c.first,
+        c.second,
+        c.places,
+    ];
+}
+
+// Two inputs, each of its own kind: `places` gets the rows and columns of the first cells that differ, and `answer` the number, the row, the column and
+// the input of a refusal, the cells that differ, the rows that the first has beyond the second and the second beyond the first, and the places filled.
+#[no_mangle]
+pub extern "C" fn sailmortar_compare(
+    decls: &[u8],
+    from: u32,
+    first: &[u8],
+    kind: u32,
+    second: &[u8],
+    places: &mut [u32],
+    answer: &mut [u64; 8],
+)
+    ensures numbers { λ _. ⌜ now (answer .exit) ≡ compareFace (now (decls .entry)) from (now (first .entry)) kind (now (second .entry)) (now (places .entry)) .numbers ⌝ }
+    ensures buffer { λ _. ⌜ now (places .exit) ≡ compareFace (now (decls .entry)) from (now (first .entry)) kind (now (second .entry)) (now (places .entry)) .buffer ⌝ }
+{
+    let Named::Known(source) = rows_of(from) else {
+        *answer = NO_SUCH_KIND_TO_COMPARE;
+        return;
+    };
+    let Named::Known(other) = rows_of(kind) else {
+        *answer = NO_SUCH_KIND_TO_COMPARE;
+        return;
+    };
+    let c = comparing::compare(decls, source, first, other, second, places);
+    put_comparison(c, answer);
 }
 
 // Base64 to bytes.
