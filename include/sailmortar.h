@@ -1,14 +1,15 @@
 /*
- * Sailmortar: rows of VOTable tables between TABLEDATA, BINARY and BINARY2, any to any, and base64; and one row of a long stream by an index.
+ * Sailmortar: rows of VOTable tables between TABLEDATA, BINARY and BINARY2, any to any, and base64; one row of a long stream by an index; and where
+ * two inputs of rows differ.
  *
  * Link target/library/libsailmortar.a, or libsailmortar.so beside it; once installed, what `pkg-config --cflags --libs sailmortar` says.
  * All functions but sailmortar_version are proved: whatever bytes come in, the answer is rows or one numbered refusal with its row and
  * column, the good rows before it stand whole in the output, and every byte of the output after them is as it was. They allocate nothing,
  * keep nothing between calls, may be called from several threads at once, and use less than 128 KB of stack.
  *
- * What the caller sees to: a length is the number of bytes behind its pointer, of an index the number of its 32-bit numbers; a pointer may be
- * null where its length is 0, `answer` never; `out`, an index that is filled and `answer` overlap nothing else; no length is over PTRDIFF_MAX
- * bytes.
+ * What the caller sees to: a length is the number of bytes behind its pointer, of an index or of places the number of its 32-bit numbers; a
+ * pointer may be null where its length is 0, `answer` never; `out`, an index that is filled, places and `answer` overlap nothing else; no length
+ * is over PTRDIFF_MAX bytes.
  */
 #ifndef SAILMORTAR_H
 #define SAILMORTAR_H
@@ -53,6 +54,15 @@ enum {
     SAILMORTAR_COLUMNS = 3 /* how many columns are declared; 0 where the declarations are refused */
 };
 
+/* Places in the answer of sailmortar_compare; the number, the refused row and the refused column stand before them, as in every answer. */
+enum {
+    SAILMORTAR_INPUT = 3,         /* which input is refused: 0 the first, and where the declarations are refused; 1 the second */
+    SAILMORTAR_DIFFERING = 4,     /* how many cells show differently, in the rows that both inputs have */
+    SAILMORTAR_FIRST_BEYOND = 5,  /* how many rows the first input has beyond the second */
+    SAILMORTAR_SECOND_BEYOND = 6, /* how many rows the second input has beyond the first */
+    SAILMORTAR_PLACES = 7         /* how many places were filled, each of them two numbers */
+};
+
 /* Refusal numbers. */
 enum {
     SAILMORTAR_ACCEPTED = 0,
@@ -75,7 +85,7 @@ enum {
     SAILMORTAR_NO_ROOM = 17,               /* the row, or the base64 result, is longer than the room left, or an index has no place left */
     SAILMORTAR_OUT_OF_RANGE = 18,          /* an integer outside its kind's range */
     SAILMORTAR_PAST_THE_END = 20,          /* a row that the stream, or its index, does not have */
-    SAILMORTAR_NO_SUCH_KIND = 255          /* `from` or `to` is none of 0, 1 and 2, for an index none of 1 and 2; nothing else is judged */
+    SAILMORTAR_NO_SUCH_KIND = 255          /* a kind is none of 0, 1 and 2, for an index none of 1 and 2; nothing else is judged */
 };
 
 /*
@@ -131,6 +141,21 @@ void sailmortar_index(const uint8_t *decls, size_t decls_length, uint32_t from, 
  */
 void sailmortar_fetch(const uint8_t *decls, size_t decls_length, uint32_t from, const uint8_t *input, size_t input_length, const uint32_t *index,
                       size_t index_length, uint64_t rows, uint64_t row, uint8_t *out, size_t out_length, uint64_t answer[5]);
+
+/*
+ * Where two inputs under the same declarations differ, each of any kind of rows. Two cells differ where what they show differs: how it is spelled does
+ * not matter, nor what stands under a null flag or behind a NUL. A cell of BINARY2 that is empty and not null differs from a null; no other kind has such
+ * cells. The answer has how many cells differ in the rows that both inputs have, all of them, and how many rows each has beyond the other, of which one
+ * is 0: the inputs show the same where all three are 0.
+ *
+ * `places` gets the first places that differ in the order of rows, and in a row of columns, each as two numbers: the row and the column, both from 0. As
+ * many are filled as fit, and every other number is as it was, the last one of an odd length among them.
+ *
+ * The first input is judged first, all of it: the declarations, its size, its rows; then the second: its size, its rows. They are judged as in a
+ * conversion to BINARY2 with room enough, so that only reading can refuse. At a refusal all counts are 0 and `places` is as it was.
+ */
+void sailmortar_compare(const uint8_t *decls, size_t decls_length, uint32_t from_first, const uint8_t *first, size_t first_length, uint32_t from_second,
+                        const uint8_t *second, size_t second_length, uint32_t *places, size_t places_length, uint64_t answer[8]);
 
 #ifdef __cplusplus
 }

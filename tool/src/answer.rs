@@ -5,7 +5,7 @@ use std::fmt;
 use std::io;
 
 use crate::numbers::meaning;
-use crate::Misfit;
+use crate::{Misfit, RefusedInput};
 
 /// A kind of rows.
 #[derive(Clone, Copy, Debug, PartialEq, Eq)]
@@ -76,12 +76,13 @@ pub struct Refused {
     pub row: u64,
     /// The refused column, from 0; for refusals 1 to 5 the number of whole FIELDs before the refused element.
     pub column: u64,
-    /// How many rows before the refused one are written whole, or read for an index; 0 where one row was asked for.
+    /// How many rows before the refused one are written whole, or read for an index; 0 where one row was asked for, or two inputs were
+    /// compared.
     pub rows: u64,
     /// How many bytes they take; every byte of a lent buffer after them is as it was.
     pub bytes: u64,
     /// Where in the input those rows end and the refused row begins. White space before a row of TABLEDATA belongs to that row. It is 0 where
-    /// no row was read (1 to 7), and where one row was asked for.
+    /// no row was read (1 to 7), where one row was asked for, and where two inputs were compared.
     pub offset: usize,
 }
 
@@ -119,6 +120,8 @@ impl std::error::Error for Refused {}
 pub enum Error {
     /// The input is refused; the rows before the refused one stand in the output.
     Refused(Refused),
+    /// One of two inputs is refused, and they are not compared.
+    RefusedInput(RefusedInput),
     /// The system said no: there is no memory, or a reader or a writer failed.
     System(io::Error),
     /// An index is none, or not of this stream under these declarations, and is not used.
@@ -130,6 +133,7 @@ impl Error {
     pub fn refused(&self) -> Option<&Refused> {
         match self {
             Error::Refused(refused) => Some(refused),
+            Error::RefusedInput(refused) => Some(&refused.refused),
             Error::System(_) | Error::Misfit(_) => None,
         }
     }
@@ -139,6 +143,7 @@ impl fmt::Display for Error {
     fn fmt(&self, f: &mut fmt::Formatter) -> fmt::Result {
         match self {
             Error::Refused(refused) => refused.fmt(f),
+            Error::RefusedInput(refused) => refused.fmt(f),
             Error::System(cause) => cause.fmt(f),
             Error::Misfit(misfit) => misfit.fmt(f),
         }
@@ -150,6 +155,7 @@ impl std::error::Error for Error {
     fn source(&self) -> Option<&(dyn std::error::Error + 'static)> {
         match self {
             Error::Refused(refused) => refused.source(),
+            Error::RefusedInput(refused) => refused.source(),
             Error::System(cause) => cause.source(),
             Error::Misfit(misfit) => misfit.source(),
         }
@@ -159,6 +165,12 @@ impl std::error::Error for Error {
 impl From<Refused> for Error {
     fn from(refused: Refused) -> Error {
         Error::Refused(refused)
+    }
+}
+
+impl From<RefusedInput> for Error {
+    fn from(refused: RefusedInput) -> Error {
+        Error::RefusedInput(refused)
     }
 }
 

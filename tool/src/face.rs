@@ -40,4 +40,17 @@ extern "C" {
         out_length: usize,
         answer: *mut [u64; 5],
     );
+    pub fn sailmortar_compare(
+        decls: *const u8,
+        decls_length: usize,
+        from_first: u32,
+        first: *const u8,
+        first_length: usize,
+        from_second: u32,
+        second: *const u8,
+        second_length: usize,
+        places: *mut u32,
+        places_length: usize,
+        answer: *mut [u64; 8],
+    );
 }

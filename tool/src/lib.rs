@@ -3,7 +3,7 @@
 //! The converter is proved: whatever bytes come in, the answer is rows or one numbered refusal with its row and column, the good rows
 //! before it stand whole in the output, and every byte after them is untouched. This crate is the thin, unproved layer over it: slices in,
 //! results out. One row of a long stream of BINARY or BINARY2 is found by an [`Index`], of a file without reading the rest of it
-//! ([`IndexedRows`]).
+//! ([`IndexedRows`]). Where two inputs differ, each of any kind of rows, [`compare()`] tells.
 //!
 //! ```
 //! # fn main() -> Result<(), sailmortar::Error> {
@@ -31,6 +31,7 @@
 mod answer;
 mod base64;
 mod columns;
+mod compare;
 mod face;
 mod index;
 mod index_file;
@@ -44,12 +45,13 @@ mod stream;
 pub use answer::{Done, Error, Refused, Rows};
 pub use base64::{base64_decode_to_vec, base64_encode_to_vec, Base64Writer};
 pub use columns::{columns, element, Column, Element, Kind, Length};
+pub use compare::{compare_to_vec, Comparison, Input, Place, RefusedInput};
 pub use index::{Index, Indexed, Stopped, ROWS_PER_START};
 pub use index_file::Misfit;
 pub use indexed_rows::IndexedRows;
 pub use numbers::{meaning, Number, NUMBERS};
 pub use pieces::{convert_pieces, convert_to_vec, Piece};
-pub use proved::{base64_decode, base64_encode, convert, declare, fetch, index};
+pub use proved::{base64_decode, base64_encode, compare, convert, declare, fetch, index};
 pub use stream::{base64_decode_stream, base64_encode_stream, convert_stream, read_input, within_limit, ROOM};
 
 /// The most bytes of a row input, or of an input of a base64 step.

@@ -3,8 +3,8 @@
 use std::mem::MaybeUninit;
 
 use crate::face::{sailmortar_base64_decode, sailmortar_base64_encode, sailmortar_convert_piece, sailmortar_declare};
-use crate::face::{sailmortar_fetch, sailmortar_index};
-use crate::{Done, Refused, Rows, ROWS_PER_START};
+use crate::face::{sailmortar_compare, sailmortar_fetch, sailmortar_index};
+use crate::{Comparison, Done, Input, Place, Refused, RefusedInput, Rows, ROWS_PER_START};
 
 /// Room that is lent for bytes to be written to. What it held before need not be anything.
 type Room = [MaybeUninit<u8>];
@@ -192,4 +192,96 @@ pub(crate) fn fetch_behind(
     out: &mut Vec<u8>,
 ) -> Result<Done, Refused> {
     behind(out, |room| fetch_in(decls, from, input, index, rows, row, room))
+}
+
+fn compare_in(
+    decls: &[u8],
+    from_first: Rows,
+    first: &[u8],
+    from_second: Rows,
+    second: &[u8],
+    places: &mut [MaybeUninit<Place>],
+) -> Result<Comparison, RefusedInput> {
+    let mut answer = [0; 8];
+    // SAFETY: as in `convert_in`; a place is two numbers, one behind the other, and `places` is lent to this call alone, too.
+    unsafe {
+        sailmortar_compare(
+            decls.as_ptr(),
+            decls.len(),
+            from_first.number(),
+            first.as_ptr(),
+            first.len(),
+            from_second.number(),
+            second.as_ptr(),
+            second.len(),
+            places.as_mut_ptr().cast(),
+            2 * places.len(),
+            &mut answer,
+        );
+    }
+    match answer {
+        [0, _, _, _, differing, first_beyond, second_beyond, places] => {
+            Ok(Comparison { differing, first_beyond, second_beyond, places: places as usize })
+        }
+        [number, row, column, input, ..] => {
+            let refused = Refused { number, row, column, rows: 0, bytes: 0, offset: 0 };
+            Err(RefusedInput { input: refused_input(decls, input), refused })
+        }
+    }
+}
+
+/// Which input is refused, from its number. Declarations that are refused are what is refused: nothing is judged before them.
+fn refused_input(decls: &[u8], input: u64) -> Input {
+    match input {
+        _ if declare(decls).is_err() => Input::Declarations,
+        0 => Input::First,
+        _ => Input::Second,
+    }
+}
+
+/// Where two inputs under the same declarations differ, each of any kind of rows: the first places that differ go into `places`, as many as
+/// fit, in the order of rows, and in a row of columns; every other place is as it was.
+///
+/// Cells differ where what they show differs: how that is spelled does not matter. A cell of BINARY2 that is empty and not null differs from a
+/// null. The counts of the answer are exact, however little room there is; [`compare_to_vec`](crate::compare_to_vec) makes the room itself.
+///
+/// The first input is judged whole before the second, as [`convert`] to BINARY2 judges it where there is room enough: only reading can refuse.
+/// Then nothing is compared, and `places` is as it was.
+///
+/// ```
+/// use sailmortar::{compare, Input, Place, Rows};
+///
+/// let fields = b"<FIELD datatype='short'/>";
+/// let mut places = [Place::default(); 1];
+/// let compared = compare(fields, Rows::Binary, &[0, 7, 0, 8, 0, 9], Rows::Binary, &[0, 7, 0, 0, 0, 0], &mut places).unwrap();
+/// assert!(!compared.is_same());
+/// assert_eq!((compared.differing, places), (2, [Place { row: 1, column: 0 }]));
+///
+/// let cut = compare(fields, Rows::Binary, &[0, 7], Rows::Binary, &[0], &mut []).unwrap_err();
+/// assert_eq!((cut.input, cut.refused.number, cut.refused.row), (Input::Second, 8, 0));
+/// ```
+pub fn compare(
+    decls: &[u8],
+    from_first: Rows,
+    first: &[u8],
+    from_second: Rows,
+    second: &[u8],
+    places: &mut [Place],
+) -> Result<Comparison, RefusedInput> {
+    // SAFETY: the two have one layout, and the proved function puts nothing but numbers there.
+    compare_in(decls, from_first, first, from_second, second, unsafe { &mut *(places as *mut [Place] as *mut [MaybeUninit<Place>]) })
+}
+
+pub(crate) fn compare_behind(
+    decls: &[u8],
+    from_first: Rows,
+    first: &[u8],
+    from_second: Rows,
+    second: &[u8],
+    places: &mut Vec<Place>,
+) -> Result<Comparison, RefusedInput> {
+    let compared = compare_in(decls, from_first, first, from_second, second, places.spare_capacity_mut())?;
+    // SAFETY: the proved function answers how many places it filled from the start of the room, and that is no more than the room has.
+    unsafe { places.set_len(places.len() + compared.places) };
+    Ok(compared)
 }

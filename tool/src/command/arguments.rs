@@ -5,6 +5,7 @@ use std::fmt;
 use std::ops::RangeInclusive;
 use std::os::unix::ffi::{OsStrExt, OsStringExt};
 use std::path::PathBuf;
+use std::str::FromStr;
 
 use sailmortar::Rows;
 
@@ -30,6 +31,7 @@ pub enum Command {
     Columns(Place),
     Index(Indexing),
     Row(Fetching),
+    Compare(Comparing),
 }
 
 /// How the end of a run is told.
@@ -105,6 +107,22 @@ pub struct Fetching {
     pub output: Place,
 }
 
+/// Two inputs under the same declarations.
+pub struct Comparing {
+    pub first: Compared,
+    pub second: Compared,
+    /// Whether nothing is listed or counted: the exit status tells.
+    pub quiet: bool,
+    /// The most cells that are listed.
+    pub limit: u64,
+}
+
+/// One of two inputs.
+pub struct Compared {
+    pub table: Table,
+    pub input: Place,
+}
+
 /// What is wrong with the words, in a line.
 pub struct Usage(pub String);
 
@@ -131,6 +149,7 @@ const fn plain(long: &'static str) -> Known {
 
 const OUTPUT: Known = Known { long: "output", letter: Some(b'o'), valued: true };
 const VERBOSE: Known = Known { long: "verbose", letter: Some(b'v'), valued: false };
+const QUIET: Known = Known { long: "quiet", letter: Some(b'q'), valued: false };
 const JSON: Known = plain("json");
 
 /// Whether the words ask for `--json`, for the case that something is wrong with the rest of them.
@@ -138,13 +157,13 @@ pub fn asks_for_json(words: &[OsString]) -> bool {
     words.iter().take_while(|word| *word != "--").any(|word| word == "--json")
 }
 
-const COMMANDS: &str = "convert, check, index, row, columns, base64, explain and help";
+const COMMANDS: &str = "convert, check, compare, index, row, columns, base64, explain and help";
 
 /// The command line without the program's name.
 pub fn request(words: Vec<OsString>) -> Result<Request, Usage> {
     let mut words = words.into_iter();
     let Some(first) = words.next() else {
-        return Err("say what to do: convert, check, index, row, columns, base64, explain or help".into());
+        return Err("say what to do: convert, check, compare, index, row, columns, base64, explain or help".into());
     };
     match first.as_bytes() {
         b"-h" | b"--help" => Ok(plain_request(Command::Help(Topic::All))),
@@ -180,6 +199,10 @@ fn request_of(topic: Topic, words: impl Iterator<Item = OsString>) -> Result<Req
             files.into_iter().chain([valued("wrap"), valued("rest"), OUTPUT, VERBOSE, JSON]).collect()
         }
         Topic::Check => vec![valued("fields"), valued("from"), valued("to"), plain("base64-in"), JSON],
+        Topic::Compare => {
+            let inputs = [valued("fields"), valued("from"), valued("and"), plain("base64-in"), plain("base64-and")];
+            inputs.into_iter().chain([valued("limit"), QUIET, VERBOSE, JSON]).collect()
+        }
         Topic::Index => vec![valued("fields"), valued("from"), plain("base64-in"), OUTPUT, VERBOSE, JSON],
         Topic::Row => vec![valued("fields"), valued("from"), valued("index"), plain("base64-in"), OUTPUT, VERBOSE, JSON],
         Topic::Columns => vec![valued("fields"), JSON],
@@ -193,6 +216,7 @@ fn request_of(topic: Topic, words: impl Iterator<Item = OsString>) -> Result<Req
     let telling = Telling { verbose: words.take("verbose").is_some(), json: words.take("json").is_some() };
     let command = match topic {
         Topic::All => Command::Help(Topic::All),
+        Topic::Compare => comparing(words, telling)?,
         Topic::Explain => explain(words)?,
         Topic::Convert => conversion(words)?,
         Topic::Check => checking(words)?,
@@ -258,10 +282,14 @@ impl Words {
         let Some(word) = self.take("wrap") else {
             return Ok(None);
         };
-        let letters =
-            word.to_str().filter(|digits| digits.bytes().all(|digit| digit.is_ascii_digit())).and_then(|digits| digits.parse().ok());
+        let letters = number(&word);
         letters.map(Some).ok_or_else(|| format!("--wrap takes a number of letters, not '{}'", shown(&word)).into())
     }
+}
+
+/// The number that a word of digits alone stands for.
+fn number<N: FromStr>(word: &OsStr) -> Option<N> {
+    word.to_str().filter(|digits| digits.bytes().all(|digit| digit.is_ascii_digit()))?.parse().ok()
 }
 
 fn split(topic: Topic, mut rest: impl Iterator<Item = OsString>, known: &[Known]) -> Result<Split, Usage> {
@@ -329,11 +357,16 @@ fn needed<const N: usize>(topic: Topic, words: &mut Words, options: [(&str, &str
 
 fn table(words: &mut Words, fields: OsString, from: &OsStr, input: &Place) -> Result<Table, Usage> {
     let table = Table { fields: Place::of(Some(fields)), from: kind("--from", from)?, base64_in: words.take("base64-in").is_some() };
-    if table.fields == Place::Standard && *input == Place::Standard {
-        return Err("the fields and the rows cannot both come from standard input".into());
-    }
+    two_inputs(&table.fields, input)?;
     for_binary("in", table.base64_in, table.from)?;
     Ok(table)
+}
+
+fn two_inputs(fields: &Place, input: &Place) -> Result<(), Usage> {
+    match *fields == Place::Standard && *input == Place::Standard {
+        true => Err("the fields and the rows cannot both come from standard input".into()),
+        false => Ok(()),
+    }
 }
 
 fn for_binary(option: &str, given: bool, kind: Rows) -> Result<(), Usage> {
@@ -372,6 +405,38 @@ fn checking(mut words: Words) -> Result<Command, Usage> {
     let input = Words::input(operands.into_iter())?;
     let to = words.take("to").map(|to| kind("--to", &to)).transpose()?;
     Ok(Command::Check(Checking { table: table(&mut words, fields, &from, &input)?, to, input }))
+}
+
+fn comparing(mut words: Words, telling: Telling) -> Result<Command, Usage> {
+    let operands = std::mem::take(&mut words.operands);
+    let [fields, from] = needed(Topic::Compare, &mut words, [("fields", "FILE"), ("from", "KIND")])?;
+    let [first, second] = two_operands(operands)?;
+    // The second is of the same kind unless it is said to be of another.
+    let and = words.take("and").map_or_else(|| kind("--from", &from), |and| kind("--and", &and))?;
+    let base64_and = words.take("base64-and").is_some();
+    for_binary("and", base64_and, and)?;
+    let (limit, quiet) = (words.take("limit"), words.take("quiet").is_some());
+    if quiet && (limit.is_some() || telling.verbose) {
+        return Err(format!("--quiet says nothing: leave {} out", if telling.verbose { "--verbose" } else { "--limit" }).into());
+    }
+    let first = Compared { table: table(&mut words, fields, &from, &first)?, input: first };
+    two_inputs(&first.table.fields, &second)?;
+    let table = Table { fields: first.table.fields.clone(), from: and, base64_in: base64_and };
+    let limit = limit.map_or(Ok(u64::MAX), |word| {
+        number(&word).ok_or_else(|| Usage(format!("--limit takes a number of cells, not '{}'", shown(&word))))
+    })?;
+    Ok(Command::Compare(Comparing { first, second: Compared { table, input: second }, quiet, limit }))
+}
+
+/// The two inputs that are compared; one of them may be standard input.
+fn two_operands(operands: Vec<OsString>) -> Result<[Place; 2], Usage> {
+    match &operands[..] {
+        [] | [_] => Err("compare needs two inputs, FIRST and SECOND; '-' is standard input".into()),
+        [first, second] if first.is_empty() || second.is_empty() => Err("an input has no name; '-' is standard input".into()),
+        [first, second] if first == "-" && second == "-" => Err("the two inputs cannot both come from standard input".into()),
+        [first, second] => Ok([first, second].map(|word| Place::of(Some(word.clone())))),
+        [_, _, third, ..] => Err(format!("compare takes two inputs, and '{}' is a third", shown(third)).into()),
+    }
 }
 
 fn indexing(mut words: Words) -> Result<Command, Usage> {

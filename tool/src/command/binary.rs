@@ -23,7 +23,7 @@ pub fn content_bytes(kind: Kind, elements: usize) -> usize {
 
 pub fn standing<'a>(stream: &Stream<'a>, refused: &Refused) -> Option<Standing<'a>> {
     let row = stream.input.get(refused.offset..)?;
-    let flags = flag_bytes(stream);
+    let flags = flag_bytes(stream.columns, stream.from);
     if is_in_flags(stream.columns.len(), row, flags, refused) {
         return Some(in_flags(stream.columns.len(), &row[..flags.min(row.len())], refused));
     }
@@ -36,20 +36,24 @@ pub fn standing<'a>(stream: &Stream<'a>, refused: &Refused) -> Option<Standing<'
 
 /// Where the row begins that has so many whole rows between it and `start`, which is a row's.
 pub fn row_start(stream: &Stream, start: usize, rows: u64) -> usize {
-    let after_row = |row: &[u8]| stream.columns.iter().try_fold(row.get(flag_bytes(stream)..)?, after_cell).map(<[u8]>::len);
     (0..rows).fold(start, |start, _| {
-        let left = stream.input.get(start..).and_then(after_row);
-        left.map_or(start, |left| stream.input.len() - left)
+        let left = stream.input.get(start..).and_then(|row| after_row(stream.columns, stream.from, row));
+        left.map_or(start, |left| stream.input.len() - left.len())
     })
 }
 
 /// The bytes of flags at the start of a row.
-fn flag_bytes(stream: &Stream) -> usize {
-    if stream.from == Rows::Binary2 {
-        stream.columns.len().div_ceil(8)
+pub fn flag_bytes(columns: &[Column], from: Rows) -> usize {
+    if from == Rows::Binary2 {
+        columns.len().div_ceil(8)
     } else {
         0
     }
+}
+
+/// What stands behind a whole row.
+pub fn after_row<'a>(columns: &[Column], from: Rows, row: &'a [u8]) -> Option<&'a [u8]> {
+    columns.iter().try_fold(row.get(flag_bytes(columns, from)..)?, after_cell)
 }
 
 /// The flags are judged before any cell, under the first column's number: their length, then the spare ones.
@@ -77,7 +81,7 @@ fn spare(bits: usize) -> u32 {
 }
 
 /// What stands behind a whole cell.
-fn after_cell<'a>(row: &'a [u8], column: &Column) -> Option<&'a [u8]> {
+pub fn after_cell<'a>(row: &'a [u8], column: &Column) -> Option<&'a [u8]> {
     let cell = Cell::at(column, row);
     row.get(cell.counted.len() + cell.wanted()?..)
 }

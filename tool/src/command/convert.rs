@@ -60,7 +60,15 @@ pub fn convert(conversion: &Conversion) -> Result<Report, End> {
 }
 
 pub fn stream<'a>(input: &'a Input, fields: &'a Fields, table: &Table, to: Rows, rows: &'a [u8]) -> Stream<'a> {
-    Stream { input_name: &input.name, columns: &fields.columns, from: table.from, to, decoded: table.base64_in, input: rows }
+    Stream {
+        input_name: &input.name,
+        columns: &fields.columns,
+        from: table.from,
+        to,
+        decoded: table.base64_in,
+        is_second: false,
+        input: rows,
+    }
 }
 
 /// The words and facts of a refused row, and of what stands before it, or could not be kept.
@@ -179,7 +187,7 @@ pub fn named(fact: &'static str, output: &Output) -> (&'static str, Value) {
     (fact, Value::Text(output.name.to_string_lossy().into_owned()))
 }
 
-fn rows_before(rows: u64) -> String {
+pub fn rows_before(rows: u64) -> String {
     format!("the {} before it {}", counted(rows, "row", "rows"), if rows == 1 { "is" } else { "are" })
 }
 

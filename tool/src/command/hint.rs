@@ -27,12 +27,18 @@ const TAGS: &[(&str, &str)] = &[
 ];
 
 /// A hint for a refused row; `fault` is what stands where a tag or a reference of TABLEDATA should.
-pub fn of_row(stream: &Stream, refused: &Refused, fault: Option<&[u8]>) -> Option<&'static str> {
-    match (stream.from, fault) {
+pub fn of_row(stream: &Stream, refused: &Refused, fault: Option<&[u8]>) -> Option<String> {
+    let hint = match (stream.from, fault) {
         (Rows::TableData, Some(fault)) => instead_of_a_tag(stream, fault),
         (Rows::TableData, None) => None,
         _ => of_bytes(stream, refused),
-    }
+    };
+    hint.map(|hint| if stream.is_second { for_a_second(hint) } else { hint.to_string() })
+}
+
+/// A hint by the names that the options of a second input have.
+fn for_a_second(hint: &str) -> String {
+    hint.replace("--from", "--and").replace("--base64-in", "--base64-and")
 }
 
 fn instead_of_a_tag(stream: &Stream, fault: &[u8]) -> Option<&'static str> {

@@ -14,6 +14,7 @@ fn written(value: &Value) -> String {
     match value {
         Value::Number(number) => number.to_string(),
         Value::Text(words) => text(words),
+        Value::Null => "null".to_string(),
     }
 }
 

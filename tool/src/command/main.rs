@@ -8,7 +8,9 @@ mod base64;
 mod binary;
 mod cell;
 mod columns;
+mod compare;
 mod convert;
+mod differing;
 mod element;
 mod files;
 mod hint;
@@ -21,6 +23,7 @@ mod progress;
 mod report;
 mod row;
 mod shown;
+mod side_by_side;
 #[allow(unsafe_code)]
 mod system;
 mod tabledata;
@@ -39,12 +42,19 @@ const ACCEPTED: u8 = 0;
 const REFUSED: u8 = 1;
 const WRONG_USAGE: u8 = 2;
 const SYSTEM_SAID_NO: u8 = 3;
+/// Of compare, whose refusals have a number of their own.
+const DIFFERENT: u8 = 1;
+const NOT_COMPARED: u8 = 4;
 
 /// How a run ends that does not end well.
 enum End {
     Refused(Report),
     /// A row is refused, and the system said no to what was to be kept before it.
     NotKept(Report),
+    /// Two inputs are good, and differ.
+    Different(Report),
+    /// One of two inputs is refused.
+    NotCompared(Report),
     Trouble(Trouble),
     Usage(Usage),
 }
@@ -72,6 +82,8 @@ fn main() -> ExitCode {
     let (status, said) = match ended {
         Ok(report) => (ACCEPTED, told(ACCEPTED, report, telling)),
         Err(End::Refused(report)) => (REFUSED, told(REFUSED, report, telling)),
+        Err(End::Different(report)) => (DIFFERENT, told(DIFFERENT, report, telling)),
+        Err(End::NotCompared(report)) => (NOT_COMPARED, told(NOT_COMPARED, report, telling)),
         Err(End::NotKept(report)) => (SYSTEM_SAID_NO, told(SYSTEM_SAID_NO, report, telling)),
         Err(End::Trouble(trouble)) if trouble.is_closed_pipe() => (SYSTEM_SAID_NO, String::new()),
         Err(End::Trouble(trouble)) => (SYSTEM_SAID_NO, told(SYSTEM_SAID_NO, said_in_a_line(trouble.to_string()), telling)),
@@ -111,6 +123,7 @@ fn run(command: &Command, telling: Telling) -> Result<Report, End> {
         Command::Decode(files) => base64::decode(files),
         Command::Convert(conversion) => convert::convert(conversion),
         Command::Check(checking) => convert::check(checking, telling),
+        Command::Compare(comparing) => compare::compare(comparing, telling),
         Command::Index(indexing) => index::index(indexing),
         Command::Row(fetching) => row::row(fetching),
         Command::Columns(fields) => columns::columns(fields, telling),

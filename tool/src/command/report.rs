@@ -24,6 +24,7 @@ pub struct Report {
 pub enum Value {
     Number(u64),
     Text(String),
+    Null,
 }
 
 /// A file's name as messages show it.
@@ -84,6 +85,8 @@ pub struct Stream<'a> {
     pub to: Rows,
     /// Whether the input was decoded from base64 first.
     pub decoded: bool,
+    /// Whether it is the second of two inputs, whose options have names of their own.
+    pub is_second: bool,
     pub input: &'a [u8],
 }
 
@@ -100,7 +103,7 @@ pub fn row(stream: &Stream, refused: &Refused, stands: &str) -> Report {
     report.number("bytes", refused.bytes);
     let spot = report.spot(stream, refused, standing.as_ref());
     report.lines.push(format!("rows and columns count from 0; {spot}; 'sailmortar explain {number}' says more"));
-    report.hint(hint::of_row(stream, refused, standing.and_then(|standing| standing.fault)));
+    report.hint(hint::of_row(stream, refused, standing.and_then(|standing| standing.fault)).as_deref());
     report
 }
 
@@ -150,11 +153,11 @@ impl Report {
         report
     }
 
-    fn number(&mut self, name: &'static str, value: u64) {
+    pub fn number(&mut self, name: &'static str, value: u64) {
         self.facts.push((name, Value::Number(value)));
     }
 
-    fn text(&mut self, name: &'static str, value: impl Into<String>) {
+    pub fn text(&mut self, name: &'static str, value: impl Into<String>) {
         self.facts.push((name, Value::Text(value.into())));
     }
 

@@ -30,6 +30,11 @@ pub fn plain(text: &[u8]) -> String {
     format!("{}{}", String::from_utf8_lossy(&text[..start]), ending(start, text))
 }
 
+/// A text of any length, with nothing in it that a terminal would act on.
+pub fn escaped_whole(text: &[u8]) -> String {
+    escaped(text, usize::MAX)
+}
+
 /// Bytes as pairs of hexadigits.
 pub fn hexadigits(bytes: &[u8]) -> String {
     let start = &bytes[..bytes.len().min((MOST + 1) / 3)];

@@ -11,6 +11,7 @@ pub enum Topic {
     All,
     Convert,
     Check,
+    Compare,
     Index,
     Row,
     Columns,
@@ -19,7 +20,8 @@ pub enum Topic {
 }
 
 impl Topic {
-    const COMMANDS: [Topic; 7] = [Topic::Convert, Topic::Check, Topic::Index, Topic::Row, Topic::Columns, Topic::Base64, Topic::Explain];
+    const COMMANDS: [Topic; 8] =
+        [Topic::Convert, Topic::Check, Topic::Compare, Topic::Index, Topic::Row, Topic::Columns, Topic::Base64, Topic::Explain];
 
     /// The command of this name; `help` is help of everything.
     pub fn named(word: &OsStr) -> Option<Topic> {
@@ -31,6 +33,7 @@ impl Topic {
             Topic::All => "help",
             Topic::Convert => "convert",
             Topic::Check => "check",
+            Topic::Compare => "compare",
             Topic::Index => "index",
             Topic::Row => "row",
             Topic::Columns => "columns",
@@ -44,6 +47,7 @@ impl Topic {
             Topic::All => HELP,
             Topic::Convert => CONVERT,
             Topic::Check => CHECK,
+            Topic::Compare => COMPARE,
             Topic::Index => INDEX,
             Topic::Row => ROW,
             Topic::Columns => COLUMNS,
@@ -58,6 +62,7 @@ Sailmortar converts VOTable rows: TABLEDATA, BINARY and BINARY2, any to any.
 
   sailmortar convert --fields FILE --from KIND --to KIND [INPUT] [-o OUTPUT]
   sailmortar check --fields FILE --from KIND [INPUT]     are the rows good?
+  sailmortar compare --fields FILE --from KIND FIRST [--and KIND] SECOND
   sailmortar index --fields FILE --from KIND [INPUT] -o INDEX
   sailmortar row N --fields FILE --from KIND INPUT --index INDEX    one row
   sailmortar columns FILE      what the FIELD elements are understood as
@@ -70,7 +75,8 @@ KIND is tabledata, binary or binary2. FILE has the table's FIELD elements and
 INPUT the rows, with no tags around them. '-' or no name is standard input or
 output. At a refusal the good rows before it are written, and standard error
 says where it stopped and why.
-Exit status: 0 accepted, 1 refused, 2 wrong usage, 3 the system said no.
+Exit status: 0 accepted, 1 refused, 2 wrong usage, 3 the system said no; of
+compare 0 the same, 1 they differ, 4 refused.
 
   sailmortar convert --fields night.fields --from tabledata --to binary2 \\
                      night.tabledata -o night.binary2
@@ -109,6 +115,30 @@ sailmortar check --fields FILE --from KIND [--to KIND] [INPUT]
 
 Reads all rows and writes none: says how many rows, bytes and columns there
 are, or what is refused and where.
+";
+
+const COMPARE: &str = "\
+sailmortar compare --fields FILE --from KIND FIRST [--and KIND] SECOND
+
+  --fields FILE      the FIELD elements of both, and nothing around them
+  --from KIND        what FIRST holds: tabledata, binary or binary2
+  --and KIND         what SECOND holds, where that is another kind
+  --base64-in        FIRST is base64, as a STREAM element has it
+  --base64-and       SECOND is base64
+  --limit N          list N cells at most; all are counted
+  -q, --quiet        list and count nothing: the exit status tells
+  -v, --verbose      say how many rows there are when all is the same, too
+  --json             say it in objects, one on a line
+  -h, --help         this text
+
+Lists every cell that shows differently, by its row and column from 0, with
+what it shows in FIRST and in SECOND; then how many these are, and which has
+rows that the other has not. Where all is the same it says nothing. How a cell
+is spelled does not matter. '-' is standard input, for one of the two.
+Exit status: 0 the same, 1 they differ, 4 one of them is refused, 2 wrong
+usage, 3 the system said no.
+
+  sailmortar compare --fields F --from binary2 NIGHT --and tabledata COPY
 ";
 
 const INDEX: &str = "\
