@@ -13,6 +13,7 @@ mod agreement {
     mod base64;
     mod cells;
     mod compare;
+    mod compare_nights;
     mod declarations;
     mod index;
     mod library;

@@ -79,3 +79,26 @@ pub fn fetch(decls: &[u8], from: u32, input: &[u8], index: &[u32], rows: u64, ro
     }
     answer
 }
+
+pub fn compare(decls: &[u8], from: [u32; 2], [first, second]: [&[u8]; 2], places: &mut [u32]) -> [u64; 8] {
+    let mut answer = [UNWRITTEN; 8];
+    let (text, one, other, room) = (decls.as_ptr(), first.as_ptr(), second.as_ptr(), places.as_mut_ptr());
+    let [from_first, from_second] = from;
+    // SAFETY: as in `conversion`; `places` is lent to this call alone, too.
+    unsafe {
+        face::sailmortar_compare(
+            text,
+            decls.len(),
+            from_first,
+            one,
+            first.len(),
+            from_second,
+            other,
+            second.len(),
+            room,
+            places.len(),
+            &mut answer,
+        );
+    }
+    answer
+}

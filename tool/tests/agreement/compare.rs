@@ -2,6 +2,7 @@
 
 use super::archive;
 use super::line_ends::translated;
+use crate::model::compare::{self, Compared};
 use crate::model::converter::{self, Piece, Rows};
 use crate::model::index::{self, Indexed};
 use crate::model::{base64, Answer, Written, MOST_INPUT};
@@ -164,6 +165,47 @@ impl Night<'_> {
 
     fn fail(&self, call: &str, difference: &str) -> ! {
         panic!("{}", report(call, self.seed, &[("declarations", self.declarations), ("input", self.input)], difference))
+    }
+}
+
+/// Two inputs under one text of declarations, each of a kind by its number, be it any's or not.
+#[derive(Clone, Copy)]
+pub struct Nights<'a> {
+    pub declarations: &'a [u8],
+    pub from: [u32; 2],
+    pub inputs: [&'a [u8]; 2],
+    pub seed: u64,
+}
+
+impl Nights<'_> {
+    /// Compares comparing with a buffer of so many numbers; hands out what the model says.
+    pub fn agree(&self, length: usize) -> Compared {
+        let Nights { declarations, from, inputs, .. } = *self;
+        let model = compare::compare(declarations, from, inputs, length);
+        for filling in FILLINGS.map(|filling| u32::from_le_bytes([filling; 4])) {
+            let mut proved: Vec<u32> = (0..length + 2 * FENCE).map(|place| place as u32 ^ filling).collect();
+            let mut expected = proved.clone();
+            expected[FENCE..FENCE + model.numbers.len()].copy_from_slice(&model.numbers);
+            let answer = archive::compare(declarations, from, inputs, &mut proved[FENCE..FENCE + length]);
+            if answer != model.answer || proved != expected {
+                let at = proved.iter().zip(&expected).position(|(one, other)| one != other);
+                let number = at.map(|at| (at as i64 - FENCE as i64, proved[at], expected[at]));
+                self.fail(length, &format!("answer: proved {answer:?}, model {:?}; number, proved, model {number:?}", model.answer));
+            }
+        }
+        model
+    }
+
+    /// The same with exactly the buffer that is needed.
+    pub fn agree_with_room_enough(&self) -> Compared {
+        let all = compare::compare(self.declarations, self.from, self.inputs, 0).answer[4];
+        self.agree(2 * all as usize)
+    }
+
+    fn fail(&self, length: usize, difference: &str) -> ! {
+        let Nights { declarations, from: [first, second], inputs, seed } = *self;
+        let texts = [("declarations", declarations), ("first", inputs[0]), ("second", inputs[1])];
+        panic!("{}", report(&format!("compare of {first} and {second}, {length} numbers"), seed, &texts, difference))
     }
 }
 

@@ -95,6 +95,43 @@ fn one_byte_over_the_greatest_input_is_refused() {
 }
 
 #[test]
+fn one_byte_over_the_greatest_input_is_refused_as_either_of_two() {
+    let (input, field) = (zeros(MOST_INPUT + 1), b"<FIELD datatype='short'/>");
+    let mut places = [77; 4];
+    let mut compare = |decls: &[u8], from, inputs| {
+        let answer = archive::compare(decls, from, inputs, &mut places);
+        assert_eq!(places, [77; 4]);
+        answer
+    };
+    for from in (0..9).map(|pair| [pair / 3, pair % 3]) {
+        let bad: &[u8] = if from[0] == 0 { b"<TR><TD>x" } else { b"\0" };
+        let answer = if from[0] == 0 { [10, 0, 0, 0, 0, 0, 0, 0] } else { [8, 0, 0, 0, 0, 0, 0, 0] };
+        assert_eq!(compare(field, from, [&input, b""]), [6, 0, 0, 0, 0, 0, 0, 0]);
+        assert_eq!(compare(field, from, [&input, &input]), [6, 0, 0, 0, 0, 0, 0, 0]);
+        assert_eq!(compare(field, from, [b"", &input]), [6, 0, 0, 1, 0, 0, 0, 0]);
+        // The first is judged to its last row before the second's size is.
+        assert_eq!(compare(field, from, [bad, &input]), answer);
+        assert_eq!(compare(field, from, [&input, bad]), [6, 0, 0, 0, 0, 0, 0, 0]);
+        assert_eq!(compare(b"<FIELD", from, [&input, &input]), [1, 0, 0, 0, 0, 0, 0, 0]);
+    }
+    assert_eq!(compare(field, [0, 3], [&input, &input]), [255, 0, 0, 0, 0, 0, 0, 0]);
+}
+
+#[test]
+fn the_greatest_inputs_are_compared() {
+    let (mut input, field) = (zeros(MOST_INPUT), b"<FIELD datatype='char' arraysize='4096'/>");
+    let (night, rows) = (zeros(MOST_INPUT), MOST_INPUT / 4096);
+    let mut places = [77; 5];
+    assert_eq!(archive::compare(field, [1, 1], [&night, &input], &mut places), [0; 8]);
+    assert_eq!(places, [77; 5]);
+    // The first and the last row, and what stands behind a NUL of another.
+    [0, 4096 + 5, MOST_INPUT - 4096].into_iter().for_each(|byte| input[byte] = b'x');
+    assert_eq!(archive::compare(field, [1, 1], [&night, &input], &mut places), [0, 0, 0, 0, 2, 0, 0, 2]);
+    assert_eq!(places, [0, 0, rows as u32 - 1, 0, 77]);
+    assert_eq!(archive::compare(field, [1, 1], [&night[4096..], &input], &mut places[..1]), [0, 0, 0, 0, 1, 0, 1, 0]);
+}
+
+#[test]
 fn the_greatest_input_is_indexed() {
     let (input, field) = (zeros(MOST_INPUT), b"<FIELD datatype='char' arraysize='4096'/>");
     let rows = MOST_INPUT / 4096;

@@ -4,6 +4,7 @@
 
 pub mod base64;
 pub mod binary;
+pub mod compare;
 pub mod converter;
 pub mod declarations;
 pub mod index;
