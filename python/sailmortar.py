@@ -1,4 +1,4 @@
-"""Rows of VOTable tables between TABLEDATA, BINARY and BINARY2, any to any, base64, and one row of a long stream.
+"""Rows of VOTable tables between TABLEDATA, BINARY and BINARY2, any to any, base64, one row of a long stream, and two nights compared.
 
     >>> import sailmortar
     >>> fields = b"<FIELD datatype='short'><VALUES null='-99'/></FIELD>"
@@ -14,6 +14,8 @@
     >>> index = sailmortar.Index.build(fields, "binary2", bytes.fromhex("00 00 07 80 00 00"))
     >>> index.rows, index.fetch(fields, bytes.fromhex("00 00 07 80 00 00"), 0)
     (2, b'<TR><TD>7</TD></TR>\\n')
+    >>> sailmortar.compare(fields, "binary2", bytes.fromhex("00 00 07 80 00 00"), "tabledata", b"<TR><TD>+7</TD></TR><TR><TD>8</TD></TR>")
+    Comparison(differing=1, first_beyond=0, second_beyond=0, places=[(1, 0)])
 
 The converter is proved: whatever bytes come in, the answer is rows or one numbered refusal with its row and column, and the rows before it
 stand. This file is the thin, unproved layer over its shared library, libsailmortar.so.0. Where the environment names a file in
@@ -44,8 +46,8 @@ if TYPE_CHECKING:
 else:
     Buffer = Union[bytes, bytearray, memoryview]
 
-__all__ = ["Answer", "Column", "Index", "MEANINGS", "Refused", "Rows", "__version__"]
-__all__ += ["base64_decode", "base64_encode", "columns", "convert", "declare"]
+__all__ = ["Answer", "Column", "Comparison", "Index", "MEANINGS", "Refused", "Rows", "__version__"]
+__all__ += ["base64_decode", "base64_encode", "columns", "compare", "convert", "declare"]
 
 __version__ = "0.1.0"
 
@@ -131,7 +133,9 @@ _FIRST_OF_ROWS = 8  # Refusals below this number are of declarations, sizes and 
 class Refused(ValueError):
     """A refusal: why and where it stopped, and the good rows before it. It can be pickled and copied."""
 
-    def __init__(self, answer: Answer, output: bytes = b"", offset: int = 0, name: Optional[str] = None) -> None:
+    def __init__(
+        self, answer: Answer, output: bytes = b"", offset: int = 0, name: Optional[str] = None, input: Optional[int] = None
+    ) -> None:
         self.answer = answer
         """The whole answer; its number, row and column are attributes of the refusal too."""
         self.number, self.row, self.column = answer.number, answer.row, answer.column
@@ -144,13 +148,18 @@ class Refused(ValueError):
         """The name of the refused column, where it has one and a cell of it is refused: no flags, and no start or end of a row."""
         self.index: Optional[Index] = None
         """The index of the rows before the refused one, where an index was built; they can be fetched by it."""
+        self.input = input
+        """Which of two inputs is refused, 0 or 1, where two were compared; None where their declarations are."""
         super().__init__(self._words())
 
     def __reduce__(self) -> Tuple[object, ...]:
         # An exception is made again from its words alone unless it says otherwise.
-        return type(self), (self.answer, self.output, self.offset, self.name), self.__dict__
+        return type(self), (self.answer, self.output, self.offset, self.name, self.input), self.__dict__
 
     def _words(self) -> str:
+        return ("" if self.input is None else ("the first input: ", "the second input: ")[self.input]) + self._refusal()
+
+    def _refusal(self) -> str:
         meaning = MEANINGS.get(self.number, "no refusal of this number is known")
         if self.number <= 5:
             whole = "FIELD" if self.column == 1 else "FIELDs"
@@ -190,6 +199,92 @@ def convert(fields: Buffer, source: Union[Rows, str], target: Union[Rows, str], 
         if answer.number:
             raise Refused(answer, output, end, _refused_name(answer, end, declared, kinds[0], given))
         return output
+
+
+class Comparison(NamedTuple):
+    """How two inputs compare, whether they show the same or not."""
+
+    differing: int
+    """How many cells show differently, in the rows that both inputs have; all of them, however many places were asked for."""
+    first_beyond: int
+    """How many rows the first input has beyond the second."""
+    second_beyond: int
+    """How many rows the second input has beyond the first."""
+    places: List[Tuple[int, int]]
+    """Where the cells stand that differ, each as row and column from 0, in the order of rows, and in a row of columns."""
+
+    @property
+    def same(self) -> bool:
+        """Whether both inputs have the same rows, showing the same cells."""
+        return not (self.differing or self.first_beyond or self.second_beyond)
+
+
+def compare(
+    fields: Buffer,
+    first_source: Union[Rows, str],
+    first: Buffer,
+    second_source: Union[Rows, str],
+    second: Buffer,
+    limit: Optional[int] = None,
+) -> Comparison:
+    """Where two inputs under the same FIELD elements differ, each of any kind of rows.
+
+    Cells differ where what they show differs: how that is spelled does not matter. A cell of BINARY2 that is empty and not null differs from
+    a null. With a `limit` no more places are handed out than that, the first ones; the counts are the same.
+
+    The first input is judged whole before the second, and only reading can refuse. A refusal is raised as Refused, and its `input` says which
+    of the two it is of.
+    """
+    kinds = Rows.named(first_source), Rows.named(second_source)
+    most = None if limit is None else operator.index(limit)
+    if most is not None and most < 0:
+        raise ValueError(f"limit: {most} is no number of places")
+    with _view("fields", fields) as text, _view("first", first) as one, _view("second", second) as other:
+        declared = _columns(text)
+        few = _FEW if most is None else min(_FEW, most)
+        numbers, places = _compared(kinds, text, one, other, few)
+        number, row, column, input, differing, *beyond, filled = numbers
+        if number:
+            raise _uncompared(Answer(number, row, column, 0, 0), input, declared, kinds[input], text, (one, other)[input])
+        wanted = differing if most is None else min(differing, most)
+        if filled < wanted:
+            _, places = _compared(kinds, text, one, other, wanted)
+        return Comparison(differing, *beyond, places)
+
+
+_FEW = 1024  # Places for which there is room before it is known how many there are.
+_PIECE = 1 << 22  # Room for any row of BINARY2: 64 cells of 4,096 longs take half of it.
+
+
+def _compared(
+    kinds: Tuple[Rows, Rows], text: memoryview, one: memoryview, other: memoryview, most: int
+) -> Tuple[List[int], List[Tuple[int, int]]]:
+    """What the library answers, and so many of the places that differ."""
+    numbers, filled = (ctypes.c_uint64 * 8)(), array.array("I")
+    with _mapping(2 * most * filled.itemsize) as mapping:
+        with memoryview(mapping) as room:
+            inputs = kinds[0], _address(one), one.nbytes, kinds[1], _address(other), other.nbytes
+            _library.sailmortar_compare(_address(text), text.nbytes, *inputs, _address(room), 2 * most, numbers)
+        filled.frombytes(mapping[: 2 * numbers[7] * filled.itemsize])
+    return list(numbers), list(zip(filled[::2], filled[1::2]))
+
+
+def _uncompared(answer: Answer, input: int, declared: List[Column], kind: Rows, text: memoryview, given: memoryview) -> Refused:
+    """The refusal of one of two inputs."""
+    offset = _refused_start(kind, text, given) if answer.number >= _FIRST_OF_ROWS else 0
+    return Refused(answer, b"", offset, _refused_name(answer, offset, declared, kind, given), input)
+
+
+def _refused_start(kind: Rows, text: memoryview, given: memoryview) -> int:
+    """Where the row begins that does not read: converting stops there, too, and tells, a piece of the output after the other."""
+    numbers, offset, start = _Numbers(), 0, _address(given) or 0
+    with _mapping(_PIECE) as mapping, memoryview(mapping) as out:
+        while True:
+            stream = _address(text), text.nbytes, kind, Rows.BINARY2, start + offset, given.nbytes - offset
+            _library.sailmortar_convert_piece(*stream, _address(out), _PIECE, numbers)
+            offset += numbers[5]
+            if numbers[0] != _NO_ROOM:
+                return offset
 
 
 _ROWS_PER_START = 64
@@ -612,7 +707,8 @@ def _declare_types(library: ctypes.CDLL) -> None:
     library.sailmortar_declare.argtypes = part + numbers
     library.sailmortar_index.argtypes = part + [ctypes.c_uint32] + part + part + numbers
     library.sailmortar_fetch.argtypes = part + [ctypes.c_uint32] + part + part + [ctypes.c_uint64, ctypes.c_uint64] + part + numbers
-    for function in ("convert_piece", "base64_decode", "base64_encode", "declare", "index", "fetch"):
+    library.sailmortar_compare.argtypes = part + 2 * ([ctypes.c_uint32] + part) + part + numbers
+    for function in ("convert_piece", "base64_decode", "base64_encode", "declare", "index", "fetch", "compare"):
         getattr(library, "sailmortar_" + function).restype = None
 
 

@@ -97,10 +97,13 @@ fn wrong_usage_is_said_in_a_line() {
     let scratch = Scratch::new("usage");
     let all = "convert --fields fields --from binary --to binary2";
     let wrong = [
-        (String::new(), "say what to do: convert, check, index, row, columns, base64, explain or help"),
+        (String::new(), "say what to do: convert, check, compare, index, row, columns, base64, explain or help"),
         ("--hlep".into(), "unknown option '--hlep'"),
-        ("konvert".into(), "unknown command 'konvert'; there are convert, check, index, row, columns, base64, explain and help"),
-        ("help konvert".into(), "there is no command 'konvert'; there are convert, check, index, row, columns, base64, explain and help"),
+        ("konvert".into(), "unknown command 'konvert'; there are convert, check, compare, index, row, columns, base64, explain and help"),
+        (
+            "help konvert".into(),
+            "there is no command 'konvert'; there are convert, check, compare, index, row, columns, base64, explain and help",
+        ),
         ("help convert check".into(), "help takes one command at most"),
         ("convert --fields fields night.binary".into(), "convert needs --from KIND and --to KIND as well"),
         ("convert --to binary --from binary".into(), "convert needs --fields FILE as well"),
@@ -154,7 +157,7 @@ fn wrong_usage_is_said_in_a_line() {
 #[test]
 fn help_fits_a_screen() {
     let scratch = Scratch::new("help");
-    let commands = ["convert", "check", "index", "row", "columns", "base64", "explain"];
+    let commands = ["convert", "check", "compare", "index", "row", "columns", "base64", "explain"];
     for topic in [""].into_iter().chain(commands) {
         let help = scratch.run(&format!("help {topic}"));
         let text = String::from_utf8(help.out.clone()).expect("help is text");
@@ -176,12 +179,13 @@ fn help_fits_a_screen() {
 }
 
 /// The options of each command, as its help lists them.
-const OPTIONS: [(&str, &[&str]); 6] = [
+const OPTIONS: [(&str, &[&str]); 7] = [
     (
         "convert",
         &["--fields", "--from", "--to", "--base64-in", "--base64-out", "--wrap", "--output", "--rest", "--verbose", "--json", "--help"],
     ),
     ("check", &["--fields", "--from", "--to", "--base64-in", "--json", "--help"]),
+    ("compare", &["--fields", "--from", "--and", "--base64-in", "--base64-and", "--limit", "--quiet", "--verbose", "--json", "--help"]),
     ("index", &["--fields", "--from", "--output", "--verbose", "--json", "--help"]),
     ("row", &["--fields", "--from", "--index", "--output", "--verbose", "--json", "--help"]),
     ("columns", &["--fields", "--json", "--help"]),

@@ -87,10 +87,44 @@ static int index_and_fetch(void) {
     if (line[0] != 0xEE || SAILMORTAR_PAST_THE_END != 20 || SAILMORTAR_ROWS_PER_START != 64) return __LINE__;
     return 0;
 }
+#define COUNTS(differing, first_beyond, second_beyond, filled) \
+    if (answer[SAILMORTAR_DIFFERING] != (differing) || answer[SAILMORTAR_FIRST_BEYOND] != (first_beyond) || \
+        answer[SAILMORTAR_SECOND_BEYOND] != (second_beyond) || answer[SAILMORTAR_PLACES] != (filled)) return __LINE__
+/* Three shorts as bytes beside two as text. */
+static int two_nights(void) {
+    static const uint8_t night[6] = {0, 7, 0, 8, 0, 9};
+    uint32_t places[5] = {77, 77, 77, 77, 77};
+    uint64_t answer[8];
+    memset(answer, 0xEE, sizeof answer);
+    sailmortar_compare(SHORT, SAILMORTAR_BINARY, night, 6, 3, night, 6, places, 5, answer);
+    IS(SAILMORTAR_NO_SUCH_KIND, 0, 0, 0, 0);
+    COUNTS(0, 0, 0, 0);
+    sailmortar_compare(TEXT("<FIELD datatype='int'/><FIELD/>"), SAILMORTAR_BINARY, night, 6, SAILMORTAR_BINARY, night, 6, places, 5, answer);
+    IS(SAILMORTAR_DECLARATIONS_BROKEN, 0, 1, 0, 0);
+    sailmortar_compare(SHORT, SAILMORTAR_BINARY, night, 5, SAILMORTAR_BINARY, night, 1, places, 5, answer);
+    IS(SAILMORTAR_STREAM_ENDS, 2, 0, 0, 0);
+    sailmortar_compare(SHORT, SAILMORTAR_BINARY, night, 6, SAILMORTAR_TABLEDATA, TEXT("<TR><TD>7</TD></TR><TR><TD>x</TD></TR>"), places, 5, answer);
+    IS(SAILMORTAR_NO_VALUE, 1, 0, 1, 0);
+    COUNTS(0, 0, 0, 0);
+    if (answer[SAILMORTAR_INPUT] != 1 || places[0] != 77) return __LINE__;
+    sailmortar_compare(SHORT, SAILMORTAR_BINARY, night, 6, SAILMORTAR_TABLEDATA, TEXT("<TR><TD>6</TD></TR><TR><TD/></TR>"), places, 3, answer);
+    IS(SAILMORTAR_ACCEPTED, 0, 0, 0, 2);
+    COUNTS(2, 1, 0, 1);
+    if (places[0] != 0 || places[1] != 0 || places[2] != 77) return __LINE__;
+    sailmortar_compare(SHORT, SAILMORTAR_TABLEDATA, TEXT("<TR><TD>6</TD></TR><TR><TD/></TR>"), SAILMORTAR_BINARY, night, 6, places, 5, answer);
+    IS(SAILMORTAR_ACCEPTED, 0, 0, 0, 2);
+    COUNTS(2, 0, 1, 2);
+    if (places[0] != 0 || places[1] != 0 || places[2] != 1 || places[3] != 0 || places[4] != 77) return __LINE__;
+    sailmortar_compare(SHORT, SAILMORTAR_BINARY, night, 6, SAILMORTAR_BINARY, night, 6, NULL, 0, answer);
+    IS(SAILMORTAR_ACCEPTED, 0, 0, 0, 0);
+    COUNTS(0, 0, 0, 0);
+    return 0;
+}
 int main(void) {
     uint8_t out[8];
     uint64_t answer[6] = {0, 0, 0, 0, 0, 77};
     int wrong = index_and_fetch();
+    if (wrong == 0) wrong = two_nights();
     if (wrong != 0) return wrong;
     memset(out, 0xEE, sizeof out);
     sailmortar_convert(TEXT("<FIELD datatype='int'/>"), 3, SAILMORTAR_BINARY, TEXT(""), out, 8, answer);
@@ -252,6 +286,26 @@ static int nulls_in_an_index(uint32_t from) {
     IS(SAILMORTAR_NO_SUCH_KIND);
     return 0;
 }
+static int nulls_in_comparing(uint32_t from, uint32_t from_second) {
+    uint64_t eight[8];
+    uint32_t places[2] = {0, 0};
+#define COMPARES(number, input, beyond, beyond_second) \
+    if (eight[0] != (number) || eight[3] != (input) || eight[4] != 0 || eight[5] != (beyond) || eight[6] != (beyond_second)) return __LINE__; \
+    if (eight[1] != 0 || eight[2] != 0 || eight[7] != 0) return __LINE__
+    sailmortar_compare(NULL, 0, from, row[from], length[from], from_second, row[from_second], length[from_second], places, 2, eight);
+    COMPARES(SAILMORTAR_COLUMNS_OUT_OF_RANGE, 0, 0, 0);
+    sailmortar_compare(decls, sizeof decls - 1, from, NULL, 0, from_second, row[from_second], length[from_second], places, 2, eight);
+    COMPARES(SAILMORTAR_ACCEPTED, 0, 0, 1);
+    sailmortar_compare(decls, sizeof decls - 1, from, row[from], length[from], from_second, NULL, 0, places, 2, eight);
+    COMPARES(SAILMORTAR_ACCEPTED, 0, 1, 0);
+    sailmortar_compare(decls, sizeof decls - 1, from, row[from], length[from], from_second, row[from_second], length[from_second], NULL, 0, eight);
+    COMPARES(SAILMORTAR_ACCEPTED, 0, 0, 0);
+    sailmortar_compare(decls, sizeof decls - 1, from, NULL, 0, from_second, NULL, 0, NULL, 0, eight);
+    COMPARES(SAILMORTAR_ACCEPTED, 0, 0, 0);
+    sailmortar_compare(NULL, 0, from, NULL, 0, 3, NULL, 0, NULL, 0, eight);
+    COMPARES(SAILMORTAR_NO_SUCH_KIND, 0, 0, 0);
+    return 0;
+}
 static int nulls_elsewhere(void) {
     sailmortar_base64_decode(NULL, 0, out, sizeof out, answer);
     IS(SAILMORTAR_ACCEPTED);
@@ -272,6 +326,7 @@ static int nulls_elsewhere(void) {
 int main(void) {
     memset(answer, 0xEE, sizeof answer);
     int wrong = nulls_elsewhere();
+    for (uint32_t pair = 0; pair < 9 && wrong == 0; pair++) wrong = nulls_in_comparing(pair / 3, pair % 3);
     for (uint32_t from = 1; from < 3 && wrong == 0; from++) wrong = nulls_in_an_index(from);
     for (uint32_t way = 0; way < 9 && wrong == 0; way++) wrong = nulls_in_rows(sailmortar_convert, way / 3, way % 3);
     sixth = 0;

@@ -60,7 +60,7 @@ fn the_example_runs() {
 fn the_example_in_its_text_holds() {
     let output = python(&["-m", "doctest", "-v", &format!("{ROOT}/python/sailmortar.py")]);
     assert_quiet(&output);
-    assert!(text(&output.stdout).contains("7 passed"), "{}", text(&output.stdout));
+    assert!(text(&output.stdout).contains("8 passed"), "{}", text(&output.stdout));
 }
 
 #[test]
@@ -109,6 +109,11 @@ fn line_ends_in_texts_are_one_character() {
 #[test]
 fn one_row_is_found_by_an_index() {
     assert_tests_pass("test_index");
+}
+
+#[test]
+fn two_nights_are_compared() {
+    assert_tests_pass("test_compare");
 }
 
 #[test]
