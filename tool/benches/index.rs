@@ -6,7 +6,9 @@
 //! A stream is the night of the other bench without two of its columns, over and over, so that 1 GiB has 10 million rows. It stands in memory
 //! and in a file under the folder for temporary files, which the system has at hand. Whole conversions go in pieces, as in the command.
 
-// The other bench uses all of the night; here its BINARY2 alone.
+// The other benches use all of the night, and more of what is shared; here its BINARY2 alone.
+#[allow(dead_code)]
+mod measure;
 #[allow(dead_code)]
 mod table;
 
@@ -17,12 +19,10 @@ use std::path::PathBuf;
 use std::process::Command;
 use std::time::Instant;
 
+use measure::{best, mega, RUNS};
 use sailmortar::{convert_pieces, Index, IndexedRows, Rows, INPUT_LIMIT, ROOM};
 
-/// Each figure is the best of at least so many runs, and of more where they are short; of fetches the one in the middle of so many,
-/// and of runs of the command.
-const RUNS: usize = 3;
-const SECONDS: f64 = 0.3;
+/// Of fetches the figure is the one in the middle of so many, and of runs of the command.
 const FETCHES: usize = 2_001;
 const COMMANDS: usize = 51;
 
@@ -81,7 +81,7 @@ impl Stream {
     }
 
     fn mega(&self) -> f64 {
-        self.bytes.len() as f64 / 1e6
+        mega(self.bytes.len())
     }
 
     /// A line of the first table, and the index.
@@ -185,16 +185,4 @@ impl Stream {
         times.sort_by(f64::total_cmp);
         times[count / 2]
     }
-}
-
-/// The least time of a few runs, in seconds.
-fn best(mut run: impl FnMut()) -> f64 {
-    let (mut least, mut all, mut runs) = (f64::INFINITY, 0.0, 0);
-    while runs < RUNS || all < SECONDS {
-        let start = Instant::now();
-        run();
-        let seconds = start.elapsed().as_secs_f64();
-        (least, all, runs) = (least.min(seconds), all + seconds, runs + 1);
-    }
-    least
 }

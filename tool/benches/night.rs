@@ -9,19 +9,14 @@
 //! three lines above makes it faster on most machines, and nothing else: the proved archive is the same in all three.
 //! Unlike Sailmortar the plain one trusts its input and its room, so the ratio is also the price of every check.
 
+mod measure;
 mod plain;
 mod table;
 
+use measure::{best, best_of, form, mega, memory_of, processor, EVERY_KIND, RUNS};
 use sailmortar::Rows;
 use std::process::{Command, Stdio};
-use std::time::Instant;
 use table::Night;
-
-/// Each figure is the best of at least so many runs, and of more where they are short.
-const RUNS: usize = 3;
-const SECONDS: f64 = 0.3;
-
-const EVERY_KIND: [Rows; 3] = [Rows::TableData, Rows::Binary, Rows::Binary2];
 
 fn main() {
     let megabytes = std::env::var("SAILMORTAR_BENCH_MB").ok();
@@ -39,44 +34,9 @@ fn main() {
 }
 
 fn heading(night: &Night) {
-    let processor = std::fs::read_to_string("/proc/cpuinfo").unwrap_or_default();
-    let processor = processor.lines().find_map(|line| line.strip_prefix("model name")).unwrap_or("unknown").trim_matches(['\t', ':', ' ']);
     let [text, binary, binary2] = [&night.text, &night.binary, &night.binary2].map(|rows| mega(rows.len()));
     println!("A night of {} rows and 20 columns: TABLEDATA {text:.1} MB, BINARY {binary:.1} MB, BINARY2 {binary2:.1} MB.", night.rows);
-    println!("Processor: {processor}; one thread; the best of {RUNS} runs or more; MB are 10^6 bytes of input.\n");
-}
-
-fn mega(bytes: usize) -> f64 {
-    bytes as f64 / 1e6
-}
-
-/// The least time of a few runs, in seconds.
-fn best(run: impl FnMut()) -> f64 {
-    best_of_both(run, || ()).0
-}
-
-/// The least times of two that take turns, so that a slow spell of the machine falls on both.
-fn best_of_both(mut one: impl FnMut(), mut other: impl FnMut()) -> (f64, f64) {
-    let (mut least, mut least_other, mut all, mut runs) = (f64::INFINITY, f64::INFINITY, 0.0, 0);
-    while runs < RUNS || all < SECONDS {
-        let start = Instant::now();
-        one();
-        let between = Instant::now();
-        other();
-        let (seconds, other_seconds) = ((between - start).as_secs_f64(), between.elapsed().as_secs_f64());
-        (least, least_other) = (least.min(seconds), least_other.min(other_seconds));
-        (all, runs) = (all + seconds + other_seconds, runs + 1);
-    }
-    (least, least_other)
-}
-
-fn form(night: &Night, rows: Rows) -> &[u8] {
-    match rows {
-        Rows::TableData => &night.text,
-        Rows::Binary => &night.binary,
-        Rows::Binary2 => &night.binary2,
-        other => panic!("there is no night in {other}"),
-    }
+    println!("Processor: {}; one thread; the best of {RUNS} runs or more; MB are 10^6 bytes of input.\n", processor());
 }
 
 fn plainly(rows: Rows) -> plain::Rows {
@@ -94,7 +54,7 @@ fn nine_ways(night: &Night) {
     for from in EVERY_KIND {
         for to in EVERY_KIND {
             let size = mega(form(night, from).len());
-            let (ours, plain) = convert_both(night, from, to);
+            let [ours, plain] = convert_both(night, from, to);
             let (speed, plain_speed, ratio) = (size / ours, size / plain, plain / ours);
             let rows = night.rows as f64 / ours / 1e3;
             println!("| {} | {} | {size:.1} | {speed:.0} | {plain_speed:.0} | {ratio:.2} | {rows:.0} |", from.name(), to.name());
@@ -104,18 +64,15 @@ fn nine_ways(night: &Night) {
 }
 
 /// Seconds of Sailmortar and of the plain converter for one way; what both have written is looked at.
-fn convert_both(night: &Night, from: Rows, to: Rows) -> (f64, f64) {
+fn convert_both(night: &Night, from: Rows, to: Rows) -> [f64; 2] {
     let (input, expected) = (form(night, from), form(night, to));
     let columns = plain::columns(std::str::from_utf8(&night.declarations).expect("ASCII"));
     let (mut out, mut plain_out) = (vec![0xff; expected.len()], vec![0xff; expected.len()]);
-    let seconds = best_of_both(
-        || convert(night, from, to, &mut out),
-        || {
-            // Sound here: the night is valid, and the room is that of its other form.
-            let (rows, bytes) = unsafe { plain::convert(&columns, plainly(from), plainly(to), input, &mut plain_out) };
-            assert_eq!((rows, bytes), (night.rows, expected.len()));
-        },
-    );
+    let seconds = best_of([&mut || convert(night, from, to, &mut out), &mut || {
+        // Sound here: the night is valid, and the room is that of its other form.
+        let (rows, bytes) = unsafe { plain::convert(&columns, plainly(from), plainly(to), input, &mut plain_out) };
+        assert_eq!((rows, bytes), (night.rows, expected.len()));
+    }]);
     assert!(out == expected, "Sailmortar from {} to {}", from.name(), to.name());
     assert!(plain_out == expected, "plain from {} to {}", from.name(), to.name());
     seconds
@@ -136,14 +93,14 @@ fn line_ends(night: &Night) {
         let text = table::with_line_ends(&night.text, line_end);
         // A space is a byte of text as a 10 is: there is as much to write as without line ends.
         let (mut out, mut plain_out) = (vec![0xff; night.binary2.len()], vec![0xff; night.binary2.len()]);
-        let (ours, plain) = best_of_both(
-            || assert!(sailmortar::convert(&night.declarations, Rows::TableData, Rows::Binary2, &text, &mut out).is_ok()),
-            || {
+        let [ours, plain] = best_of([
+            &mut || assert!(sailmortar::convert(&night.declarations, Rows::TableData, Rows::Binary2, &text, &mut out).is_ok()),
+            &mut || {
                 // Sound here: the rows are valid, and the room is what they take.
                 let (rows, _) = unsafe { plain::convert(&columns, plain::Rows::TableData, plain::Rows::Binary2, &text, &mut plain_out) };
                 assert_eq!(rows, night.rows);
             },
-        );
+        ]);
         let (size, rows) = (mega(text.len()), night.rows as f64 / ours / 1e3);
         println!("| {name} | {size:.1} | {:.0} | {:.0} | {:.2} | {rows:.0} |", size / ours, size / plain, plain / ours);
         outputs.extend([out, plain_out]);
@@ -158,10 +115,9 @@ fn base64(night: &Night) {
     let bytes = &night.binary2;
     let mut letters = vec![0; bytes.len().div_ceil(3) * 4];
     let mut plain_letters = letters.clone();
-    let seconds = best_of_both(
-        || assert!(sailmortar::base64_encode(bytes, &mut letters).is_ok()),
-        || assert_eq!(plain::base64_encode(bytes, &mut plain_letters), bytes.len().div_ceil(3) * 4),
-    );
+    let seconds = best_of([&mut || assert!(sailmortar::base64_encode(bytes, &mut letters).is_ok()), &mut || {
+        assert_eq!(plain::base64_encode(bytes, &mut plain_letters), bytes.len().div_ceil(3) * 4)
+    }]);
     assert!(letters == plain_letters, "the two encodings");
     base64_line("encode", bytes, seconds, &["-w0"]);
     base64_decoding("decode, one line", &letters, bytes);
@@ -173,15 +129,14 @@ fn base64(night: &Night) {
 fn base64_decoding(what: &str, letters: &[u8], bytes: &[u8]) {
     let mut out = vec![0; bytes.len()];
     let mut plain_out = out.clone();
-    let seconds = best_of_both(
-        || assert!(sailmortar::base64_decode(letters, &mut out).is_ok()),
-        || assert_eq!(plain::base64_decode(letters, &mut plain_out), Some(bytes.len())),
-    );
+    let seconds = best_of([&mut || assert!(sailmortar::base64_decode(letters, &mut out).is_ok()), &mut || {
+        assert_eq!(plain::base64_decode(letters, &mut plain_out), Some(bytes.len()))
+    }]);
     assert!(out == bytes && plain_out == bytes, "{what}");
     base64_line(what, letters, seconds, &["-d"]);
 }
 
-fn base64_line(what: &str, input: &[u8], (ours, plain): (f64, f64), arguments: &[&str]) {
+fn base64_line(what: &str, input: &[u8], [ours, plain]: [f64; 2], arguments: &[&str]) {
     let size = mega(input.len());
     let coreutils = coreutils(arguments, input).map_or("not here".to_string(), |seconds| format!("{:.0}", size / seconds));
     println!("| {what} | {size:.1} | {:.0} | {:.0} | {:.2} | {coreutils} |", size / ours, size / plain, plain / ours);
@@ -217,14 +172,6 @@ fn growth(night: &Night, size: usize) {
     println!();
 }
 
-/// A figure of /proc/self/status, in bytes.
-fn status(figure: &str) -> Option<usize> {
-    let status = std::fs::read_to_string("/proc/self/status").ok()?;
-    let line = status.lines().find_map(|line| line.strip_prefix(figure))?;
-    let kilobytes: usize = line.trim_start_matches(':').split_whitespace().next()?.parse().ok()?;
-    Some(kilobytes * 1024)
-}
-
 /// What a call takes for itself: the peak while it runs against what the process held before, lent buffers included.
 fn memory(night: &Night) -> String {
     let mut lines = vec![
@@ -233,18 +180,8 @@ fn memory(night: &Night) -> String {
     ];
     for (from, to) in [(Rows::TableData, Rows::Binary2), (Rows::Binary2, Rows::TableData)] {
         let mut out = vec![0xff; form(night, to).len()];
-        // Writing 5 there sets the peak (VmHWM) back to what is held now.
-        let is_reset = std::fs::write("/proc/self/clear_refs", "5").is_ok();
-        let before = status("VmRSS");
-        convert(night, from, to, &mut out);
-        lines.push(match (before, status("VmHWM"), is_reset) {
-            (Some(before), Some(peak), true) => {
-                let lent = mega(form(night, from).len() + out.len());
-                let (held, highest, own) = (mega(before), mega(peak), mega(peak.saturating_sub(before)));
-                format!("| {} | {} | {lent:.1} | {held:.1} | {highest:.1} | {own:.2} |", from.name(), to.name())
-            }
-            _ => format!("| {} | {} | not told by this system | | | |", from.name(), to.name()),
-        });
+        let figures = memory_of(form(night, from).len() + out.len(), || convert(night, from, to, &mut out));
+        lines.push(format!("| {} | {} | {figures} |", from.name(), to.name()));
     }
     lines.join("\n")
 }

@@ -110,9 +110,17 @@ pub fn night(bytes_of_text: usize) -> Night {
     night_without(&[], bytes_of_text)
 }
 
-/// The same without the columns of these names.
+/// Another night of as many bytes, whose rows are all other rows.
+pub fn another_night(bytes_of_text: usize) -> Night {
+    drawn(Random(12), &[], bytes_of_text)
+}
+
+/// A night without the columns of these names.
 pub fn night_without(left_out: &[&str], bytes_of_text: usize) -> Night {
-    let mut random = Random(11);
+    drawn(Random(11), left_out, bytes_of_text)
+}
+
+fn drawn(mut random: Random, left_out: &[&str], bytes_of_text: usize) -> Night {
     let mut night = Night {
         declarations: declarations(left_out),
         text: Vec::with_capacity(bytes_of_text + 2_000),
