@@ -1,5 +1,6 @@
 /*
- * The sample night from C: text to BINARY2, BINARY2 to base64, one row by an index, and a night of which the end is still to come.
+ * The sample night from C: text to BINARY2, BINARY2 to base64, both forms compared, one row by an index, and a night of which the end is still to
+ * come.
  *
  *     cc -I include examples/night.c target/library/libsailmortar.a -o night && ./night
  */
@@ -27,7 +28,7 @@ static void convert(uint32_t from, uint32_t to, const void *rows, size_t length,
 int main(void) {
     uint8_t binary2[64], letters[64], text[256];
     uint32_t starts[1];
-    uint64_t answer[6], encoded[5], fetched[5];
+    uint64_t answer[6], encoded[5], fetched[5], compared[8];
     size_t end;
 
     sailmortar_declare((const uint8_t *)fields, strlen(fields), answer);
@@ -39,6 +40,12 @@ int main(void) {
 
     convert(SAILMORTAR_BINARY2, SAILMORTAR_TABLEDATA, binary2, answer[SAILMORTAR_BYTES], text, sizeof text, answer);
     printf("%.*s", (int)answer[SAILMORTAR_BYTES], (const char *)text);
+
+    /* Both forms show the same, whatever the spelling. */
+    sailmortar_compare((const uint8_t *)fields, strlen(fields), SAILMORTAR_TABLEDATA, (const uint8_t *)night, strlen(night), SAILMORTAR_BINARY2,
+                       binary2, 16, NULL, 0, compared);
+    printf("cells that differ %" PRIu64 ", rows beyond %" PRIu64 " and %" PRIu64 "\n", compared[SAILMORTAR_DIFFERING],
+           compared[SAILMORTAR_FIRST_BEYOND], compared[SAILMORTAR_SECOND_BEYOND]);
 
     /* One row, found by an index; of a long night this takes no longer. */
     sailmortar_index((const uint8_t *)fields, strlen(fields), SAILMORTAR_BINARY2, binary2, 16, starts, 1, answer);

@@ -1,4 +1,4 @@
-"""The sample night from Python: its columns, text to BINARY2, BINARY2 to base64, one row by an index, and a cut file.
+"""The sample night from Python: its columns, text to BINARY2, BINARY2 to base64, two nights compared, one row by an index, and a cut file.
 
     python3 examples/night.py
 """
@@ -20,6 +20,10 @@ binary2 = sailmortar.convert(fields, "tabledata", "binary2", text)
 print(binary2.hex(" "))
 print(sailmortar.base64_encode(binary2).decode())
 print(sailmortar.convert(fields, "binary2", "tabledata", binary2).decode(), end="")
+
+# Both forms show the same, whatever the spelling; another night does not.
+print("the same:", sailmortar.compare(fields, "tabledata", text, "binary2", binary2).same)
+print("another night differs at", sailmortar.compare(fields, "binary2", binary2, "tabledata", text.replace(b"dusk", b"dawn")).places)
 
 # One row, found by an index; of a long night this takes no longer.
 index = sailmortar.Index.build(fields, "binary2", binary2)

@@ -1,8 +1,8 @@
-//! The sample night from Rust: text to BINARY2 and back, both forms shown, one row by an index, and a cut file.
+//! The sample night from Rust: text to BINARY2 and back, both forms shown and compared, one row by an index, and a cut file.
 //!
 //!     cargo run --release --example night
 
-use sailmortar::{convert_to_vec, Error, Index, Rows};
+use sailmortar::{compare_to_vec, convert_to_vec, Error, Index, Rows};
 
 const FIELDS: &[u8] = include_bytes!("night.fields");
 const NIGHT: &[u8] = include_bytes!("night.tabledata");
@@ -15,6 +15,14 @@ fn main() -> Result<(), Error> {
 
     let done = convert_to_vec(FIELDS, Rows::Binary2, Rows::TableData, &binary2, &mut text)?;
     println!("and back, {} rows:\n{}", done.rows, String::from_utf8_lossy(&text));
+
+    // Both forms show the same, whatever the spelling; another night does not.
+    let mut places = Vec::new();
+    let same = compare_to_vec(FIELDS, Rows::TableData, NIGHT, Rows::Binary2, &binary2, &mut places)?.is_same();
+    let other = String::from_utf8_lossy(NIGHT).replace("dusk", "dawn");
+    compare_to_vec(FIELDS, Rows::Binary2, &binary2, Rows::TableData, other.as_bytes(), &mut places)?;
+    println!("the same: {same}; another night differs at:");
+    places.iter().for_each(|place| println!("row {}, column {}\n", place.row, place.column));
 
     // One row, found by an index; of a long night this takes no longer.
     text.clear();

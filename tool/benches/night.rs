@@ -11,6 +11,8 @@
 
 mod measure;
 mod plain;
+// The other benches have nights of other rows, or with fewer columns.
+#[allow(dead_code)]
 mod table;
 
 use measure::{best, best_of, form, mega, memory_of, processor, EVERY_KIND, RUNS};

@@ -32,6 +32,7 @@ fn the_example_runs() {
         number 0, row 0, column 0, rows 2, bytes 79\n\
         <TR><TD>7</TD><TD>a&amp;b</TD><TD>T</TD></TR>\n\
         <TR><TD/><TD>dusk</TD><TD/></TR>\n\
+        cells that differ 0, rows beyond 0 and 0\n\
         row 1 of 2: <TR><TD/><TD>dusk</TD><TD/></TR>\n\
         number 8, row 1, column 2, rows 1, bytes 46\n\
         <TR><TD>7</TD><TD>a&amp;b</TD><TD>T</TD></TR>\n\

@@ -21,6 +21,8 @@ mod hint;
 mod letters;
 #[path = "../src/command/probe.rs"]
 mod probe;
+// The command that compares says null as a value.
+#[allow(dead_code)]
 #[path = "../src/command/report.rs"]
 mod report;
 #[path = "../src/command/shown.rs"]

@@ -49,6 +49,8 @@ fn the_example_runs() {
         AAAHYSZiAFSgAABkdXNrAA==\n\
         <TR><TD>7</TD><TD>a&amp;b</TD><TD>T</TD></TR>\n\
         <TR><TD/><TD>dusk</TD><TD/></TR>\n\
+        the same: True\n\
+        another night differs at [(1, 1)]\n\
         row 1 of 2: <TR><TD/><TD>dusk</TD><TD/></TR>\n\
         refusal 8 at row 1, column 2 (clear): the BINARY or BINARY2 stream ends inside a row\n\
         the refused row begins at byte 8\n\

@@ -11,7 +11,12 @@ const MOST_OF_A_NAME: usize = 60;
 
 /// A file's name, whole: it is what the reader has to look for.
 pub fn file(name: &OsStr) -> String {
-    escaped(name.as_bytes(), usize::MAX)
+    whole(name.as_bytes())
+}
+
+/// A text of any length.
+pub fn whole(text: &[u8]) -> String {
+    escaped(text, usize::MAX)
 }
 
 /// A column's name.
@@ -28,11 +33,6 @@ pub fn quoted(text: &[u8]) -> String {
 pub fn plain(text: &[u8]) -> String {
     let start = start(text, MOST);
     format!("{}{}", String::from_utf8_lossy(&text[..start]), ending(start, text))
-}
-
-/// A text of any length, with nothing in it that a terminal would act on.
-pub fn escaped_whole(text: &[u8]) -> String {
-    escaped(text, usize::MAX)
 }
 
 /// Bytes as pairs of hexadigits.

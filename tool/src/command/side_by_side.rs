@@ -39,7 +39,7 @@ fn elements(kind: Kind, cell: &Shown) -> Vec<String> {
         return Vec::new();
     };
     match kind {
-        Kind::Char => characters(text).iter().map(|character| shown::escaped_whole(character)).collect(),
+        Kind::Char => characters(text).iter().map(|character| shown::whole(character)).collect(),
         Kind::Bit => text.iter().map(|bit| char::from(*bit).to_string()).collect(),
         _ => text.split(|byte| *byte == b' ').map(|word| String::from_utf8_lossy(word).into_owned()).collect(),
     }

@@ -262,7 +262,7 @@ fn what_a_night_was_converted_to_differs_nowhere() {
             }
         }
     }
-    assert!(compared > 1_000 || compared < 10, "{compared}");
+    assert!(!(10..1_000).contains(&compared), "{compared}");
 }
 
 /// Beyond what a scratch may hold of a row, and in the last element of the longest cells.
@@ -336,46 +336,46 @@ fn the_rows_of_a_long_night() {
 
 const FIELDS: &[u8] = b"<FIELD datatype='short'/><FIELD datatype='char' arraysize='9*'/><FIELD datatype='boolean'/>";
 
-/// Rows of these fields that are good, and one of each refusal that reading gives, with its number and column.
-fn good_and_bad(from: u32) -> (&'static [u8], Vec<(&'static [u8], u64, u64)>) {
+/// A row of these fields that is good.
+fn good(from: u32) -> &'static [u8] {
     match from {
-        0 => (
-            b"<TR><TD>7</TD><TD>dusk</TD><TD>T</TD></TR>\n",
-            vec![
-                (b"<TR><TD>7</TD><TD>dusk</TD><TD>T</TD>", 10, 3),
-                (b"<TD>", 10, 0),
-                (b"<TR><TD>7</TD><TD>dusk</TD></TR>", 10, 2),
-                (b"<TR><TD>7 8</TD><TD/><TD/></TR>", 12, 0),
-                (b"<TR><TD>seven</TD><TD/><TD/></TR>", 11, 0),
-                (b"<TR><TD>70000</TD><TD/><TD/></TR>", 18, 0),
-                (b"<TR><TD>7</TD><TD>0123456789</TD><TD/></TR>", 12, 1),
-            ],
-        ),
-        1 => (
-            b"\0\x07\0\0\0\x04duskT",
-            vec![
-                (b"\0", 8, 0),
-                (b"\0\x07\0\0", 8, 1),
-                (b"\0\x07\0\0\0\x0a", 9, 1),
-                (b"\0\x07\0\0\0\x02a\x80T", 11, 1),
-                (b"\0\x07\0\0\0\x02abX", 11, 2),
-            ],
-        ),
-        _ => (
-            b"\0\0\x07\0\0\0\x04duskT",
-            vec![
-                (b"\0\0", 8, 0),
-                (b"\x10\0\x07\0\0\0\x04duskT", 13, 0),
-                (b"\x40\0\x07\0\0\0\x0a", 9, 1),
-                (b"\0\0\x07\0\0\0\x02a\x80T", 11, 1),
-                (b"\0\0\x07\0\0\0\x02ab", 8, 2),
-            ],
-        ),
+        0 => b"<TR><TD>7</TD><TD>dusk</TD><TD>T</TD></TR>\n",
+        1 => b"\0\x07\0\0\0\x04duskT",
+        _ => b"\0\0\x07\0\0\0\x04duskT",
+    }
+}
+
+/// A row of each refusal that reading gives, with its number and column.
+fn bad(from: u32) -> Vec<(&'static [u8], u64, u64)> {
+    match from {
+        0 => vec![
+            (b"<TR><TD>7</TD><TD>dusk</TD><TD>T</TD>", 10, 3),
+            (b"<TD>", 10, 0),
+            (b"<TR><TD>7</TD><TD>dusk</TD></TR>", 10, 2),
+            (b"<TR><TD>7 8</TD><TD/><TD/></TR>", 12, 0),
+            (b"<TR><TD>seven</TD><TD/><TD/></TR>", 11, 0),
+            (b"<TR><TD>70000</TD><TD/><TD/></TR>", 18, 0),
+            (b"<TR><TD>7</TD><TD>0123456789</TD><TD/></TR>", 12, 1),
+        ],
+        1 => vec![
+            (b"\0", 8, 0),
+            (b"\0\x07\0\0", 8, 1),
+            (b"\0\x07\0\0\0\x0a", 9, 1),
+            (b"\0\x07\0\0\0\x02a\x80T", 11, 1),
+            (b"\0\x07\0\0\0\x02abX", 11, 2),
+        ],
+        _ => vec![
+            (b"\0\0", 8, 0),
+            (b"\x10\0\x07\0\0\0\x04duskT", 13, 0),
+            (b"\x40\0\x07\0\0\0\x0a", 9, 1),
+            (b"\0\0\x07\0\0\0\x02a\x80T", 11, 1),
+            (b"\0\0\x07\0\0\0\x02ab", 8, 2),
+        ],
     }
 }
 
 fn night(from: u32, rows: usize, bad: &[u8]) -> Vec<u8> {
-    [&good_and_bad(from).0.repeat(rows), bad].concat()
+    [&good(from).repeat(rows), bad].concat()
 }
 
 #[test]
@@ -383,8 +383,8 @@ fn the_first_refused_is_the_first_input_whatever_the_rows() {
     for [first, second] in (0..9).map(|pair| [pair / 3, pair % 3]) {
         let (good_first, good_second) = (night(first, 3, b""), night(second, 3, b""));
         for before in [0, 1, 5] {
-            for (bad, number, column) in good_and_bad(first).1 {
-                let refused = night(first, before, bad);
+            for (bad_row, number, column) in bad(first) {
+                let refused = night(first, before, bad_row);
                 let expected = [number, before as u64, column, 0, 0, 0, 0, 0];
                 let agree = |other: &[u8]| {
                     let nights = Nights { declarations: FIELDS, from: [first, second], inputs: [&refused, other], seed: 0 };
@@ -393,13 +393,13 @@ fn the_first_refused_is_the_first_input_whatever_the_rows() {
                 // Beside a good one, none, and one that is refused before it or behind it.
                 agree(&good_second);
                 agree(b"");
-                for (other_bad, ..) in good_and_bad(second).1 {
+                for (other_bad, ..) in bad(second) {
                     agree(&night(second, 0, other_bad));
                     agree(&night(second, 9, other_bad));
                 }
             }
-            for (bad, number, column) in good_and_bad(second).1 {
-                let refused = night(second, before, bad);
+            for (bad_row, number, column) in bad(second) {
+                let refused = night(second, before, bad_row);
                 for one in [&good_first[..], b""] {
                     let nights = Nights { declarations: FIELDS, from: [first, second], inputs: [one, &refused], seed: 0 };
                     assert_eq!(nights.agree(3).answer, [number, before as u64, column, 1, 0, 0, 0, 0]);

@@ -66,7 +66,8 @@ fn a_row_begins_where_the_rows_before_it_end() {
         let input = [before, spelled(&mut random, &columns, from, &rows)].concat();
         let shown = sailmortar::columns(&text).expect("the fields are good");
         let night = OsStr::new("night");
-        let stream = Stream { input_name: night, columns: &shown, from: way, to: Rows::TableData, decoded: false, input: &input };
+        let stream =
+            Stream { input_name: night, columns: &shown, from: way, to: Rows::TableData, decoded: false, is_second: false, input: &input };
         let mut start = 5;
         for row in 0..6 {
             assert_eq!(row_start(&stream, 5, row), start, "seed {seed}, row {row}");
@@ -94,7 +95,8 @@ fn a_row_without_a_form_is_told_as_convert_tells_it() {
     let mut fetched = index.fetch_into(fields, &rows, 1, &mut [0; 64]).expect_err("a character has no form");
     let columns = sailmortar::columns(fields).expect("the fields are good");
     let night = OsStr::new("night");
-    let stream = Stream { input_name: night, columns: &columns, from: way.from, to: way.to, decoded: false, input: &rows };
+    let stream =
+        Stream { input_name: night, columns: &columns, from: way.from, to: way.to, decoded: false, is_second: false, input: &rows };
     fetched.offset = row_start(&stream, 0, fetched.row);
     assert_eq!(super::said::of_refused(fields, way, &rows, &fetched).lines, whole.lines);
 }

@@ -33,7 +33,7 @@ pub fn of_rows(fields: &str, way: Way, input: &[u8]) -> Report {
 /// What is said of a refusal, be it of these rows or of others.
 pub fn of_refused(fields: &[u8], Way { from, to }: Way, input: &[u8], refused: &Refused) -> Report {
     let columns = sailmortar::columns(fields).expect("the fields are good");
-    let stream = Stream { input_name: OsStr::new("night"), columns: &columns, from, to, decoded: false, input };
+    let stream = Stream { input_name: OsStr::new("night"), columns: &columns, from, to, decoded: false, is_second: false, input };
     report::row(&stream, refused, STANDS)
 }
 
