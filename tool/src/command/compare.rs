@@ -81,10 +81,10 @@ fn open_output(inputs: &[&Input]) -> Result<Output, Trouble> {
 }
 
 /// Two inputs that were read.
-pub struct Pair<'a> {
-    pub fields: &'a Fields,
-    pub first: Stream<'a>,
-    pub second: Stream<'a>,
+struct Pair<'a> {
+    fields: &'a Fields,
+    first: Stream<'a>,
+    second: Stream<'a>,
 }
 
 impl Pair<'_> {
@@ -126,8 +126,16 @@ impl Pair<'_> {
     }
 
     fn rows_of_both(&self, compared: &Comparison) -> Result<u64, Trouble> {
-        let trouble = |error| Trouble::with(self.first.input_name)(io::Error::other(error));
-        self.converted(&self.first).map(|rows| rows - compared.first_beyond).map_err(trouble)
+        self.converted(&self.first).map(|rows| rows - compared.first_beyond).map_err(|error| self.trouble(error))
+    }
+
+    /// Both were read well before: it is memory that there is too little of.
+    fn trouble(&self, error: Error) -> Trouble {
+        let cause = match error {
+            Error::System(cause) => cause,
+            other => io::Error::other(other),
+        };
+        Trouble::with(self.first.input_name)(cause)
     }
 
     /// Lists what differs, and says how it ended.
@@ -217,8 +225,9 @@ struct Lines {
 impl Lines {
     /// Lists so many cells, the first that differ, and answers how many there were.
     fn list(&mut self, pair: &Pair, most: u64, telling: Telling) -> Result<u64, Trouble> {
-        let trouble = |error| Trouble::with(pair.first.input_name)(io::Error::other(error));
-        let (names, mut listed, mut differing) = (pair.names(), 0, Differing::new(pair));
+        let trouble = |error| pair.trouble(error);
+        let (names, mut listed) = (pair.names(), 0);
+        let mut differing = Differing::new(&pair.fields.decls, [&pair.first, &pair.second]);
         while listed < most && differing.next_rows().map_err(trouble)? {
             let left = usize::try_from(most - listed).unwrap_or(usize::MAX);
             for place in 0..differing.places().len().min(left) {

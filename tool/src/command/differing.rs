@@ -4,7 +4,6 @@
 use sailmortar::{compare_to_vec, convert, convert_to_vec, Column, Error, Kind, Length, Place, Rows};
 
 use crate::binary::{after_cell, after_row, flag_bytes};
-use crate::compare::Pair;
 use crate::report::{Stream, Value};
 
 /// Room for a piece of either input.
@@ -60,10 +59,10 @@ pub struct Differing<'a> {
 }
 
 impl<'a> Differing<'a> {
-    pub fn new(pair: &Pair<'a>) -> Differing<'a> {
-        let (decls, columns) = (&pair.fields.decls[..], &pair.fields.columns[..]);
-        let [first, second] = [&pair.first, &pair.second].map(|stream| Side::new(decls, stream));
-        Differing { decls, columns, first, second, before: 0, rows: 0, places: Vec::new() }
+    /// At the start of both inputs, whose rows were all read well before.
+    pub fn new(decls: &'a [u8], streams: [&Stream<'a>; 2]) -> Differing<'a> {
+        let [first, second] = streams.map(|stream| Side::new(decls, stream));
+        Differing { decls, columns: streams[0].columns, first, second, before: 0, rows: 0, places: Vec::new() }
     }
 
     /// Goes on to the next rows that both inputs have; false where there are none.

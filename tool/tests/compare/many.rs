@@ -1,8 +1,8 @@
 //! Many cells that differ, in rows of other lengths on either side: all of them are listed, in memory that does not grow with them.
 
-use std::fs;
+use std::fs::{self, File};
 
-use crate::shell::Scratch;
+use crate::shell::{Said, Scratch};
 
 /// So many rows of a number and a text, as bytes; the texts of the two sides have other lengths, so that the rows of a piece are other rows.
 fn night(rows: usize, note: impl Fn(usize) -> String) -> Vec<u8> {
@@ -67,6 +67,28 @@ fn memory_does_not_grow_with_what_is_listed() {
     assert_eq!((output.status.code(), String::from_utf8_lossy(&output.stderr)), (Some(1), "".into()));
     assert!(fs::metadata(scratch.path("out")).expect("it is written").len() > 70_000_000);
     assert!(scratch.get("out").ends_with(b"2,000,000 cells differ in the 2,000,000 rows that both have\n"));
+}
+
+#[test]
+fn out_of_memory_is_said() {
+    let scratch = Scratch::new("compare_out_of_memory");
+    scratch.put("f", b"<FIELD datatype='char' arraysize='4096'/>");
+    for name in ["a", "b"] {
+        File::create(scratch.path(name)).and_then(|file| file.set_len(100 << 20)).expect("a long file");
+    }
+    // There is memory for one of the two.
+    let said = Said::of(scratch.shell("ulimit -v 180000; \"$PROGRAM\" compare --fields f --from binary a b"));
+    assert_eq!(said, Said::trouble("out of memory"));
+}
+
+#[test]
+fn a_long_file_is_refused_by_its_size_and_not_read() {
+    let scratch = Scratch::new("compare_unread");
+    File::create(scratch.path("long")).and_then(|file| file.set_len((1 << 30) + 1)).expect("a long file");
+    for words in ["long night.binary", "night.binary long", "long long"] {
+        let said = Said::of(scratch.shell(&format!("ulimit -v 20000; \"$PROGRAM\" compare --fields fields --from binary {words}")));
+        assert!(said.status == 4 && said.err.starts_with("sailmortar: long: refusal 6: "), "{words}: {said:?}");
+    }
 }
 
 #[test]
