@@ -1,5 +1,10 @@
 //! Two nights compared: the library's calls, and the command.
 
+// The comparison with the model uses all of these two; here only some.
+#[allow(dead_code)]
+mod generate;
+#[allow(dead_code)]
+mod model;
 mod shell;
 
 mod compare {
@@ -7,4 +12,5 @@ mod compare {
     mod library;
     mod lines;
     mod many;
+    mod random;
 }

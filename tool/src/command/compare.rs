@@ -18,6 +18,9 @@ use crate::{json, side_by_side, End};
 /// Bytes of lines that are held before they are written.
 const HELD: usize = 1 << 18;
 
+/// Bytes of two inputs that take a while to be compared.
+const LONG: usize = 100_000_000;
+
 pub fn compare(comparing: &Comparing, telling: Telling) -> Result<Report, End> {
     judge(comparing, telling).map_err(|end| match end {
         // By its status a refusal is told from nights that differ.
@@ -95,6 +98,10 @@ impl Pair<'_> {
     /// The counts, or the refusal of the one or the other.
     fn compare(&self) -> Result<Comparison, End> {
         let Pair { fields, first, second } = self;
+        let (bytes, mut progress) = (first.input.len() + second.input.len(), Progress::new());
+        if bytes >= LONG {
+            progress.announce(|| format!("comparing {} MB", bytes / 1_000_000));
+        }
         sailmortar::compare(&fields.decls, first.from, first.input, second.from, second.input, &mut [])
             .map_err(|refused| self.refused(&refused))
     }

@@ -27,6 +27,12 @@ impl Progress {
         }
     }
 
+    /// Shows the words at once, of what takes long and cannot tell how far it is.
+    pub fn announce(&mut self, words: impl FnOnce() -> String) {
+        self.due = Instant::now();
+        self.tick(words);
+    }
+
     /// Takes the line away.
     pub fn wipe(&mut self) {
         if self.drawn {
