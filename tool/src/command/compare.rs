@@ -36,11 +36,11 @@ fn judge(comparing: &Comparing, telling: Telling) -> Result<Report, End> {
         true => None,
         false => Some(open_output(&[&first, &second])?),
     };
-    let rows = read_rows(&mut first, comparing.first.table.base64_in)?;
+    let rows = read_rows(&mut first, comparing.first.table.base64_in).map_err(|end| of_input(0, end))?;
     // Where the second is refused before any row of it is read, the first is still judged before that.
     let (others, refused) = match read_rows(&mut second, comparing.second.table.base64_in) {
         Ok(others) => (others, None),
-        Err(End::Refused(report)) => (Vec::new(), Some(End::Refused(report))),
+        Err(End::Refused(report)) => (Vec::new(), Some(of_input(1, End::Refused(report)))),
         Err(end) => return Err(end),
     };
     let pair = Pair {
@@ -52,6 +52,17 @@ fn judge(comparing: &Comparing, telling: Telling) -> Result<Report, End> {
     match refused {
         Some(end) => Err(end),
         None => pair.tell(comparing, &compared, telling, output),
+    }
+}
+
+/// A refusal with the number of its input as a fact.
+fn of_input(input: u64, end: End) -> End {
+    match end {
+        End::Refused(mut report) => {
+            report.number("input", input);
+            End::Refused(report)
+        }
+        end => end,
     }
 }
 
@@ -108,9 +119,9 @@ impl Pair<'_> {
 
     /// A refusal of a row as `check` tells it.
     fn refused(&self, RefusedInput { input, refused, .. }: &RefusedInput) -> End {
-        let stream = if *input == Which::Second { &self.second } else { &self.first };
+        let (stream, number) = if *input == Which::Second { (&self.second, 1) } else { (&self.first, 0) };
         if refused.number == 6 {
-            return End::Refused(report::too_long(stream.input_name, ""));
+            return of_input(number, End::Refused(report::too_long(stream.input_name, "")));
         }
         // Converting is refused there, too, and tells where the row begins.
         let refused = match self.converted(stream) {
@@ -121,9 +132,8 @@ impl Pair<'_> {
             0 => "no row stands before it".to_string(),
             rows => format!("{} good", rows_before(rows)),
         };
-        let mut report = report::row(stream, &refused, &format!("{before}; it was read as {}, and nothing is compared", stream.from));
-        report.number("input", u64::from(stream.is_second));
-        End::Refused(report)
+        let stands = format!("{before}; it was read as {}, and nothing is compared", stream.from);
+        of_input(number, End::Refused(report::row(stream, &refused, &stands)))
     }
 
     /// How many rows an input has, or what it is refused with.
@@ -159,7 +169,7 @@ impl Pair<'_> {
             let mut lines = Lines { output, held: String::new(), progress: Progress::new() };
             told.listed = lines.list(self, comparing.limit.min(compared.differing), telling)?;
             if !telling.json {
-                lines.held += &told.counts().concat();
+                lines.held.extend(told.counts().into_iter().map(|line| line + "\n"));
                 lines.write()?;
                 return Err(End::Different(Report::default()));
             }
@@ -199,7 +209,7 @@ impl Told<'_> {
         let [first, second] = self.pair.names();
         let beyond = [(first, self.compared.first_beyond), (second, self.compared.second_beyond)];
         let beyond = beyond.into_iter().filter(|(_, rows)| *rows > 0).map(|(name, rows)| self.more(&name, rows));
-        [self.cells()].into_iter().chain(beyond).map(|line| line + "\n").collect()
+        [self.cells()].into_iter().chain(beyond).collect()
     }
 
     fn cells(&self) -> String {

@@ -1,5 +1,5 @@
-//! The cells of two inputs that differ, from the first to the last, in memory that does not grow with them. Both inputs become BINARY2 a piece
-//! at a time, so that every cell has its place in bytes; which cells of a piece differ the proved archive says.
+//! The cells of two inputs that differ, from the first to the last, in memory that does not grow with them. Both inputs become BINARY2 a
+//! piece at a time, so that every cell has its place in bytes; which cells of a piece differ the proved archive says.
 
 use sailmortar::{compare_to_vec, convert, convert_to_vec, Column, Error, Kind, Length, Place, Rows};
 
@@ -173,8 +173,8 @@ impl<'a> Side<'a> {
     }
 }
 
-/// What a cell of BINARY2 shows, asked of the converter as a table of one cell. What is null has its flag there, so that a declared null need not
-/// be known.
+/// What a cell of BINARY2 shows, asked of the converter as a table of one cell. What is null has its flag there, so that a declared null
+/// need not be known.
 fn shown(column: &Column, cell: Option<&[u8]>) -> Result<Shown, Error> {
     let Some(cell) = cell else {
         return Ok(Shown::Null);

@@ -157,7 +157,7 @@ impl Report {
         self.facts.push((name, Value::Number(value)));
     }
 
-    pub fn text(&mut self, name: &'static str, value: impl Into<String>) {
+    fn text(&mut self, name: &'static str, value: impl Into<String>) {
         self.facts.push((name, Value::Text(value.into())));
     }
 

@@ -175,6 +175,8 @@ fn whatever_is_refused_has_a_status_of_its_own() {
         let line = "sailmortar: long: refusal 6: the input is over 1,073,741,824 bytes (1 GiB)\n";
         assert!(said.status == 4 && said.err.starts_with(line), "{said:?}");
     };
+    let said = scratch.run("compare --fields fields --from binary2 night.binary2 long --json");
+    assert!(said.err.starts_with("{\"status\":4,\"file\":\"long\",\"number\":6,") && said.err.ends_with("\"input\":1}\n"), "{said:?}");
     over(scratch.run("compare --fields fields --from binary2 long night.binary2"));
     over(scratch.run("compare --fields fields --from binary2 night.binary2 long"));
     scratch.put("cut", &BINARY2[..13]);
