@@ -204,12 +204,13 @@ impl Told<'_> {
         names.into_iter().chain(counts).collect()
     }
 
-    /// How many cells differ, and which input has how many rows more.
+    /// How many cells differ, and which input has how many rows more. The names are in every line: lines of many nights may stand in one list.
     fn counts(&self) -> Vec<String> {
         let [first, second] = self.pair.names();
+        let cells = format!("{first} and {second}: {}", self.cells());
         let beyond = [(first, self.compared.first_beyond), (second, self.compared.second_beyond)];
         let beyond = beyond.into_iter().filter(|(_, rows)| *rows > 0).map(|(name, rows)| self.more(&name, rows));
-        [self.cells()].into_iter().chain(beyond).collect()
+        [cells].into_iter().chain(beyond).collect()
     }
 
     fn cells(&self) -> String {

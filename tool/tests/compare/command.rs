@@ -70,45 +70,57 @@ fn it_is_said_where_that_is_asked_for() {
 fn every_cell_that_differs_is_listed_and_all_are_counted() {
     let scratch = Scratch::new("compare_cells");
     scratch.put("other", &other_night());
-    assert_eq!(scratch.run(&format!("{WORDS} other")), differ(&[SKY, NOTE, "2 cells differ in the 2 rows that both have"]));
+    assert_eq!(
+        scratch.run(&format!("{WORDS} other")),
+        differ(&[SKY, NOTE, "night.binary2 and other: 2 cells differ in the 2 rows that both have"])
+    );
     let swapped = scratch.run("compare --fields fields --from tabledata other --and binary2 night.binary2");
     let sky = "row 0, column 0 (sky): 8 in other, 7 in night.binary2";
     let note = "row 1, column 1 (note): 'dawn' in other, 'dusk' in night.binary2";
-    assert_eq!(swapped, differ(&[sky, note, "2 cells differ in the 2 rows that both have"]));
+    assert_eq!(swapped, differ(&[sky, note, "other and night.binary2: 2 cells differ in the 2 rows that both have"]));
     scratch.put("other", &String::from_utf8_lossy(TABLEDATA).replace(">T<", ">F<").into_bytes());
     let last = "row 0, column 2: T in night.binary2, F in other";
-    assert_eq!(scratch.run(&format!("{WORDS} other")), differ(&[last, "1 cell differs in the 2 rows that both have"]));
+    assert_eq!(
+        scratch.run(&format!("{WORDS} other")),
+        differ(&[last, "night.binary2 and other: 1 cell differs in the 2 rows that both have"])
+    );
     let (one, other) = (&BINARY2[..8], &other_night()[..46]);
     scratch.put("night.binary2", one);
     scratch.put("other", other);
-    assert_eq!(scratch.run(&format!("{WORDS} other")), differ(&[SKY, "1 cell differs in the 1 row that both have"]));
+    assert_eq!(
+        scratch.run(&format!("{WORDS} other")),
+        differ(&[SKY, "night.binary2 and other: 1 cell differs in the 1 row that both have"])
+    );
 }
 
 #[test]
 fn which_file_has_more_rows_is_said() {
     let scratch = Scratch::new("compare_longer");
-    let none = "no cell differs in the 2 rows that both have";
+    let none = "night.binary2 and other: no cell differs in the 2 rows that both have";
     scratch.put("other", &TABLEDATA.repeat(3));
     assert_eq!(scratch.run(&format!("{WORDS} other")), differ(&[none, "other has 4 rows more: rows 2 to 5"]));
     scratch.put("other", &[TABLEDATA, &TABLEDATA[..46]].concat());
     assert_eq!(scratch.run(&format!("{WORDS} other")), differ(&[none, "other has 1 row more: row 2"]));
     scratch.put("other", &TABLEDATA[..46]);
-    let one = "no cell differs in the 1 row that both have";
+    let one = "night.binary2 and other: no cell differs in the 1 row that both have";
     assert_eq!(scratch.run(&format!("{WORDS} other")), differ(&[one, "night.binary2 has 1 row more: row 1"]));
     scratch.put("other", b"\n");
-    let lines = ["there is no row that both have", "night.binary2 has 2 rows more: rows 0 to 1"];
+    let lines = ["night.binary2 and other: there is no row that both have", "night.binary2 has 2 rows more: rows 0 to 1"];
     assert_eq!(scratch.run(&format!("{WORDS} other")), differ(&lines));
     scratch.put("other", &[&other_night()[..46], TABLEDATA].concat());
     let said = scratch.run(&format!("{WORDS} other"));
     let lines = String::from_utf8(said.out).expect("text");
-    assert!(lines.ends_with("4 cells differ in the 2 rows that both have\nother has 1 row more: row 2\n"), "{lines}");
+    assert!(
+        lines.ends_with("night.binary2 and other: 4 cells differ in the 2 rows that both have\nother has 1 row more: row 2\n"),
+        "{lines}"
+    );
 }
 
 #[test]
 fn a_limit_is_of_the_lines_and_not_of_the_counts() {
     let scratch = Scratch::new("compare_limit");
     scratch.put("other", &other_night());
-    let counts = "2 cells differ in the 2 rows that both have";
+    let counts = "night.binary2 and other: 2 cells differ in the 2 rows that both have";
     let limited = |limit: &str| scratch.run(&format!("{WORDS} other --limit {limit}"));
     assert_eq!(limited("0"), differ(&[&format!("{counts}; 2 cells are not listed")]));
     assert_eq!(limited("1"), differ(&[SKY, &format!("{counts}; 1 cell is not listed")]));
@@ -286,6 +298,16 @@ fn standard_output_takes_the_place_of_no_file_that_is_compared() {
         assert_eq!(Said::of(scratch.shell(&line)), trouble);
         assert_eq!(scratch.get("other"), BINARY2);
     }
+}
+
+#[test]
+fn names_that_a_terminal_would_act_on_are_spelt_out() {
+    let scratch = Scratch::new("compare_names");
+    let odd = "a\x1b[2J\nb";
+    scratch.put(odd, &other_night());
+    let output = scratch.command(WORDS).arg(odd).output().expect("it runs");
+    let lines = [SKY, NOTE, "night.binary2 and other: 2 cells differ in the 2 rows that both have"];
+    assert_eq!(Said::of(output), differ(&lines.map(|line| line.replace("other", "a\\u{1b}[2J\\nb")).each_ref().map(|line| &line[..])));
 }
 
 #[test]

@@ -13,7 +13,7 @@ fn line(test: &str, field: &str, from: &str, first: &[u8], and: &str, second: &[
     let said = scratch.run(&format!("compare --fields f --from {from} --and {and} {NAMES}"));
     assert_eq!((said.status, &said.err[..]), (1, ""), "{said:?}");
     let out = String::from_utf8(said.out).expect("text");
-    let rest = "1 cell differs in the 1 row that both have\n";
+    let rest = "a and b: 1 cell differs in the 1 row that both have\n";
     out.strip_suffix(rest).and_then(|out| out.strip_suffix('\n')).unwrap_or_else(|| panic!("{out}")).to_string()
 }
 

@@ -24,7 +24,7 @@ fn every_cell_is_listed_whatever_the_rows_of_a_piece() {
     let said = scratch.run("compare --fields f --from binary a b");
     let cut = |text: String| if text.len() > 40 { format!("{}..", &text[..40]) } else { text };
     let line = |row: usize| format!("row {row}, column 1: '{}' in a, '{}' in b\n", cut(one(row)), other(row));
-    let counts = "60,000 cells differ in the 60,000 rows that both have\nb has 7 rows more: rows 60000 to 60006\n";
+    let counts = "a and b: 60,000 cells differ in the 60,000 rows that both have\nb has 7 rows more: rows 60000 to 60006\n";
     let expected = (0..rows).map(line).chain([counts.to_string()]).collect::<String>();
     assert_eq!((said.status, &said.err[..]), (1, ""));
     assert!(String::from_utf8(said.out).expect("text") == expected);
@@ -50,7 +50,7 @@ fn rows_that_are_longer_than_a_piece() {
     let lines = [
         format!("row 0, column 0: {zeros} .. in a, 1{} .. in b", &zeros[1..]),
         "row 2, column 63, from its 4,096th element on: .. 0 0 0 0 0 0 0 0 0 in a, .. 0 0 0 0 0 0 0 0 2 in b".to_string(),
-        "2 cells differ in the 3 rows that both have".to_string(),
+        "a and b: 2 cells differ in the 3 rows that both have".to_string(),
     ];
     assert_eq!(String::from_utf8(said.out).expect("text"), lines.map(|line| line + "\n").concat());
 }
@@ -66,7 +66,7 @@ fn memory_does_not_grow_with_what_is_listed() {
     let output = scratch.shell("ulimit -v 60000; \"$PROGRAM\" compare --fields f --from binary a b > out");
     assert_eq!((output.status.code(), String::from_utf8_lossy(&output.stderr)), (Some(1), "".into()));
     assert!(fs::metadata(scratch.path("out")).expect("it is written").len() > 70_000_000);
-    assert!(scratch.get("out").ends_with(b"2,000,000 cells differ in the 2,000,000 rows that both have\n"));
+    assert!(scratch.get("out").ends_with(b"\na and b: 2,000,000 cells differ in the 2,000,000 rows that both have\n"));
 }
 
 #[test]
