@@ -30,7 +30,7 @@ fn value(column: &Column, cell: &Cell) -> Option<String> {
         Cell::Shown(elements) if elements.is_empty() => return Some("\"\"".to_string()),
         Cell::Shown(_) => {}
     }
-    let line = write_row(&[*column], Rows::TableData, &[cell.clone()]).ok()?;
+    let line = write_row(&[*column], Rows::TableData, std::slice::from_ref(cell)).ok()?;
     let line = String::from_utf8(line).expect("ASCII");
     let text = line.strip_prefix("<TR><TD>")?.strip_suffix("</TD></TR>\n")?;
     let quoted = |letter: char| match letter {
