@@ -234,15 +234,18 @@ fn compare_rows(
         &mut a,
         &mut b,
     );
+    let more = beyond(p.rows, q.rows);
+    let fewer = beyond(q.rows, p.rows);
+    let noted = filled(differing, places.len());
     Comparison {
         number: 0,
         row: 0,
         column: 0,
         input: 0,
         differing: differing as u64,
-        first: beyond(p.rows, q.rows),
-        second: beyond(q.rows, p.rows),
-        places: filled(differing, places.len()) as u64,
+        first: more,
+        second: fewer,
+        places: noted as u64,
     }
 }
 
