@@ -1,7 +1,10 @@
 -- comparing::note_row: the loop over columns. The row's places are those noted and those of the bits from i on; where no bit is set there are none.
-use Prim.Native.Nat.{_-_, _≤_}
+use Prim.Native.Nat.{_-_, _≤_, ℕ}
+use mathlib.Core.List.{[]}
+use mathlib.Core.Path.{_∙_, _≡_, ap}
 use denote.Ref.{now}
 use Rattle.comparing.proofs.Noting.{Noted, none-marked, noted-all, noted-next, noted-start, notes-none}
+use Rattle.comparing.specs.Contracts.{marked}
 use Rattle.number.proofs.Laws.{length-to}
 use Rattle.number.specs.Number.{toDigits}
 use borrow.Author.Needs.{needs}
@@ -18,7 +21,9 @@ abbrev μ-loop : tie.MeasureT-loop
 returns : tie.Need-returns Inv-loop μ-loop
 returns c =
     let a = c .before .before in
-    rw (c .if1 .taken, none-marked (a .args .row) 0 (a .args .count)) (notes-none (a .args .noted) (now (a .args .places)))
+    let none : marked (a .args .row) 0 (toDigits 2 (a .args .count) (a .args .differing)) ≡ [] =
+    ap (λ (word : ℕ). marked (a .args .row) 0 (toDigits 2 (a .args .count) word)) (c .if1 .taken) ∙ none-marked (a .args .row) 0 (a .args .count) in
+    rw none (notes-none (a .args .noted) (now (a .args .places)))
 
 loop-holds : tie.Need-loop-holds Inv-loop μ-loop
 loop-holds c =
