@@ -6,7 +6,8 @@ use Rattle.compare.specs.Compare.{cellDiffers, differences, placed, rowD
 use Rattle.table.specs.Cell.{null, sameInteger, shown}
 
 -- "Empty and null differ": of two rows of three cells
-pub empty-and-null : differences 0 ((null ∷ shown [] ∷ shown (pos 3 ∷ []) ∷ []) ∷ []) ((null ∷ null ∷ shown (pos 4 ∷ []) ∷ []) ∷ []) ≡ record { row = 0; column = 1 } ∷ record { row = 0; column = 2 } ∷ []
+pub empty-and-null : differences 0 ((null ∷ shown [] ∷ shown (pos 3 ∷ []) ∷ []) ∷ []) ((null ∷ null ∷ shown (pos 4 ∷ []) ∷ []) ∷ [])
+    ≡ record { row = 0; column = 1 } ∷ record { row = 0; column = 2 } ∷ []
 unfolding differences rowDiffers cellDiffers sameCell sameElements sameInteger
 empty-and-null = refl
 

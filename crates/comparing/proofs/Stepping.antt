@@ -1,6 +1,6 @@
 -- Both inputs in step: the places that differ are those of the rows so far and those of what is left of both (SteppedTo), so they are all there when
 -- one of the two has no row left, or one that does not read. Cited by step_rows.
-use Prim.Native.Nat.{_*_, _+_, _<_, _≤_, suc, ℕ}
+use Prim.Native.Nat.{_*_, _+_, _≤_, suc, ℕ}
 use native.Mathlib.Omega.{arith}
 use mathlib.Core.Bool.{Bool, _&&_, false, false≢true, not, true}
 use mathlib.Core.List.{List, [], _++_, _∷_, append-assoc, append-nil}
@@ -9,7 +9,6 @@ use lib.ListN.{drop, length, length-append}
 use Rattle.compare.specs.Compare.{Place, differences, placed, rowDiffers}
 use Rattle.comparing.proofs.Noting.{marked-few, row-marked}
 use Rattle.comparing.specs.Contracts.{Notes, PassedTo, Steps, haveRows, inStep, marked}
-use Rattle.comparing.specs.declared.Stepped.{Stepped}
 use Rattle.number.proofs.Laws.{length-to}
 use Rattle.number.specs.Number.{toDigits}
 use Rattle.row_comparing.specs.Contracts.{OneUnread, RowsRead, unread-first, unread-second}

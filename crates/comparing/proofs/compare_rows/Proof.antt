@@ -4,14 +4,12 @@ use lib.ListN.{length}
 use denote.Ref.{now}
 use Rattle.compare.specs.Compare.{Compared, filled, rowsShown}
 use Rattle.comparing.proofs.Calls.{both-shown, counts-are, first-refused, refused-as, second-refused, walk-read, walk-refused}
-use Rattle.comparing.specs.Contracts.{inStep}
 use Rattle.rows.specs.Sequence.{inOrder}
 use Rattle.rows.specs.Stream.{passed, read}
 use Rattle.table.specs.ColumnList.{listed}
 use Rattle.table.specs.Outcome.{answerOf}
 use Rattle.table.specs.Result.{good}
 use borrow.Author.Needs.{needs}
-use native.Mathlib.Omega.{arith}
 use Rattle.comparing.proofs.compare_rows.Statement.{statement}
 use Rattle.comparing.proofs.compare_rows.Tie as tie
 

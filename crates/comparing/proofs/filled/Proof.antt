@@ -1,6 +1,5 @@
 -- comparing::filled: the smaller of the two.
 use borrow.Author.Tests.{le-ltb, lt-ltb}
-use native.Mathlib.Omega.{arith}
 use Rattle.compare.specs.Compare.{filled}
 use Rattle.comparing.proofs.filled.Statement.{statement}
 use Rattle.comparing.proofs.filled.Tie as tie

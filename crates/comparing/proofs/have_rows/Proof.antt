@@ -1,5 +1,5 @@
 -- comparing::have_rows: neither input is at its end.
-use mathlib.Core.Path.{_∙_, ap, sym}
+use mathlib.Core.Path.{_∙_, sym}
 use borrow.Author.Needs.{needs}
 use Rattle.comparing.proofs.have_rows.Statement.{statement}
 use Rattle.comparing.proofs.have_rows.Tie as tie

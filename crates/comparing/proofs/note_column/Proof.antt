@@ -5,7 +5,6 @@ use denote.Ref.{now}
 use Rattle.comparing.proofs.Noting.{noted-long, notes-none, notes-one}
 use borrow.Author.Needs.{needs}
 use borrow.Author.Tests.{not-false, not-true}
-use native.Mathlib.Omega.{arith}
 use Rattle.comparing.proofs.note_column.Statement.{statement}
 use Rattle.comparing.proofs.note_column.Tie as tie
 

@@ -7,7 +7,6 @@ use Rattle.comparing.proofs.Noting.{Noted, none-marked, noted-all, note
 use Rattle.comparing.specs.Contracts.{marked}
 use Rattle.number.proofs.Laws.{length-to}
 use Rattle.number.specs.Number.{toDigits}
-use borrow.Author.Needs.{needs}
 use native.Mathlib.Omega.{arith}
 use Rattle.comparing.proofs.note_row.Statement.{statement}
 use Rattle.comparing.proofs.note_row.Tie as tie
@@ -60,7 +59,8 @@ returns-2 c =
     let l = c .before in
     let a = l .before .before .before in
     let bits = toDigits 2 (a .args .count) (a .args .differing) in
-    noted-all (a .args .row) bits (a .args .noted) (now (a .args .places)) _ (l .loop .n) (l .loop .i) (l .loop .inv .0) (omega (arith, length-to 2 (a .args .count) (a .args .differing), c .loop-test .left))
+    noted-all (a .args .row) bits (a .args .noted) (now (a .args .places)) _ (l .loop .n) (l .loop .i) (l .loop .inv .0)
+    (omega (arith, length-to 2 (a .args .count) (a .args .differing), c .loop-test .left))
 
 pub note-row-spec : {M : Type 1} → statement M
 note-row-spec =

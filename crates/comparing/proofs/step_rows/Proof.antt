@@ -98,7 +98,8 @@ returns c =
     let a = l .before .before .before .before in
     let inv = l .loop .inv in (
       step-end (a .args .from) (a .args .kind) (listed (a .args .cols)) (now (a .args .first)) (now (a .args .second)) (now (a .args .places)) (a .pre .0) _ _ _ _ _ (inv .0)
-          (none-left (a .args .from) (a .args .kind) (listed (a .args .cols)) (a .pre .0) (now (a .args .first)) (now (a .args .second)) (l .loop .at) (l .loop .place) _ (sym (c .before .have-rows .ensures) ∙ c .if1 .left)),
+          (none-left (a .args .from) (a .args .kind) (listed (a .args .cols)) (a .pre .0) (now (a .args .first)) (now (a .args .second)) (l .loop .at) (l .loop .place) _
+          (sym (c .before .have-rows .ensures) ∙ c .if1 .left)),
       (inv .2, inv .3),
     )
 

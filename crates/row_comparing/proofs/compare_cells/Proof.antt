@@ -1,9 +1,9 @@
 -- row_comparing::compare_cells: the loop over columns. What is read of each row is what has been read and what is still to come (RowRead, of each
 -- input), and the word's digits say which of the cells so far differ (Differing); then what ends the rows.
-use Prim.Native.Nat.{_-_, _<_, _≤_, suc, ℕ}
+use Prim.Native.Nat.{_-_, _<_, _≤_, suc}
 use mathlib.Core.Bool.{Bool}
 use mathlib.Core.List.{List, _∷_}
-use mathlib.Core.Path.{_∙_, _≡_, ap, refl, subst}
+use mathlib.Core.Path.{_∙_, _≡_, refl, subst}
 use lib.ListN.{drop, getD, length}
 use denote.Ref.{now}
 use Rattle.row_comparing.proofs.Pairs.{Differing, cells-paired, differing-more, differing-none, unread-cells}
@@ -76,7 +76,8 @@ compare-cell-requires c κs =
     let l = c .before .before .before .before .before .before in
     let a = l .before .before .before in
     let inv = l .loop .inv in
-    (inv .0 .inside, inv .1 .inside, listed-bound (cols-of a) (l .loop .i) (a .pre .0) (c .before .before .before .before .before .loop-test .taken), omega (arith, inv .3, a .pre .3), omega (arith, inv .4, a .pre .4))
+    let bounded = listed-bound (cols-of a) (l .loop .i) (a .pre .0) (c .before .before .before .before .before .loop-test .taken) in
+    (inv .0 .inside, inv .1 .inside, bounded, omega (arith, inv .3, a .pre .3), omega (arith, inv .4, a .pre .4))
 
 -- a column's cells are compared: its flags and its cells stand where the loop is
 module _ (c : tie.After-compare-cell Inv-loop μ-loop) where

@@ -1,5 +1,4 @@
 -- row_comparing::end_rows: what ends the row of each, as its own function has it.
-use Prim.Native.Nat.{ℕ}
 use mathlib.Core.Path.{_∙_, ap, refl}
 use Rattle.row_comparing.specs.Contracts.{unread-first, unread-second}
 use Rattle.row_reading.proofs.Parts.{closed-within}
