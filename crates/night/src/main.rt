@@ -4,7 +4,9 @@
 // every room up to the one given, `d` the declarations alone, `e` the input encoded. A line has the numbers of the answer, a sum over every byte
 // of the buffer, which held 238 before the call, and the first bytes written. `i` is an index, and a row fetched by it: the second digit is how
 // many places the index has, which held 4008636142, and in the place of the room stands the row. Its line has the numbers of the index's answer
-// and its places first, then those of the fetch, into 100 bytes.
+// and its places first, then those of the fetch, into 100 bytes. `k` compares two nights that stand one behind the other in the input: in the
+// place of the room stands how many bytes the first has, and in two digits how many numbers are lent. Its line has the numbers of the answer and
+// sixteen numbers that held 4008636142, lent or not.
 ghost use Prim.Native.Nat.{_<_, _≤_};
 ghost use lib.ListN.{length};
 ghost use Rattle.night.specs.Places.{Behind};
@@ -28,6 +30,14 @@ fn say_answer(answer: &[u64; 5]) {
     say_number(answer[2]);
     say_number(answer[3]);
     say_number(answer[4]);
+}
+
+fn say_comparison(answer: &[u64; 8]) {
+    let mut k: usize = 0;
+    while k < 8 {
+        say_number(answer[k]);
+        k += 1;
+    }
 }
 
 // A sum over all bytes, in which each place counts.
@@ -129,11 +139,10 @@ fn encode(input: &[u8], out: &mut [u8]) {
     say_bytes(out, answer[4] as usize);
 }
 
-fn say_places(index: &[u32]) {
-    say(b" starts");
+fn say_places(places: &[u32]) {
     let mut k: usize = 0;
-    while k < index.len() {
-        say_number(index[k] as u64);
+    while k < places.len() {
+        say_number(places[k] as u64);
         k += 1;
     }
 }
@@ -152,6 +161,7 @@ fn index_in(decls: &[u8], from: u32, input: &[u8], index: &mut [u32], row: u64) 
     let mut answer = [9u64; 5];
     sailmortar::sailmortar_index(decls, from, input, index, &mut answer);
     say_answer(&answer);
+    say(b" starts");
     say_places(index);
     fetch(decls, from, input, index, answer[3], row);
 }
@@ -165,6 +175,50 @@ fn index_of(decls: &[u8], from: u32, places: usize, input: &[u8], row: u64) {
     index_in(decls, from, input, &mut index[..places], row);
 }
 
+fn compare_in(
+    decls: &[u8],
+    from: u32,
+    first: &[u8],
+    kind: u32,
+    second: &[u8],
+    places: &mut [u32],
+    lent: usize,
+) {
+    if places.len() < lent {
+        return;
+    }
+    let mut answer = [9u64; 8];
+    sailmortar::sailmortar_compare(
+        decls,
+        from,
+        first,
+        kind,
+        second,
+        &mut places[..lent],
+        &mut answer,
+    );
+    say_comparison(&answer);
+    say(b" places");
+    say_places(places);
+}
+
+// The first night is at the front of the input, as many bytes as the hundreds say, and the second is the rest.
+fn compare(decls: &[u8], from: u32, kind: u32, input: &[u8], parts: usize) {
+    let mut places = [4008636142u32; 16];
+    let first = parts / 100;
+    if first <= input.len() {
+        compare_in(
+            decls,
+            from,
+            &input[..first],
+            kind,
+            &input[first..],
+            &mut places,
+            parts % 100,
+        );
+    }
+}
+
 fn call(letter: u8, decls: &[u8], from: u32, to: u32, input: &[u8], out: &mut [u8]) {
     match letter {
         b'p' => convert_prefixes(decls, from, to, input, out),
@@ -173,6 +227,7 @@ fn call(letter: u8, decls: &[u8], from: u32, to: u32, input: &[u8], out: &mut [u
         b'd' => declare(decls),
         b'e' => encode(input, out),
         b'i' => index_of(decls, from, to as usize, input, out.len() as u64),
+        b'k' => compare(decls, from, to, input, out.len()),
         _ => convert(decls, from, to, input, out),
     }
 }

@@ -7,10 +7,10 @@ use lib.ListN.{length}
 use Prim.Native.Nat.{_-_, _≤_}
 
 abbrev Inv-loop : tie.InvT-loop
-Inv-loop index k₀ k = k ≤ length index
+Inv-loop places k₀ k = k ≤ length places
 
 abbrev μ-loop : tie.MeasureT-loop
-μ-loop index k₀ k = length index - k
+μ-loop places k₀ k = length places - k
 
 cast-say-number : tie.Need-cast-say-number Inv-loop μ-loop
 cast-say-number c = omega (arith, c .shared-slice-known2 .given (c .before .before .loop .k))
@@ -21,8 +21,6 @@ say-places-spec =
     (tie.spec
     Inv-loop
     μ-loop
-    (λ c. search needs)
-    (λ c κs. search needs)
     (λ c. search needs)
     (λ c. search needs)
     (λ c. search needs)
