@@ -68,6 +68,12 @@ fn say_bytes(out: &[u8], n: usize) {
     }
 }
 
+fn say_written(answer: &[u64; 5], out: &[u8]) {
+    say_answer(answer);
+    say_sum(out);
+    say_bytes(out, answer[4] as usize);
+}
+
 fn fill(out: &mut [u8]) {
     let mut k: usize = 0;
     while k < out.len() {
@@ -82,9 +88,7 @@ fn convert(decls: &[u8], from: u32, to: u32, input: &[u8], out: &mut [u8]) {
     fill(out);
     let mut answer = [9u64; 5];
     sailmortar::sailmortar_convert(decls, from, to, input, out, &mut answer);
-    say_answer(&answer);
-    say_sum(out);
-    say_bytes(out, answer[4] as usize);
+    say_written(&answer, out);
 }
 
 fn convert_prefixes(decls: &[u8], from: u32, to: u32, input: &[u8], out: &mut [u8]) {
@@ -134,9 +138,7 @@ fn encode(input: &[u8], out: &mut [u8]) {
     fill(out);
     let mut answer = [9u64; 5];
     sailmortar::sailmortar_base64_encode(input, out, &mut answer);
-    say_answer(&answer);
-    say_sum(out);
-    say_bytes(out, answer[4] as usize);
+    say_written(&answer, out);
 }
 
 fn say_places(places: &[u32]) {
@@ -152,9 +154,7 @@ fn fetch(decls: &[u8], from: u32, input: &[u8], index: &[u32], rows: u64, row: u
     let mut answer = [9u64; 5];
     sailmortar::sailmortar_fetch(decls, from, input, index, rows, row, &mut out, &mut answer);
     say(b" fetched");
-    say_answer(&answer);
-    say_sum(&out);
-    say_bytes(&out, answer[4] as usize);
+    say_written(&answer, &out);
 }
 
 fn index_in(decls: &[u8], from: u32, input: &[u8], index: &mut [u32], row: u64) {
