@@ -1,6 +1,5 @@
 -- One call of `sailmortar_compare`: its contract is all that the laws ask.
 use borrow.Author.Needs.{needs}
-use denote.Ref.{now}
 use Rattle.compare_promises.proofs.Nights.{compared-exactly, not-kinds}
 use Rattle.promises.proofs.Laws.{faces}
 use Rattle.sailmortar.specs.Face.{compareFace}
@@ -9,10 +8,8 @@ use Rattle.compare_promises.proofs.compared.Tie as tie
 
 returns : tie.Need-returns
 returns c =
-    let at-call = c .before .before in
-    let args = at-call .before .before .before .before .before .before .before .args in
-    let told = at-call .sailmortar-compare .ensures in
-    let face = faces {f = compareFace (now (args .decls)) (args .from) (now (args .first)) (args .kind) (now (args .second)) (now (args .places))} (told .0) (told .1) in
+    let told = c .before .before .sailmortar-compare .ensures in
+    let face = faces {f = compareFace _ _ _ _ _ _} (told .0) (told .1) in
     (not-kinds _ _ _ _ _ _ face, compared-exactly _ _ _ _ _ _ face)
 
 pub compared-spec : {M : Type 1} → statement M
