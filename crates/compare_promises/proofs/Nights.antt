@@ -94,12 +94,14 @@ module _ (decls : List ℕ) (from to : ℕ) (input out : List ℕ) {numbers exit
           subst⁻¹ (λ (c : Call). c .answer .bytes ≤ length (c .buffer)) (is-convert decls from to input out h source target e f)
           (convert-within decls source target input out)
 
-  pub same-night : AreBytes input → (entry : List ℕ) {others left : List ℕ} → Faces (compareFace decls from input to (take (getD numbers 4 0) exit) entry) others left
-      → Between from to (SameNight decls input out entry others left)
+  -- the input, compared with that part read as any number's kind: where that is the target, they are the same night
+  pub same-night : AreBytes input → (kind : ℕ) (entry : List ℕ) {others left : List ℕ}
+      → Faces (compareFace decls from input kind (take (getD numbers 4 0) exit) entry) others left
+      → (source target : Rows) → rowsOf from ≡ some source → rowsOf to ≡ some target → rowsOf kind ≡ some target → SameNight decls input out entry others left source target
   unfolding output callOf comparedFaced eight
-  same-night bytes entry {others} {left} k source target e f v small =
+  same-night bytes kind entry {others} {left} k source target e f g v small =
       let part : List ℕ = take (getD numbers 4 0) exit in
-      let told = faces-compare decls from input to part entry k source target e f in
+      let told = faces-compare decls from input kind part entry k source target e g in
       let written : part ≡ output (convert decls source target input out) = ap output (is-convert decls from to input out h source target e f) in
       let same : compare decls source input target part entry ≡ allTheSame entry =
       ap (λ (p : List ℕ). compare decls source input target p entry) written

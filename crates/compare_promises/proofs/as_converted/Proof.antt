@@ -27,12 +27,10 @@ returns c =
     let at-convert = at-compare .before .before .before .before .before .before .before in
     let at-known = at-convert .before .before .before .before .before in
     let args = at-known .before .before .args in
-    let written = at-convert .sailmortar-convert .ensures in
-    let told = at-compare .sailmortar-compare .ensures in
-    same-night _ (args .from) (args .to) (now (args .input)) (now (args .out))
-    (faces {f = convertFace (now (args .decls)) (args .from) (args .to) (now (args .input)) (now (args .out))} (written .0) (written .1))
-    (bytes-of (now (args .input)) (λ i h. at-known .shared-slice-known2 .given i .fits))
-    (now (args .places)) (faces {f = compareFace (now (args .decls)) (args .from) (now (args .input)) (args .to) _ (now (args .places))} (told .0) (told .1))
+    let converted = faces {f = convertFace _ _ _ _ _} (at-convert .sailmortar-convert .ensures .0) (at-convert .sailmortar-convert .ensures .1) in
+    let compared = faces {f = compareFace _ _ _ _ _ _} (at-compare .sailmortar-compare .ensures .0) (at-compare .sailmortar-compare .ensures .1) in
+    let bytes = bytes-of (now (args .input)) (λ i h. at-known .shared-slice-known2 .given i .fits) in
+    λ source target e f. same-night (now (args .decls)) (args .from) (args .to) (now (args .input)) (now (args .out)) converted bytes _ (now (args .places)) compared source target e f f
 
 pub as-converted-spec : {M : Type 1} → statement M
 as-converted-spec =
