@@ -2,24 +2,22 @@
 -- compare_rows and compare.
 use Prim.Native.Nat.{_+_, _-_, _<_, ℕ}
 use native.Mathlib.Omega.{arith}
-use mathlib.Core.Bool.{cond}
 use mathlib.Core.List.{List, []}
 use mathlib.Core.Path.{_∙_, _≡_, ap, refl, sym}
-use lib.Dec.{ltb}
 use lib.ListN.{length}
 use Rattle.compare.specs.Compare.{Compares, beforeRows, bothShow, compare, comparedAs, counted, filled, placed, refusedIn, rowsShown, shows}
 use Rattle.compare.specs.declared.Comparison.{Comparison}
 use Rattle.comparing.specs.Contracts.{behindFirst, inStep, rowsBoth}
+use Rattle.fields.proofs.Front.{front-good}
 use Rattle.fields.specs.Fields.{declare}
 use Rattle.fields.specs.Front.{front}
 use Rattle.rows.proofs.Laws.{Placed, read-stops}
 use Rattle.rows.proofs.Sequences.{Stops}
 use Rattle.rows.specs.Sequence.{finished, inOrder, row, stopped}
 use Rattle.rows.specs.Stream.{Table, passed, read}
-use Rattle.table.proofs.Laws.{holds-at, holds-cond}
 use Rattle.table.specs.Cell.{Cell}
-use Rattle.table.specs.Outcome.{Refusal, accepted, answerOf, at, mostInput, mostNumber, refused}
-use Rattle.table.specs.Result.{Holds, Result, _>>=_, bad, good, holds, refuses}
+use Rattle.table.specs.Outcome.{Refusal, accepted, answerOf, at, mostNumber, refused}
+use Rattle.table.specs.Result.{Result, bad, good}
 use Rattle.table.specs.declared.Answer.{Answer}
 use Rattle.table.specs.declared.Column.{Column}
 use Rattle.table.specs.declared.Rows.{Rows}
@@ -94,19 +92,11 @@ module _ (cs : List Column) (from : Rows) (s : List ℕ) (kind : Rows) (t entry 
 
 -- ---- the call
 
-front-declares : (decls : List ℕ) (size : ℕ) → Holds (λ (cs : List Column). declare decls ≡ good cs) (front decls size)
-unfolding front
-front-declares decls size = go (declare decls) refl
-  where
-    go : (x : Result Refusal (List Column)) → declare decls ≡ x → Holds (λ (cs : List Column). declare decls ≡ good cs) (x >>= λ cs. cond (ltb mostInput size) (bad (at 0 6)) (good cs))
-    go (good cs) e = holds-cond (ltb mostInput size) (λ _. refuses) (λ _. holds e)
-    go (bad x) e = refuses
-
 -- both inputs have the same columns
 pub same-columns : (decls : List ℕ) (size other : ℕ) (cs ds : List Column) → front decls size ≡ good cs → front decls other ≡ good ds → front decls other ≡ good cs
 same-columns decls size other cs ds e f =
-    let p : declare decls ≡ good cs = holds-at (front-declares decls size) e in
-    let q : declare decls ≡ good ds = holds-at (front-declares decls other) f in
+    let p : declare decls ≡ good cs = front-good decls size cs e in
+    let q : declare decls ≡ good ds = front-good decls other ds f in
     let same : ds ≡ cs = cc in
     rw (sym same) f
 

@@ -53,13 +53,6 @@ placed-more (d ∷ ds) p (x ∷ []) = rw (le-ltb (suc (length ds)) 0 (omega arit
 placed-more (d ∷ ds) p (x ∷ y ∷ start) =
     ap (λ (l : List ℕ). d .row ∷ d .column ∷ l) (placed-more ds p start) ∙ sym (noted-behind (length ds) (p .row) (p .column) (d .row) (d .column) (placed ds start))
 
-pub placed-long : (ds : List Place) (start : List ℕ) → length (placed ds start) ≡ length start
-unfolding placed
-placed-long [] start = refl
-placed-long (d ∷ ds) [] = refl
-placed-long (d ∷ ds) (x ∷ []) = refl
-placed-long (d ∷ ds) (x ∷ y ∷ start) = ap (λ (n : ℕ). suc (suc n)) (placed-long ds start)
-
 pub noted-long : (n r k : ℕ) (l : List ℕ) → length (notedAt n r k l) ≡ length l
 noted-long n r k l =
     cond-cases (λ (m : List ℕ). length m ≡ length l) (ltb n (length l / 2)) (set (set l (2 * n) r) (2 * n + 1) k) l

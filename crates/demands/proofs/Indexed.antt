@@ -16,6 +16,7 @@ use Rattle.demands.proofs.OnlyOne.{same-refusal}
 use Rattle.demands.proofs.Writing.{Behind, ends-behind, first-written, from-here, past-row, row-behind, stop-behind}
 use Rattle.demands.specs.OneRow.{IndexEnded, IndexSized, IndexStands, SameStop, StopsAsConverted, WhyIndexed, all-indexed, index-stopped, no-place, startOf}
 use Rattle.demands.specs.Tables.{Ends, count, lines, rowAt, stopAt, upTo}
+use Rattle.fields.proofs.Front.{front-good}
 use Rattle.fields.proofs.Laws.{declare-is}
 use Rattle.fields.specs.Fields.{declare}
 use Rattle.fields.specs.Front.{front}
@@ -29,7 +30,7 @@ use Rattle.rows.specs.Convert.{convert, converting, underColumns}
 use Rattle.rows.specs.Pieces.{behindRow, behindRows}
 use Rattle.rows.specs.Sequence.{finished, row, rowThen, stopped}
 use Rattle.rows.specs.Stream.{Table, atEnd, fitted, read, readRow, run, write, wroteThen}
-use Rattle.table.proofs.Laws.{bad-good, holds-at}
+use Rattle.table.proofs.Laws.{holds-at}
 use Rattle.table.specs.Cell.{AreColumns, Cell}
 use Rattle.table.specs.Outcome.{Call, Outcome, Refusal, accepted, answerOf, at, bufferOf, ending, mostInput, refused, rowsDone, written}
 use Rattle.table.specs.Result.{Holds, Result, _>>=_, bad, good, holds, refuses}
@@ -366,16 +367,6 @@ module _ (to : Rows) (cs : List Column) (t : Table) (space room : ℕ) (body : L
       let all : lines to cs (upTo rows t) ≡ good body = ap (λ (m : ℕ). lines to cs (upTo m t)) (stop-last b .0) ∙ lines-all to cs t ∙ forms in
       rw (first-written to cs space body b all fits)
   as-converted rows n r k (no-place {xs = xs} q e) = absurd (omega (arith, e, few, row-before (row-behind rows t xs q .1)))
-
--- what the front hands on was declared
-pub front-good : (decls : List ℕ) (size : ℕ) (cs : List Column) → front decls size ≡ good cs → declare decls ≡ good cs
-unfolding front
-front-good decls size cs e = go (declare decls) (ltb mostInput size) e
-  where
-    go : (r : Result Refusal (List Column)) (b : Bool) → (r >>= λ ds. cond b (bad (at 0 6)) (good ds)) ≡ good cs → r ≡ good cs
-    go (good ds) true q = absurd (bad-good q)
-    go (good ds) false q = q
-    go (bad x) b q = absurd (bad-good q)
 
 stop-of : (o : Outcome) (d : Call) (w : ℕ) → d .answer ≡ record { number = answerOf o .number; row = answerOf o .row; column = answerOf o .column; rows = rowsDone o; bytes = w }
     → (entry : List ℕ) → SameStop (indexedAs o entry) d

@@ -15,7 +15,7 @@ use lib.Seq.{ext-getD, getD-drop, getD-take, take-all, take-at}
 use borrow.Author.Tests.{le-ltb, lt-ltb, ltb-false, ltb-true}
 use Rattle.demands.proofs.Demand1.{bytes-of, output-of}
 use Rattle.demands.proofs.Demand2.{declared-columns}
-use Rattle.demands.proofs.Indexed.{front-good, row-there}
+use Rattle.demands.proofs.Indexed.{row-there}
 use Rattle.demands.proofs.Writing.{Behind, from-here, past-row}
 use Rattle.demands.specs.Demands.{NoRows, SameOutput, output}
 use Rattle.demands.specs.OneRow.{FetchEnded, FetchSized, FetchStands, FetchesAlike, IndexEnded, IndexSized, IndexStands, LooksTo, RowsRead, SameEntry, SameThere, asRow, none-read, ownBytes, row-read, startOf, to-its-end, to-the-end}
@@ -23,7 +23,7 @@ use Rattle.demands.specs.Tables.{count, only, rowAt}
 use Rattle.grammar.proofs.Pieces.{behind-first, behind-place}
 use Rattle.grammar.proofs.Streams.{first-row}
 use Rattle.grammar.proofs.Taken.{Taken, row-taken}
-use Rattle.fields.proofs.Front.{front-declared, front-oversized, front-undeclared}
+use Rattle.fields.proofs.Front.{front-declared, front-good, front-oversized, front-undeclared}
 use Rattle.fields.specs.Fields.{declare}
 use Rattle.fields.specs.Front.{front}
 use Rattle.index.specs.Fetch.{askedFor, behindThe, fetch, fetchIndexed, fetchRow, fetchUnder, isIndexed}
