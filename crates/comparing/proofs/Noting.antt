@@ -1,5 +1,5 @@
 -- Places in a buffer: one more behind those that stand is two stores, where there is room (placed-more), so places noted one after the other are what
--- the definition puts there. Cited by note_column, note_row and fill.
+-- the definition puts there. Cited by note_column, note_row and step_rows.
 use Prim.Native.Nat.{_%_, _*_, _+_, _/_, _^_, _<_, _≤_, suc, zero, ℕ}
 use native.Mathlib.Nat.{zero-div}
 use native.Mathlib.Omega.{arith}
@@ -10,7 +10,7 @@ use lib.Dec.{eqb, ltb}
 use lib.ListN.{drop, getD, length, length-append, length-set, set}
 use borrow.Author.Tests.{le-ltb, lt-ltb, ltb-false, ltb-true}
 use Rattle.binary.specs.Binary.{flagBit}
-use Rattle.compare.specs.Compare.{Place, cellDiffers, filled, placed, rowDiffers, sameCell}
+use Rattle.compare.specs.Compare.{Place, cellDiffers, placed, rowDiffers, sameCell}
 use Rattle.comparing.specs.Contracts.{Notes, marked, markedAt, notedAt}
 use Rattle.number.specs.Number.{toDigits}
 use Rattle.row_comparing.specs.Contracts.{differingBits}
@@ -77,16 +77,6 @@ notes-one n entry r k exit e = record {
   leaves = λ ds start n-is s. e ∙ rw (sym n-is, s) (sym (placed-more ds (record { row = r; column = k }) start));
   long = ap length e ∙ noted-long n r k entry;
 }
-
--- ---- no place to fill
-
-pub none-filled : (ds : List Place) (entry : List ℕ) → filled (length ds) (length entry) ≡ 0 → entry ≡ placed ds entry
-unfolding placed filled
-none-filled [] entry h = refl
-none-filled (d ∷ ds) [] h = refl
-none-filled (d ∷ ds) (x ∷ []) h = refl
-none-filled (d ∷ ds) (x ∷ y ∷ entry) h =
-    absurd (cond-cases (λ (n : ℕ). n ≡ 0 → ⊥) (ltb (suc (suc (length entry)) / 2) (suc (length ds))) (suc (suc (length entry)) / 2) (suc (length ds)) (λ _ e. omega arith) (λ _ e. omega arith) h)
 
 -- ---- a row's places by its bits
 

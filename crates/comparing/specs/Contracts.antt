@@ -2,14 +2,17 @@
 use Prim.Native.Nat.{_*_, _+_, _/_, _≤_, ℕ}
 use mathlib.Core.Bool.{Bool, _&&_, cond, not}
 use mathlib.Core.List.{List, [], _++_, _∷_}
+use mathlib.Core.Logic.{_⊎_}
 use mathlib.Core.Path.{_≡_}
 use lib.Dec.{eqb, ltb}
 use lib.ListN.{drop, length, set}
 use Rattle.compare.specs.Compare.{Place, differences, placed, refusedIn, rowsShown}
 use Rattle.compare.specs.declared.Comparison.{Comparison}
+use Rattle.comparing.specs.declared.Abreast.{Abreast}
 use Rattle.comparing.specs.declared.Stepped.{Stepped}
+use Rattle.row_reading.specs.Contracts.{RowsPassed}
 use Rattle.rows.specs.Sequence.{inOrder}
-use Rattle.rows.specs.Stream.{atEnd, passed, read}
+use Rattle.rows.specs.Stream.{atEnd, read}
 use Rattle.table.specs.Cell.{Cell}
 use Rattle.table.specs.Result.{Result, _>>=_, bad, good, refusedAs}
 use Rattle.table.specs.declared.Answer.{Answer}
@@ -38,25 +41,50 @@ pub record Notes (n : ℕ) (entry : List ℕ) (ps : List Place) (exit : List ℕ
 
 -- ---- both inputs in step
 
-abbrev pub haveRows : Rows → List ℕ → ℕ → Rows → List ℕ → ℕ → Bool
-haveRows from s i kind t j = not (atEnd from (drop i s)) && not (atEnd kind (drop j t))
+-- both stand inside their inputs, behind no more rows than bytes
+abbrev pub StandIn : List ℕ → List ℕ → Abreast → Type 0
+StandIn s t p = (p .rows ≤ p .first) × (p .first ≤ length s) × (p .rows ≤ p .second) × (p .second ≤ length t)
 
--- the places that differ in the rows which both have before either ends or does not read
+abbrev pub haveRows : Rows → List ℕ → Rows → List ℕ → Abreast → Bool
+haveRows from s kind t p = not (atEnd from (drop (p .first) s)) && not (atEnd kind (drop (p .second) t))
+
+-- a row is left of both, and fewer places are known than are asked for
+abbrev pub stepsOn : ℕ → ℕ → Rows → List ℕ → Rows → List ℕ → Abreast → Bool
+stepsOn differing most from s kind t p = ltb differing most && haveRows from s kind t p
+
+-- the places that differ from where both stand on, in the rows which both have before either ends or does not read
+abbrev pub differFrom : Rows → List Column → List ℕ → Rows → List ℕ → Abreast → List Place
+differFrom from cs s kind t p = differences (p .rows) (inOrder (read from cs (drop (p .first) s))) (inOrder (read kind cs (drop (p .second) t)))
+
+abbrev pub atStart : Abreast
+atStart = record { rows = 0; first = 0; second = 0 }
+
+-- all of them
 abbrev pub inStep : Rows → List Column → List ℕ → Rows → List ℕ → List Place
-inStep from cs s kind t = differences 0 (inOrder (read from cs s)) (inOrder (read kind cs t))
+inStep from cs s kind t = differFrom from cs s kind t atStart
 
--- an input of which so many rows are passed over, to a place
-pub record PassedTo (from : Rows) (cs : List Column) (s : List ℕ) (place rows : ℕ) : Type 0 where
-  pub inside : place ≤ length s
-  pub fewer : rows ≤ place
-  pub ahead : passed 0 (read from cs s) ≡ passed rows (read from cs (drop place s))
+-- from a start on the first places that differ are in the buffer, all of them or as many as are asked for; each input is passed over so far; and before
+-- where both stood last with nothing noted no cell differs
+pub record Steps (from : Rows) (cs : List Column) (s : List ℕ) (kind : Rows) (t : List ℕ) (start : Abreast) (most : ℕ) (entry exit : List ℕ) (r : Stepped) : Type 0 where
+  pub noted : List Place
+  pub left : List Place
+  pub all : differFrom from cs s kind t start ≡ noted ++ left
+  pub enough : (left ≡ []) ⊎ (most ≤ length noted)
+  pub counts : r .differing ≡ length noted
+  pub few : r .differing ≤ 64 * length s
+  pub leaves : exit ≡ placed noted entry
+  pub first-passed : RowsPassed from cs s (start .first) (start .rows) (r .end .first) (r .end .rows)
+  pub second-passed : RowsPassed kind cs t (start .second) (start .rows) (r .end .second) (r .end .rows)
+  pub within : StandIn s t (r .same)
+  pub same : differFrom from cs s kind t (r .same) ≡ differFrom from cs s kind t start
 
--- all of them are counted, the first are in the buffer, and each input is passed over so far
-pub record Steps (from : Rows) (cs : List Column) (s : List ℕ) (kind : Rows) (t entry exit : List ℕ) (r : Stepped) : Type 0 where
+-- all that differs is counted
+pub record Counts (from : Rows) (cs : List Column) (s : List ℕ) (kind : Rows) (t : List ℕ) (r : Stepped) : Type 0 where
   pub counts : r .differing ≡ length (inStep from cs s kind t)
-  pub leaves : exit ≡ placed (inStep from cs s kind t) entry
-  pub first-passed : PassedTo from cs s (r .first) (r .rows)
-  pub second-passed : PassedTo kind cs t (r .second) (r .rows)
+  pub first-passed : RowsPassed from cs s 0 0 (r .end .first) (r .end .rows)
+  pub second-passed : RowsPassed kind cs t 0 0 (r .end .second) (r .end .rows)
+  pub within : StandIn s t (r .same)
+  pub same : differFrom from cs s kind t (r .same) ≡ inStep from cs s kind t
 
 -- ---- the rows of two inputs
 

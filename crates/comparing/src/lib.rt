@@ -9,17 +9,20 @@ use row_reading::at_end;
 use row_reading::pass_rows;
 use table::Columns;
 use table::Rows;
+ghost use mathlib.Core.Bool.{cond};
 ghost use mathlib.Core.Path.{_≡_};
-ghost use Prim.Native.Nat.{_+_, _-_, _<_, _^_, _≤_};
-ghost use lib.ListN.{length};
+ghost use Prim.Native.Nat.{_+_, _-_, _<_, _^_, _≤_, suc};
+ghost use lib.Dec.{eqb};
+ghost use lib.ListN.{drop, length};
 ghost use Rattle.number.specs.Number.{toDigits};
 ghost use Rattle.table.specs.Cell.{mostElements};
 ghost use Rattle.table.specs.ColumnList.{listed};
 ghost use Rattle.table.specs.Outcome.{at};
 ghost use Rattle.rows.specs.Bounds.{Within};
-ghost use Rattle.rows.specs.Stream.{read};
+ghost use Rattle.rows.specs.Stream.{read, readRow};
+ghost use Rattle.row_comparing.specs.Contracts.{PairsRow};
 ghost use Rattle.compare.specs.Compare.{Compares, beforeRows, comparedAs, filled, placed, refusedIn, rowsShown};
-ghost use Rattle.comparing.specs.Contracts.{Notes, Steps, behindFirst, haveRows, inStep, marked, markedAt, notedAt, rowsBoth};
+ghost use Rattle.comparing.specs.Contracts.{Counts, Notes, StandIn, Steps, behindFirst, inStep, marked, markedAt, notedAt, rowsBoth, stepsOn};
 
 // ---- places in the buffer
 
@@ -65,83 +68,146 @@ fn note_row(places: &mut [u32], noted: usize, row: u32, differing: u64, count: u
 
 // ---- both inputs in step
 
-// How many cells differ in the rows that both have, how many rows these are, and the places after them.
-struct Stepped {
-    differing: usize,
+// Both inputs behind as many rows, and the place after them in each.
+struct Abreast {
     rows: u64,
     first: usize,
     second: usize,
 }
 
-// Is a row left of both?
-fn have_rows(one: Cursor, first: &[u8], two: Cursor, second: &[u8]) -> bool
-    requires { ⌜ (one .at ≤ length (now first)) × (two .at ≤ length (now second)) ⌝ }
-    ensures { λ r. ⌜ r ≡ haveRows (one .from) (now (first .entry)) (one .at) (two .from) (now (second .entry)) (two .at) ⌝ }
-{
-    let from = one.from;
-    if at_end(from, first, one.at) {
-        return false;
-    }
-    let kind = two.from;
-    !at_end(kind, second, two.at)
+// How many cells differ from a start on, where both stand then, and where both stood before the first row that differs.
+struct Stepped {
+    differing: usize,
+    end: Abreast,
+    same: Abreast,
 }
 
-// As far as both have rows that read.
+// More places than there can be.
+const ALL: usize = 18446744073709551615;
+
+// Is a row left of both, and are fewer places known than are asked for?
+fn steps_on(
+    differing: usize,
+    most: usize,
+    here: Abreast,
+    from: Rows,
+    first: &[u8],
+    kind: Rows,
+    second: &[u8],
+) -> bool
+    requires { ⌜ (here .first ≤ length (now first)) × (here .second ≤ length (now second)) ⌝ }
+    ensures { λ r. ⌜ r ≡ stepsOn differing most from (now (first .entry)) kind (now (second .entry)) here ⌝ }
+{
+    if most <= differing {
+        return false;
+    }
+    if at_end(from, first, here.first) {
+        return false;
+    }
+    !at_end(kind, second, here.second)
+}
+
+// The row of each where both stand.
+fn compare_here(
+    cols: Columns,
+    here: Abreast,
+    from: Rows,
+    first: &[u8],
+    kind: Rows,
+    second: &[u8],
+    a: &mut [i64],
+    b: &mut [i64],
+) -> RowPair
+    requires { ⌜ Within (listed cols) × (here .first ≤ length (now first)) × (here .second ≤ length (now second)) × (mostElements ≤ length (now a)) × (mostElements ≤ length (now b)) ⌝ }
+    ensures { λ r. ⌜ PairsRow (readRow from (listed cols) (drop (here .first) (now (first .entry)))) (now (first .entry)) (suc (here .first)) (readRow kind (listed cols) (drop (here .second) (now (second .entry)))) (now (second .entry)) (suc (here .second)) (cols .count) r ⌝ }
+    ensures { λ _. ⌜ length (now (a .exit)) ≡ length (now (a .entry)) ⌝ }
+    ensures { λ _. ⌜ length (now (b .exit)) ≡ length (now (b .entry)) ⌝ }
+{
+    let one = Cursor {
+        from,
+        at: here.first,
+    };
+    let two = Cursor {
+        from: kind,
+        at: here.second,
+    };
+    compare_row(cols, one, first, two, second, a, b)
+}
+
+// Where both stand, as long as no cell differs.
+fn last_same(differing: usize, here: Abreast, same: Abreast) -> Abreast
+    ensures { λ r. ⌜ r ≡ cond (eqb differing 0) here same ⌝ }
+{
+    if differing != 0 {
+        return same;
+    }
+    here
+}
+
+// From a start on, as far as both have rows that read and fewer places are known than are asked for.
 fn step_rows(
     cols: Columns,
     from: Rows,
     first: &[u8],
     kind: Rows,
     second: &[u8],
+    start: Abreast,
+    most: usize,
     places: &mut [u32],
     a: &mut [i64],
     b: &mut [i64],
 ) -> Stepped
-    requires { ⌜ Within (listed cols) × (length (now first) < 2 ^ 32) × (mostElements ≤ length (now a)) × (mostElements ≤ length (now b)) ⌝ }
-    ensures { λ r. ⌜ Steps from (listed cols) (now (first .entry)) kind (now (second .entry)) (now (places .entry)) (now (places .exit)) r ⌝ }
+    requires { ⌜ Within (listed cols) × (length (now first) < 2 ^ 32) × StandIn (now first) (now second) start × (mostElements ≤ length (now a)) × (mostElements ≤ length (now b)) ⌝ }
+    ensures { λ r. ⌜ Steps from (listed cols) (now (first .entry)) kind (now (second .entry)) start most (now (places .entry)) (now (places .exit)) r ⌝ }
     ensures { λ _. ⌜ length (now (a .exit)) ≡ length (now (a .entry)) ⌝ }
     ensures { λ _. ⌜ length (now (b .exit)) ≡ length (now (b .entry)) ⌝ }
 {
     let count = cols.count;
     let mut differing: usize = 0;
-    let mut rows: u64 = 0;
-    let mut at: usize = 0;
-    let mut place: usize = 0;
-    while have_rows(
-        Cursor { from, at },
-        first,
-        Cursor {
-            from: kind,
-            at: place,
-        },
-        second,
-    ) {
-        let p = compare_row(
-            cols,
-            Cursor { from, at },
-            first,
-            Cursor {
-                from: kind,
-                at: place,
-            },
-            second,
-            a,
-            b,
-        );
+    let mut here = start;
+    let mut same = start;
+    while steps_on(differing, most, here, from, first, kind, second) {
+        let p = compare_here(cols, here, from, first, kind, second, a, b);
         let RowPair::Read(word, next, behind) = p else {
             break;
         };
-        differing = note_row(places, differing, rows as u32, word, count);
-        rows += 1;
-        at = next;
-        place = behind;
+        same = last_same(differing, here, same);
+        differing = note_row(places, differing, here.rows as u32, word, count);
+        here = Abreast {
+            rows: here.rows + 1,
+            first: next,
+            second: behind,
+        };
     }
     Stepped {
         differing,
-        rows,
-        first: at,
-        second: place,
+        end: here,
+        same,
     }
+}
+
+// All that differs, and none of it noted.
+fn count_differing(
+    cols: Columns,
+    from: Rows,
+    first: &[u8],
+    kind: Rows,
+    second: &[u8],
+    a: &mut [i64],
+    b: &mut [i64],
+) -> Stepped
+    requires { ⌜ Within (listed cols) × (length (now first) < 2 ^ 32) × (mostElements ≤ length (now a)) × (mostElements ≤ length (now b)) ⌝ }
+    ensures { λ r. ⌜ Counts from (listed cols) (now (first .entry)) kind (now (second .entry)) r ⌝ }
+    ensures { λ _. ⌜ length (now (a .exit)) ≡ length (now (a .entry)) ⌝ }
+    ensures { λ _. ⌜ length (now (b .exit)) ≡ length (now (b .entry)) ⌝ }
+{
+    let mut none = [0u32; 1];
+    let start = Abreast {
+        rows: 0,
+        first: 0,
+        second: 0,
+    };
+    step_rows(cols, from, first, kind, second, start, ALL, &mut none, a, b)
 }
 
 // ---- the call
@@ -175,28 +241,27 @@ fn filled(places: usize, size: usize) -> usize
     if size / 2 < places { size / 2 } else { places }
 }
 
-// The places that differ, so many of them, into the buffer: both inputs in step once more, where there is a place to fill.
+// As many places as fit into the buffer: both inputs in step once more, from the first row that differs to where the buffer is full.
 fn fill(
     cols: Columns,
     from: Rows,
     first: &[u8],
     kind: Rows,
     second: &[u8],
-    differing: usize,
+    s: Stepped,
     places: &mut [u32],
     a: &mut [i64],
     b: &mut [i64],
 )
-    requires { ⌜ Within (listed cols) × (length (now first) < 2 ^ 32) × (mostElements ≤ length (now a)) × (mostElements ≤ length (now b)) ⌝ }
-    ensures { λ _. ⌜ (differing ≡ length (inStep from (listed cols) (now (first .entry)) kind (now (second .entry))) → now (places .exit) ≡ placed (inStep from (listed cols) (now (first .entry)) kind (now (second .entry))) (now (places .entry))) ⌝ }
+    requires { ⌜ Within (listed cols) × (length (now first) < 2 ^ 32) × StandIn (now first) (now second) (s .same) × (mostElements ≤ length (now a)) × (mostElements ≤ length (now b)) ⌝ }
+    ensures { λ _. ⌜ (Counts from (listed cols) (now (first .entry)) kind (now (second .entry)) s → now (places .exit) ≡ placed (inStep from (listed cols) (now (first .entry)) kind (now (second .entry))) (now (places .entry))) ⌝ }
 {
-    if filled(differing, places.len()) == 0 {
-        return;
-    }
-    step_rows(cols, from, first, kind, second, places, a, b);
+    let same = s.same;
+    let most = filled(s.differing, places.len());
+    step_rows(cols, from, first, kind, second, same, most, places, a, b);
 }
 
-// The rows of two inputs. A refusal of either comes before anything is written, so both are read in step without the buffer first, and what is left of
+// The rows of two inputs. A refusal of either comes before anything is written, so what differs is counted without the buffer first, and what is left of
 // each is passed over.
 fn compare_rows(
     cols: Columns,
@@ -212,28 +277,18 @@ fn compare_rows(
 {
     let mut a = [0i64; table::MOST_ELEMENTS];
     let mut b = [0i64; table::MOST_ELEMENTS];
-    let mut none = [0u32; 1];
-    let s = step_rows(cols, from, first, kind, second, &mut none, &mut a, &mut b);
-    let p = pass_rows(cols, from, first, s.first, s.rows, &mut a);
+    let s = count_differing(cols, from, first, kind, second, &mut a, &mut b);
+    let end = s.end;
+    let p = pass_rows(cols, from, first, end.first, end.rows, &mut a);
     if p.number != 0 {
         return refuse(p.number, p.row, p.column, 0);
     }
-    let q = pass_rows(cols, kind, second, s.second, s.rows, &mut b);
+    let q = pass_rows(cols, kind, second, end.second, end.rows, &mut b);
     if q.number != 0 {
         return refuse(q.number, q.row, q.column, 1);
     }
+    fill(cols, from, first, kind, second, s, places, &mut a, &mut b);
     let differing = s.differing;
-    fill(
-        cols,
-        from,
-        first,
-        kind,
-        second,
-        differing,
-        places,
-        &mut a,
-        &mut b,
-    );
     let more = beyond(p.rows, q.rows);
     let fewer = beyond(q.rows, p.rows);
     let noted = filled(differing, places.len());

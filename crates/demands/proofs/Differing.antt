@@ -1,16 +1,14 @@
 -- The places that `differences` lists: each names two cells that are not equal, each such pair is named, in row and column order. By induction along a row,
--- and then along the rows, with how far a place is past where the list begins. Two lists of the same places in order are one list. And the buffer's numbers.
-use Prim.Native.Nat.{_*_, _+_, _/_, _<_, _≤_, min, suc, zero, ℕ}
+-- and then along the rows, with how far a place is past where the list begins. Two lists of the same places in order are one list.
+use Prim.Native.Nat.{_+_, suc, zero, ℕ}
 use native.Mathlib.Omega.{arith}
 use mathlib.Core.List.{List, [], _++_, _∷_}
 use mathlib.Core.Logic.{_⊎_, inl, inr}
 use mathlib.Core.Option.{Option·none-ne-some, some}
-use mathlib.Core.Path.{_∙_, _≡_, ap, ap₂, refl, subst, sym}
-use lib.Dec.{ltb}
-use lib.ListN.{getD, getElem?, length}
-use borrow.Author.Tests.{ltb-false, ltb-true}
+use mathlib.Core.Path.{_∙_, _≡_, ap₂, refl, subst, sym}
+use lib.ListN.{getElem?}
 use Rattle.compare.proofs.Same.{cell-false, cell-other}
-use Rattle.compare.specs.Compare.{Place, cellDiffers, differences, filled, placed, rowDiffers, sameCell}
+use Rattle.compare.specs.Compare.{Place, cellDiffers, differences, rowDiffers, sameCell}
 use Rattle.demands.specs.TwoNights.{Among, Ascending, Before}
 use Rattle.table.proofs.Laws.{all-append, all-weaken, cond-cases}
 use Rattle.table.specs.All.{All}
@@ -205,38 +203,3 @@ ascends r (xs ∷ first) (ys ∷ second) =
     (all-weaken (InRow r 0 xs ys) (λ (p : Place). All (Before p) (differences (r + 1) first second)) (rowDiffers r 0 xs ys)
     (λ p h. all-weaken (InRows (r + 1) first second) (Before p) (differences (r + 1) first second) (λ q g. inl (omega (arith, h .row-is, g .row-is)))
     (listed (r + 1) first second)) (row-listed r 0 xs ys))
-
--- ---- the buffer
-
-pub filled-least : (n size : ℕ) → filled n size ≡ min n (size / 2)
-unfolding filled
-filled-least n size =
-    cond-cases (λ (m : ℕ). m ≡ min n (size / 2)) (ltb (size / 2) n) (size / 2) n (λ h. omega (arith, ltb-true (size / 2) n h)) (λ h. omega (arith, ltb-false (size / 2) n h))
-
-pub placed-long : (ps : List Place) (entry : List ℕ) → length (placed ps entry) ≡ length entry
-unfolding placed
-placed-long [] entry = refl
-placed-long (p ∷ ps) [] = refl
-placed-long (p ∷ ps) (x ∷ []) = refl
-placed-long (p ∷ ps) (x ∷ y ∷ entry) = ap (λ (n : ℕ). suc (suc n)) (placed-long ps entry)
-
-pub placed-named : (ps : List Place) (entry : List ℕ) (k : ℕ) (p : Place) → k < length entry / 2 → getElem? ps k ≡ some p
-    → (getD (placed ps entry) (2 * k) 0 ≡ p .row) × (getD (placed ps entry) (2 * k + 1) 0 ≡ p .column)
-unfolding placed
-placed-named [] entry k p l e = absurd (Option·none-ne-some p e)
-placed-named (q ∷ ps) [] k p l e = absurd (omega arith)
-placed-named (q ∷ ps) (x ∷ []) k p l e = absurd (omega arith)
-placed-named (q ∷ ps) (x ∷ y ∷ entry) zero p l e = let here : q ≡ p = cc e in rw here (refl, refl)
-placed-named (q ∷ ps) (x ∷ y ∷ entry) (suc k) p l e =
-    let twice : 2 * suc k ≡ suc (suc (2 * k)) = omega arith in
-    let once : 2 * suc k + 1 ≡ suc (suc (2 * k + 1)) = omega arith in
-    rw (once, twice) (placed-named ps entry k p (omega arith) e)
-
-pub placed-rest : (ps : List Place) (entry : List ℕ) (i : ℕ) → 2 * min (length ps) (length entry / 2) ≤ i → getD (placed ps entry) i 0 ≡ getD entry i 0
-unfolding placed
-placed-rest [] entry i l = refl
-placed-rest (p ∷ ps) [] i l = refl
-placed-rest (p ∷ ps) (x ∷ []) i l = refl
-placed-rest (p ∷ ps) (x ∷ y ∷ entry) zero l = absurd (omega arith)
-placed-rest (p ∷ ps) (x ∷ y ∷ entry) (suc zero) l = absurd (omega arith)
-placed-rest (p ∷ ps) (x ∷ y ∷ entry) (suc (suc i)) l = placed-rest ps entry i (omega arith)

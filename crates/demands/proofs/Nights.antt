@@ -13,12 +13,13 @@ use lib.Dec.{eqb, ltb}
 use lib.ListN.{getD, getElem?, length}
 use lib.Seq.{ext-getD}
 use borrow.Author.Tests.{eqb-false, eqb-true, ltb-false, ltb-true}
+use Rattle.compare.proofs.Placed.{filled-least, placed-long, placed-named, placed-rest}
 use Rattle.compare.proofs.Same.{differences-none, differences-self, differences-turned, rows-long}
 use Rattle.compare.specs.Compare.{Compared, Place, beforeRows, bothShow, compare, comparedAs, counted, differences, filled, placed, refusedIn, rowsShown, shows}
 use Rattle.compare.specs.declared.Comparison.{Comparison}
 use Rattle.demands.proofs.Demand1.{output-of}
 use Rattle.demands.proofs.Demand2.{declared-columns}
-use Rattle.demands.proofs.Differing.{InRows, among-all, ascends, complete, filled-least, listed, one-list, placed-long, placed-named, placed-rest}
+use Rattle.demands.proofs.Differing.{InRows, among-all, ascends, complete, listed, one-list}
 use Rattle.demands.proofs.Unseen.{unseen}
 use Rattle.demands.proofs.Writing.{up-to-all}
 use Rattle.demands.specs.Demands.{Converter, Demand2, Valid, output}

@@ -5,6 +5,7 @@ use mathlib.Core.Bool.{false, true}
 use mathlib.Core.List.{List}
 use mathlib.Core.Path.{_∙_, _≡_, refl}
 use lib.ListN.{drop, length}
+use Rattle.row_reading.specs.Contracts.{RowsPassed}
 use Rattle.rows.proofs.Laws.{within-step}
 use Rattle.rows.specs.Bounds.{Within}
 use Rattle.rows.specs.Sequence.{rowThen}
@@ -14,11 +15,6 @@ use Rattle.table.specs.Outcome.{answerOf, at}
 use Rattle.table.specs.Result.{bad, good}
 use Rattle.table.specs.declared.Column.{Column}
 use Rattle.table.specs.declared.Rows.{Rows}
-
-pub record RowsPassed (from : Rows) (cols : List Column) (s : List ℕ) (start before place rows : ℕ) : Type 0 where
-  pub inside : place ≤ length s
-  pub fewer : rows ≤ place
-  pub ahead : passed before (read from cols (drop start s)) ≡ passed rows (read from cols (drop place s))
 
 module _ (from : Rows) (cols : List Column) (s : List ℕ) (start before : ℕ) where
   pub pass-start : start ≤ length s → before ≤ start → RowsPassed from cols s start before start before

@@ -9,7 +9,7 @@ use Rattle.row_reading.specs.declared.Begin.{Begin}
 use Rattle.row_reading.specs.declared.Close.{Close}
 use Rattle.row_reading.specs.declared.Next.{Next}
 use Rattle.row_reading.specs.declared.Passed.{Passed}
-use Rattle.rows.specs.Stream.{isSet, readCells, readEnd, readStart}
+use Rattle.rows.specs.Stream.{isSet, passed, read, readCells, readEnd, readStart}
 use Rattle.table.specs.Cell.{Cell}
 use Rattle.table.specs.Outcome.{Refusal, at}
 use Rattle.table.specs.Result.{Result, _>>=_, bad, good, refusedAs}
@@ -66,3 +66,9 @@ PassesCells definition s place (Passed.Refused n k) = definition ≡ bad (at k n
 -- a row takes at least a byte
 abbrev pub PassesRow : Result Refusal (List Cell × List ℕ) → List ℕ → ℕ → Passed → Type 0
 PassesRow definition s place r = PassesCells definition s (suc place) r
+
+-- rows passed over from a start, behind so many before it: a place, behind so many; the count from the start on is the count of going on from there
+pub record RowsPassed (from : Rows) (cols : List Column) (s : List ℕ) (start before place rows : ℕ) : Type 0 where
+  pub inside : place ≤ length s
+  pub fewer : rows ≤ place
+  pub ahead : passed before (read from cols (drop start s)) ≡ passed rows (read from cols (drop place s))

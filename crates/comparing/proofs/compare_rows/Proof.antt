@@ -1,4 +1,4 @@
--- comparing::compare_rows: both inputs in step, then what is left of each; each way out is one law of Calls.
+-- comparing::compare_rows: what differs is counted, then what is left of each input passed over; each way out is one law of Calls.
 use mathlib.Core.Path.{_∙_, _≡_, ap, sym}
 use lib.ListN.{length}
 use denote.Ref.{now}
@@ -16,14 +16,14 @@ use Rattle.comparing.proofs.compare_rows.Tie as tie
 -- ---- what is left of the first input, behind the rows in step
 
 module _ (c : tie.After-pass-rows) where
-  abbrev at-step : tie.After-step-rows
-  at-step = c .before .before .before .before .before
+  abbrev at-count : tie.After-count-differing
+  at-count = c .before .before .before .before .before
 
   abbrev start : tie.Start
-  start = at-step .before .before .before .before .before .before .before
+  start = at-count .before .before .before .before .before .before
 
   first-walk : c .pass-rows .result ≡ answerOf (passed 0 (read (start .args .from) (listed (start .args .cols)) (now (start .args .first))))
-  first-walk = c .pass-rows .ensures .0 ∙ ap answerOf (sym (at-step .step-rows .ensures .0 .first-passed .ahead))
+  first-walk = c .pass-rows .ensures .0 ∙ ap answerOf (sym (at-count .count-differing .ensures .0 .first-passed .ahead))
 
 returns : tie.Need-returns
 returns c =
@@ -41,7 +41,7 @@ module _ (c : tie.After-pass-rows2) where
   at-first = c .before .before .before .before .before
 
   second-walk : c .pass-rows2 .result ≡ answerOf (passed 0 (read (start at-first .args .kind) (listed (start at-first .args .cols)) (now (start at-first .args .second))))
-  second-walk = c .pass-rows2 .ensures .0 ∙ ap answerOf (sym (at-step at-first .step-rows .ensures .0 .second-passed .ahead))
+  second-walk = c .pass-rows2 .ensures .0 ∙ ap answerOf (sym (at-count at-first .count-differing .ensures .0 .second-passed .ahead))
 
   first-read : at-first .pass-rows .result .number ≡ 0
       → (rowsShown 0 (read (start at-first .args .from) (listed (start at-first .args .cols)) (now (start at-first .args .first)))
@@ -63,7 +63,7 @@ fill-requires : tie.Need-fill-requires
 fill-requires c κs =
     let e = c .before .before .before .before .before .before in
     let a = start (at-first e) in
-    (a .pre .0, a .pre .1, search needs, search needs)
+    (a .pre .0, a .pre .1, at-count (at-first e) .count-differing .ensures .0 .within, search needs, search needs)
 
 returns-3 : tie.Need-returns-3
 returns-3 c =
@@ -73,21 +73,20 @@ returns-3 c =
     let a = start (at-first d) in
     let p = at-first d .pass-rows in
     let q = d .pass-rows2 in
-    let st = at-step (at-first d) .step-rows .ensures .0 in
+    let counted = at-count (at-first d) .count-differing .ensures .0 in
     let one = first-read d (d .before .before .if1 .left) in
     let two = walk-read (a .args .kind) (listed (a .args .cols)) (now (a .args .second)) (q .result) (second-walk d) (e .if2 .left) in
     let shown = both-shown (listed (a .args .cols)) (a .args .from) (now (a .args .first)) (a .args .kind) (now (a .args .second)) (now (a .args .places)) (one .0) (two .0) in (
-      counts-are _ (p .result .rows) (q .result .rows) _ _ _ (length (now (a .args .places))) _ _ _ (st .counts) (one .1) (two .1) (c .before .before .beyond .ensures) (c .before .beyond2 .ensures)
+      counts-are _ (p .result .rows) (q .result .rows) _ _ _ (length (now (a .args .places))) _ _ _ (counted .counts) (one .1) (two .1) (c .before .before .beyond .ensures) (c .before .beyond2 .ensures)
           (c .filled .ensures ∙ ap (filled _) (c .before .before .before .before .before .before .places .given))
           ∙ sym (ap (λ (x : Compared). x .answer) shown),
-      f .ensures (st .counts) ∙ sym (ap (λ (x : Compared). x .buffer) shown),
+      f .ensures counted ∙ sym (ap (λ (x : Compared). x .buffer) shown),
     )
 
 pub compare-rows-spec : {M : Type 1} → statement M
 compare-rows-spec =
     tie.close
     (tie.spec
-    (λ c. search needs)
     (λ c. search needs)
     (λ c. search needs)
     (λ c κs. search needs)

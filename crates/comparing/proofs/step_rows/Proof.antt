@@ -1,9 +1,10 @@
 -- comparing::step_rows: the loop over rows (SteppedTo); each way out and each turn is one law of Stepping.
 use Prim.Native.Nat.{_-_, _≤_}
+use mathlib.Core.Logic.{inl}
 use mathlib.Core.Path.{_∙_, _≡_, refl, subst, sym}
 use lib.ListN.{length}
 use denote.Ref.{now}
-use Rattle.comparing.proofs.Stepping.{SteppedTo, none-left, step-end, step-more, step-start, unread-left}
+use Rattle.comparing.proofs.Stepping.{SteppedTo, step-end, step-more, step-start, stopped, unread-left}
 use Rattle.row_comparing.specs.Contracts.{PairsRow}
 use Rattle.table.proofs.ColumnList.{listed-length}
 use Rattle.table.specs.ColumnList.{listed}
@@ -13,26 +14,26 @@ use Rattle.comparing.proofs.step_rows.Statement.{statement}
 use Rattle.comparing.proofs.step_rows.Tie as tie
 
 abbrev Inv-loop : tie.InvT-loop
-Inv-loop cols from first kind second places₀ a₀ b₀ count differing₀ rows₀ place₀ other₀ places a b differing rows place other =
-    SteppedTo from kind (listed cols) first second places₀ places differing rows place other × (length places ≡ length places₀) × (length a ≡ length a₀) × (length b ≡ length b₀)
+Inv-loop cols from first kind second most places₀ a₀ b₀ count differing₀ here₀ same₀ places a b differing here same =
+    SteppedTo from kind (listed cols) first second here₀ places₀ places differing here same × (length places ≡ length places₀) × (length a ≡ length a₀) × (length b ≡ length b₀)
 
 abbrev μ-loop : tie.MeasureT-loop
-μ-loop cols from first kind second places₀ a₀ b₀ count differing₀ rows₀ place₀ other₀ places a b differing rows place other = length first - place
+μ-loop cols from first kind second most places₀ a₀ b₀ count differing₀ here₀ same₀ places a b differing here same = length first - here .first
 
 loop-holds : tie.Need-loop-holds Inv-loop μ-loop
 loop-holds c =
     let a = c .before .before .before in
-    (step-start (a .args .from) (a .args .kind) (listed (a .args .cols)) (now (a .args .first)) (now (a .args .second)) (now (a .args .places)), refl, refl, refl)
+    (step-start (a .args .from) (a .args .kind) (listed (a .args .cols)) (now (a .args .first)) (now (a .args .second)) (a .args .start) (now (a .args .places)) (a .pre .2), refl, refl, refl)
 
-have-rows-requires : tie.Need-have-rows-requires Inv-loop μ-loop
-have-rows-requires c κs = (c .loop .inv .0 .first .inside, c .loop .inv .0 .second .inside)
+steps-on-requires : tie.Need-steps-on-requires Inv-loop μ-loop
+steps-on-requires c κs = (c .loop .inv .0 .first .inside, c .loop .inv .0 .second .inside)
 
-compare-row-requires : tie.Need-compare-row-requires Inv-loop μ-loop
-compare-row-requires c κs =
+compare-here-requires : tie.Need-compare-here-requires Inv-loop μ-loop
+compare-here-requires c κs =
     let l = c .before .before .before .before in
     let a = l .before .before .before .before in
     let inv = l .loop .inv in
-    (a .pre .0, inv .0 .first .inside, inv .0 .second .inside, omega (arith, inv .2, a .pre .2), omega (arith, inv .3, a .pre .3))
+    (a .pre .0, inv .0 .first .inside, inv .0 .second .inside, omega (arith, inv .2, a .pre .3), omega (arith, inv .3, a .pre .4))
 
 -- ---- a row of each
 
@@ -41,41 +42,50 @@ few a = omega (arith, a .pre .0 .few, listed-length (a .args .cols))
 
 cast-note-row : tie.Need-cast-note-row Inv-loop μ-loop
 cast-note-row c =
-    let l = c .before .before .before .before .before .before .before .before .before .before .before in
+    let l = c .before .before .before .before .before .before .before .before .before .before .before .before .before in
     let a = l .before .before .before .before in
     omega (arith, l .loop .inv .0 .first .fewer, l .loop .inv .0 .first .inside, a .pre .1)
 
 note-row-requires : tie.Need-note-row-requires Inv-loop μ-loop
 note-row-requires c κs =
-    let l = c .before .before .before .before .before .before .before .before .before .before .before in
+    let l = c .before .before .before .before .before .before .before .before .before .before .before .before .before in
     let a = l .before .before .before .before in
     (few a, omega (arith, few a, l .loop .inv .0 .few, l .loop .inv .0 .first .fewer, l .loop .inv .0 .first .inside, a .pre .1))
 
-add-rows : tie.Need-add-rows Inv-loop μ-loop
-add-rows c =
-    let l = c .before .before .before .before .before .before .before .before .before .before .before .before .before .before in
-    let a = l .before .before .before .before in
-    omega (arith, l .loop .inv .0 .first .fewer, l .loop .inv .0 .first .inside, a .pre .1)
+-- the row is noted: where it was found to read, and where the loop was
+module _ (c : tie.After-struct-known2 Inv-loop μ-loop) where
+  abbrev read : tie.After-known-told Inv-loop μ-loop
+  read = c .before .before .before .before .before .before .before
+
+  abbrev at-loop : tie.At-loop Inv-loop μ-loop
+  at-loop = read .before .before .before .before .before .before .before .before .before .before
+
+  abbrev start : tie.Start Inv-loop μ-loop
+  start = at-loop .before .before .before .before
+
+add-t27 : tie.Need-add-t27 Inv-loop μ-loop
+add-t27 c =
+    let inv = at-loop c .loop .inv in
+    omega (arith, inv .0 .first .fewer, inv .0 .first .inside, start c .pre .1)
 
 loop-less : tie.Need-loop-less Inv-loop μ-loop
 loop-less c =
-    let d = c .before .before .before .before in
-    let h = subst (PairsRow _ _ _ _ _ _ _) (d .before .p .given .1) (d .before .before .before .before .before .compare-row .ensures .0) in
+    let d = read c in
+    let h = subst (PairsRow _ _ _ _ _ _ _) (d .before .p .given .1) (d .before .before .before .before .before .compare-here .ensures .0) in
     omega (arith, h .within .0, h .within .1)
 
 loop-again : tie.Need-loop-again Inv-loop μ-loop
 loop-again c =
-    let n = c .before .before .note-row in
-    let d = c .before .before .before .before in
-    let p = d .before .before .before .before .before .compare-row in
-    let l = d .before .before .before .before .before .before .before .before .before .before in
-    let a = l .before .before .before .before in
-    let inv = l .loop .inv in
+    let d = read c in
+    let p = d .before .before .before .before .before .compare-here in
+    let a = start c in
+    let inv = at-loop c .loop .inv in
+    let n = c .before .before .before .note-row in
     let tested = d .before .before .before .before .before .before .before .before in
-    let more = sym (tested .before .have-rows .ensures) ∙ tested .if1 .taken in
+    let more = sym (tested .before .steps-on .ensures) ∙ tested .if1 .taken in
     let h = subst (PairsRow _ _ _ _ _ _ _) (d .before .p .given .1) (p .ensures .0) in (
-      step-more (a .args .from) (a .args .kind) (listed (a .args .cols)) (now (a .args .first)) (now (a .args .second)) (now (a .args .places)) (a .pre .0) _ _ _ _ _ (inv .0) more
-          (a .args .cols .count) (listed-length (a .args .cols)) _ _ _ h _ _ (n .ensures),
+      step-more (a .args .from) (a .args .kind) (listed (a .args .cols)) (now (a .args .first)) (now (a .args .second)) (a .args .start) (now (a .args .places)) (a .pre .0) _ _ _ _ (inv .0) _ more
+          (a .args .cols .count) (listed-length (a .args .cols)) _ _ _ h _ _ (n .ensures) _ (c .before .before .before .before .before .before .last-same .ensures),
       n .ensures .long ∙ inv .1,
       p .ensures .1 .0 ∙ inv .2,
       p .ensures .1 .1 ∙ inv .3,
@@ -97,9 +107,10 @@ returns c =
     let l = c .before .before in
     let a = l .before .before .before .before in
     let inv = l .loop .inv in (
-      step-end (a .args .from) (a .args .kind) (listed (a .args .cols)) (now (a .args .first)) (now (a .args .second)) (now (a .args .places)) (a .pre .0) _ _ _ _ _ (inv .0)
-          (none-left (a .args .from) (a .args .kind) (listed (a .args .cols)) (a .pre .0) (now (a .args .first)) (now (a .args .second)) (l .loop .at) (l .loop .place) _
-          (sym (c .before .have-rows .ensures) ∙ c .if1 .left)),
+      step-end (a .args .from) (a .args .kind) (listed (a .args .cols)) (now (a .args .first)) (now (a .args .second)) (a .args .start) (now (a .args .places)) (a .pre .0) _ _ _ _ (inv .0)
+          (a .args .most)
+          (stopped (a .args .from) (a .args .kind) (listed (a .args .cols)) (a .pre .0) (now (a .args .first)) (now (a .args .second)) (l .loop .here) (l .loop .differing) (a .args .most)
+          (sym (c .before .steps-on .ensures) ∙ c .if1 .left)),
       (inv .2, inv .3),
     )
 
@@ -107,21 +118,23 @@ same-length-4 : tie.Need-same-length-4 Inv-loop μ-loop
 same-length-4 c = c .before .before .before .before .before .before .before .before .before .loop .inv .1
 
 same-length-5 : tie.Need-same-length-5 Inv-loop μ-loop
-same-length-5 c = c .before .before .before .before .compare-row .ensures .1 .0 ∙ c .before .before .before .before .before .before .before .before .before .loop .inv .2
+same-length-5 c = c .before .before .before .before .compare-here .ensures .1 .0 ∙ c .before .before .before .before .before .before .before .before .before .loop .inv .2
 
 same-length-6 : tie.Need-same-length-6 Inv-loop μ-loop
-same-length-6 c = c .before .before .before .before .compare-row .ensures .1 .1 ∙ c .before .before .before .before .before .before .before .before .before .loop .inv .3
+same-length-6 c = c .before .before .before .before .compare-here .ensures .1 .1 ∙ c .before .before .before .before .before .before .before .before .before .loop .inv .3
 
 returns-2 : tie.Need-returns-2 Inv-loop μ-loop
 returns-2 c =
     let l = c .before .before .before .before .before .before .before .before .before in
     let a = l .before .before .before .before in
     let inv = l .loop .inv in
-    let p = c .before .before .before .before .compare-row in
-    let more = sym (c .before .before .before .before .before .before .before .before .have-rows .ensures) ∙ c .before .before .before .before .before .before .before .if1 .taken in
+    let p = c .before .before .before .before .compare-here in
+    let more = sym (c .before .before .before .before .before .before .before .before .steps-on .ensures) ∙ c .before .before .before .before .before .before .before .if1 .taken in
     let u = subst (PairsRow _ _ _ _ _ _ _) (c .enum-told .given .1) (p .ensures .0) in (
-      step-end (a .args .from) (a .args .kind) (listed (a .args .cols)) (now (a .args .first)) (now (a .args .second)) (now (a .args .places)) (a .pre .0) _ _ _ _ _ (inv .0)
-          (unread-left (a .args .from) (a .args .kind) (listed (a .args .cols)) (a .pre .0) (now (a .args .first)) (now (a .args .second)) (l .loop .at) (l .loop .place) _ more u),
+      step-end (a .args .from) (a .args .kind) (listed (a .args .cols)) (now (a .args .first)) (now (a .args .second)) (a .args .start) (now (a .args .places)) (a .pre .0) _ _ _ _ (inv .0)
+          (a .args .most)
+          (inl (unread-left (a .args .from) (a .args .kind) (listed (a .args .cols)) (a .pre .0) (now (a .args .first)) (now (a .args .second)) (l .loop .here) (l .loop .differing) (a .args .most)
+          more u)),
       (p .ensures .1 .0 ∙ inv .2, p .ensures .1 .1 ∙ inv .3),
     )
 
@@ -132,13 +145,14 @@ step-rows-spec =
     Inv-loop
     μ-loop
     loop-holds
-    have-rows-requires
-    compare-row-requires
+    steps-on-requires
+    compare-here-requires
     (λ c. search needs)
     (λ c. search needs)
+    (λ c κs. search needs)
     cast-note-row
     note-row-requires
-    add-rows
+    add-t27
     loop-less
     loop-again
     same-length

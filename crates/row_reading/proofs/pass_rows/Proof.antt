@@ -6,8 +6,8 @@ use mathlib.Core.Path.{_∙_, _≡_, refl, subst, sym}
 use lib.ListN.{drop, length}
 use denote.Ref.{now}
 use Rattle.table.specs.ColumnList.{listed}
-use Rattle.row_reading.proofs.PassedRows.{RowsPassed, pass-end, pass-more, pass-start, pass-stop}
-use Rattle.row_reading.specs.Contracts.{PassesRow}
+use Rattle.row_reading.proofs.PassedRows.{pass-end, pass-more, pass-start, pass-stop}
+use Rattle.row_reading.specs.Contracts.{PassesRow, RowsPassed}
 use Rattle.rows.specs.Stream.{atEnd}
 use borrow.Author.Needs.{needs}
 use borrow.Author.Tests.{not-false, not-true}
