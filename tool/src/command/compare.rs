@@ -124,7 +124,8 @@ impl Pair<'_> {
             return of_input(number, End::Refused(report::too_long(stream.input_name, "")));
         }
         // Converting is refused there, too, and tells where the row begins.
-        let refused = match self.converted(stream) {
+        let decls = &self.fields.decls;
+        let refused = match sailmortar::convert_pieces(decls, stream.from, Rows::Binary2, stream.input, ROOM, |_| Ok(())) {
             Err(Error::Refused(located)) => located,
             _ => *refused,
         };
@@ -136,14 +137,11 @@ impl Pair<'_> {
         of_input(number, End::Refused(report::row(stream, &refused, &stands)))
     }
 
-    /// How many rows an input has, or what it is refused with.
-    fn converted(&self, stream: &Stream) -> Result<u64, Error> {
-        let decls = &self.fields.decls;
-        sailmortar::convert_pieces(decls, stream.from, Rows::Binary2, stream.input, ROOM, |_| Ok(())).map(|done| done.rows)
-    }
-
-    fn rows_of_both(&self, compared: &Comparison) -> Result<u64, Trouble> {
-        self.converted(&self.first).map(|rows| rows - compared.first_beyond).map_err(|error| self.trouble(error))
+    /// How many rows both inputs have: all that the first has beyond nothing, but for those that it has beyond the second.
+    fn rows_of_both(&self, compared: &Comparison) -> Result<u64, End> {
+        let Pair { fields, first, .. } = self;
+        let beside_nothing = sailmortar::compare(&fields.decls, first.from, first.input, first.from, &[], &mut []);
+        beside_nothing.map(|all| all.first_beyond - compared.first_beyond).map_err(|refused| self.refused(&refused))
     }
 
     /// Both were read well before: it is memory that there is too little of.
