@@ -77,8 +77,8 @@ returns-3 c =
     let one = first-read d (d .before .before .if1 .left) in
     let two = walk-read (a .args .kind) (listed (a .args .cols)) (now (a .args .second)) (q .result) (second-walk d) (e .if2 .left) in
     let shown = both-shown (listed (a .args .cols)) (a .args .from) (now (a .args .first)) (a .args .kind) (now (a .args .second)) (now (a .args .places)) (one .0) (two .0) in (
-      counts-are _ (p .result .rows) (q .result .rows) _ _ _ (length (now (a .args .places))) _ _ _ (counted .counts) (one .1) (two .1) (c .before .before .beyond .ensures) (c .before .beyond2 .ensures)
-          (c .filled .ensures ∙ ap (filled _) (c .before .before .before .before .before .before .places .given))
+      counts-are _ (p .result .rows) (q .result .rows) _ _ _ (length (now (a .args .places))) _ _ _ (counted .counts) (one .1) (two .1)
+          (c .before .before .beyond .ensures) (c .before .beyond2 .ensures) (c .filled .ensures ∙ ap (filled _) (c .before .before .before .before .before .before .places .given))
           ∙ sym (ap (λ (x : Compared). x .answer) shown),
       f .ensures counted ∙ sym (ap (λ (x : Compared). x .buffer) shown),
     )
