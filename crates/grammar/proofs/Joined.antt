@@ -16,19 +16,21 @@ use Rattle.fields.proofs.Refusals.{AtPlace, declare-fails}
 use Rattle.fields.specs.Fields.{declare}
 use Rattle.fields.specs.Front.{front}
 use Rattle.grammar.proofs.PartJoined.{gone-on, rows-short, whole-ends}
-use Rattle.grammar.proofs.Staying.{followed-nothing, followed-rows, row-within}
+use Rattle.grammar.proofs.Pieces.{piece-place}
+use Rattle.grammar.proofs.Staying.{Numbered, followed-nothing, followed-rows, row-within, run-numbered}
 use Rattle.grammar.specs.Parts.{Nothing, OneCall, PartOf, PartsOf, SoFar, answerIn, convertLong, firstOf, no-parts, part-then}
 use Rattle.parts.proofs.Laws.{Counted, all-counted, all-used, is-used, join-ended, join-none, join-unused, join-used, joined-final, joined-not-final, last-final, no-end, other-final, parts-more}
 use Rattle.parts.specs.Join.{endedWith, goneOn, isFinal, isUsed, join, mostCount, nothing}
 use Rattle.parts.specs.declared.Joined.{Joined}
 use Rattle.parts.specs.declared.Part.{Part}
+use Rattle.rows.proofs.Calls.{converts}
 use Rattle.rows.specs.Convert.{convert, converting, underColumns}
-use Rattle.rows.specs.Pieces.{convertPiece, placeUnder}
+use Rattle.rows.specs.Pieces.{convertPiece, placeOf, placeUnder}
 use Rattle.rows.specs.Sequence.{row}
 use Rattle.rows.specs.Stream.{read, run}
 use Rattle.table.proofs.Laws.{bad-good}
 use Rattle.table.specs.All.{AreBytes}
-use Rattle.table.specs.Outcome.{Call, Outcome, Refusal, answerOf, bufferOf, ending, mostInput, refused, rowsDone, written}
+use Rattle.table.specs.Outcome.{Call, Outcome, Refusal, accepted, answerOf, bufferOf, ending, mostInput, refused, rowsDone, written}
 use Rattle.table.specs.Result.{Fails, Result, bad, fails, good}
 use Rattle.table.specs.declared.Answer.{Answer}
 use Rattle.table.specs.declared.Column.{Column}
@@ -323,3 +325,15 @@ long-is-convert decls from to input out h =
     same-front : (r : Result Refusal (List Column)) → declare decls ≡ r → declare decls ≡ front decls (length input)
     same-front (good cs) d = d ∙ sym (front-declared decls (length input) cs d h)
     same-front (bad e) d = d ∙ sym (front-undeclared decls (length input) e d)
+
+-- a call that is accepted has come to the end of its input
+pub accepted-place : (decls : List ℕ) (from to : Rows) (input out : List ℕ) (cs : List Column) → declare decls ≡ good cs → length input ≤ mostInput
+    → convert decls from to input out .answer .number ≡ 0 → convertPiece decls from to input out .place ≡ length input
+unfolding ending answerOf placeOf
+accepted-place decls from to input out cs d h z =
+    piece-place decls from to input out cs (front-declared decls (length input) cs d h)
+    ∙ go (run from to cs (length out) input) (run-numbered from to cs (length out) input) (sym (ap (λ (c : Call). c .answer .number) (converts decls from to input out cs d h)) ∙ z)
+  where
+    go : (o : Outcome) → Numbered o → answerOf o .number ≡ 0 → placeOf from cs input o ≡ length input
+    go (accepted r w) n e = refl
+    go (refused x r w) n e = absurd (omega (arith, n, e))
