@@ -6,7 +6,8 @@
 // many places the index has, which held 4008636142, and in the place of the room stands the row. Its line has the numbers of the index's answer
 // and its places first, then those of the fetch, into 100 bytes. `k` compares two nights that stand one behind the other in the input: in the
 // place of the room stands how many bytes the first has, and in two digits how many numbers are lent. Its line has the numbers of the answer and
-// sixteen numbers that held 4008636142, lent or not.
+// sixteen numbers that held 4008636142, lent or not. `j` joins parts of an input of 100 bytes to nothing, in the room given: each byte of the input
+// is a number of a part. Its line has the eight numbers.
 ghost use Prim.Native.Nat.{_<_, _≤_};
 ghost use lib.ListN.{length};
 ghost use Rattle.night.specs.Places.{Behind};
@@ -32,7 +33,7 @@ fn say_answer(answer: &[u64; 5]) {
     say_number(answer[4]);
 }
 
-fn say_comparison(answer: &[u64; 8]) {
+fn say_eight(answer: &[u64; 8]) {
     let mut k: usize = 0;
     while k < 8 {
         say_number(answer[k]);
@@ -197,7 +198,7 @@ fn compare_in(
         &mut places[..lent],
         &mut answer,
     );
-    say_comparison(&answer);
+    say_eight(&answer);
     say(b" places");
     say_places(places);
 }
@@ -219,6 +220,29 @@ fn compare(decls: &[u8], from: u32, kind: u32, input: &[u8], parts: usize) {
     }
 }
 
+// Each byte as a number.
+fn numbers_of(input: &[u8], parts: &mut [u64]) {
+    let mut k: usize = 0;
+    while k < input.len() {
+        if parts.len() <= k {
+            return;
+        }
+        parts[k] = input[k] as u64;
+        k += 1;
+    }
+}
+
+fn join(input: &[u8], room: usize) {
+    let mut parts = [0u64; 90];
+    let mut joined = [0u64; 8];
+    numbers_of(input, &mut parts);
+    if input.len() <= 90 {
+        let n = input.len();
+        sailmortar::sailmortar_join(100, room as u64, &parts[..n], &mut joined);
+    }
+    say_eight(&joined);
+}
+
 fn call(letter: u8, decls: &[u8], from: u32, to: u32, input: &[u8], out: &mut [u8]) {
     match letter {
         b'p' => convert_prefixes(decls, from, to, input, out),
@@ -228,6 +252,7 @@ fn call(letter: u8, decls: &[u8], from: u32, to: u32, input: &[u8], out: &mut [u
         b'e' => encode(input, out),
         b'i' => index_of(decls, from, to as usize, input, out.len() as u64),
         b'k' => compare(decls, from, to, input, out.len()),
+        b'j' => join(input, out.len()),
         _ => convert(decls, from, to, input, out),
     }
 }

@@ -1,7 +1,7 @@
 -- Each turn says a number.
 use borrow.Author.Needs.{needs}
-use Rattle.night.proofs.say_comparison.Statement.{statement}
-use Rattle.night.proofs.say_comparison.Tie as tie
+use Rattle.night.proofs.say_eight.Statement.{statement}
+use Rattle.night.proofs.say_eight.Tie as tie
 use Prim.Native.Nat.{_-_, _≤_}
 
 abbrev Inv-loop : tie.InvT-loop
@@ -10,8 +10,8 @@ Inv-loop answer k₀ k = k ≤ 8
 abbrev μ-loop : tie.MeasureT-loop
 μ-loop answer k₀ k = 8 - k
 
-pub say-comparison-spec : {M : Type 1} → statement M
-say-comparison-spec =
+pub say-eight-spec : {M : Type 1} → statement M
+say-eight-spec =
     tie.close
     (tie.spec
     Inv-loop
