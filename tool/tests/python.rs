@@ -62,7 +62,7 @@ fn the_example_runs() {
 fn the_example_in_its_text_holds() {
     let output = python(&["-m", "doctest", "-v", &format!("{ROOT}/python/sailmortar.py")]);
     assert_quiet(&output);
-    assert!(text(&output.stdout).contains("8 passed"), "{}", text(&output.stdout));
+    assert!(text(&output.stdout).contains("10 passed"), "{}", text(&output.stdout));
 }
 
 #[test]
@@ -116,6 +116,11 @@ fn one_row_is_found_by_an_index() {
 #[test]
 fn two_nights_are_compared() {
     assert_tests_pass("test_compare");
+}
+
+#[test]
+fn streams_are_converted_in_parts_on_several_threads() {
+    assert_tests_pass("test_stream");
 }
 
 #[test]
