@@ -221,15 +221,15 @@ def convert_stream(
     long: bool = False,
 ) -> Answer:
     """Rows of the kind `source` from a reader, converted to rows of the kind `target` into a writer: files opened in binary mode, pipes,
-    io.BytesIO. Parts of the rows are converted on so many threads at once; None is as many as there are cores.
+    io.BytesIO. Parts of them are converted at once, on so many threads; None is as many as there are cores.
 
-    What is written, and answered or refused, is what convert gives for the whole input. A refusal is raised as Refused: the rows before the bad
-    one are written, so that its `output` is empty, and its `offset` counts from where the reader stood. The reader has been read further than
-    that. What a reader or a writer raises is passed on, and some rows are written then.
+    What is written, and answered or refused, is what convert gives for the whole input. A refusal is raised as Refused: the rows before
+    the bad one are written, so that its `output` is empty, and its `offset` counts from where the reader stood. The reader has been read
+    further than that. What a reader or a writer raises is passed on; then some rows are written.
 
-    An input over its size, 1 GiB, is refused before any row. So a plain file is converted as it is read, and no further than it was long at the
-    start; what is none (a pipe, a compressed file) is read to its end first. With `long` an input may have any length, and all are converted as
-    they are read, in memory for some parts of 1 MiB a thread; a row that is not whole within 64 MiB is judged by these as by all of the input.
+    An input over its size, 1 GiB, is refused before any row. So a plain file is converted as it is read, up to the length that it had at
+    the start; what is none (a pipe, a compressed file) is read to its end first. With `long` an input may have any length, and each is
+    converted as it is read, in memory for some parts of 1 MiB a thread; a row that is not whole within 64 MiB is judged by these alone.
     """
     kinds, count = (Rows.named(source), Rows.named(target)), _thread_count(threads)
     with _view("fields", fields) as text:
@@ -378,7 +378,7 @@ class Index(NamedTuple):
             return output
 
 
-_LINE = 4096  # The room for a line at first.
+_LINE = 4096  # The room for a line at first: more than most have.
 _IN_WRITING = (14, 16)  # What a row that reads is refused with: always at a cell.
 
 
@@ -703,7 +703,6 @@ _PART_ROOM = 1 << 23  # For what a part becomes, and for any row: 64 cells of 4,
 _LONGEST_ROW = 1 << 26  # Where the input may have any length.
 _ENDLESS = (1 << 64) - 1  # The length of an input whose end was not met yet, and the room that a writer has.
 _CUT = (8, 10)  # What a part is refused with that ends inside a row.
-_WHITE = b"\t\n\r "
 
 
 class _Reader(Protocol):
@@ -838,7 +837,7 @@ class _Part(NamedTuple):
 
 
 class _Joined(ctypes.Structure):
-    """How far the parts joined have come: the answer, where the next part has to begin, how many there were, and whether this is the end."""
+    """How far the parts joined have come: the answer, where the next part has to begin, how many parts, and whether this is the end."""
 
     _fields_ = [(name, ctypes.c_uint64) for name in ("number", "row", "column", "rows", "bytes", "place", "parts", "ended")]
 
@@ -925,7 +924,7 @@ class _Conversion:
         place, most = self._joined.place, self._longest_row
         pieces = [part.given[place - part.start :]]
         length = pieces[0].nbytes
-        # Twice as much each time: so a long row is not begun over and over.
+        # Twice as much each time, so that a long row is not begun over and over.
         wanted = min(2 * length, most) if is_cut else length
         while length < wanted and (self._parts or not self._input.is_at_end):
             pieces.append(self._parts.popleft().given if self._parts else self._next()[1])
@@ -937,17 +936,22 @@ class _Conversion:
 
 
 def _bare_length(text: memoryview) -> int:
-    """How many bytes there are before the white space at the end."""
-    return len(text.tobytes().rstrip(_WHITE)) if text.nbytes and text[-1] in _WHITE else text.nbytes
+    """How many bytes there are before the white space at the end, of which there is little as a rule."""
+    for end in range(text.nbytes, 0, -_LINE):
+        start = max(0, end - _LINE)
+        bare = text[start:end].tobytes().rstrip(b"\t\n\r ")
+        if bare:
+            return start + len(bare)
+    return 0
 
 
 # Where a row may begin: guesses, which cost time where they are wrong, and nothing else.
 
 
 def _cut(way: _Way, data: bytes) -> int:
-    """Where the last row in the data may begin that begins with a row itself; 0 or less where there is none but the first."""
+    """Where the last row may begin in data that begin with a row; 0 or less where that is the only one."""
     if way.source is Rows.TABLEDATA:
-        return _bare_length(memoryview(data)[: max(0, data.rfind(b"<TR"))])
+        return data.rfind(b"<TR")
     runs = _runs(way.declared, way.source)
     return _counted_cut(runs, data) if len(runs) > 1 else len(data) // runs[0].fixed * runs[0].fixed
 
@@ -975,9 +979,10 @@ def _runs(declared: List[Column], source: Rows) -> List[_Run]:
 def _counted_cut(runs: List[_Run], data: bytes) -> int:
     """The same where cells have counts.
 
-    To walk from row to row is exact, and where rows are short it takes half as long as to convert them (an index of BINARY takes longer still).
-    But short rows tell where they begin: from any byte, walks meet a count over its bound, or come upon the start of a row and from there to
-    the same last one. So walks begin at each byte of about two rows near the end. Where they do not agree, as in zeros, all rows are walked over.
+    To walk from row to row is exact, and where rows are short it takes half as long as to convert them (an index of BINARY takes longer
+    still). But short rows tell where they begin: from any byte, walks meet a count over its bound, or come upon the start of a row and
+    from there to the same last one. So walks begin at each byte of about two rows near the end. Where they do not agree, as in zeros, all
+    rows are walked over.
     """
     place, rows, _ = _walked(runs, data, 0, _SOME_ROWS)
     length = place // _SOME_ROWS
@@ -991,7 +996,7 @@ def _counted_cut(runs: List[_Run], data: bytes) -> int:
 
 
 def _walked(runs: List[_Run], data: bytes, place: int, most: int) -> Tuple[int, int, bool]:
-    """Where the whole rows from a place on end, up to so many; how many they are; and whether no count over its bound stands behind them."""
+    """Where up to so many whole rows from a place on end, how many they are, and whether no count over its bound follows."""
     *counted, (last, _, _) = runs
     rows = 0
     try:

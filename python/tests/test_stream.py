@@ -6,8 +6,10 @@ import functools
 import gzip
 import io
 import itertools
+import operator
 import os
 import random
+import statistics
 import tempfile
 import threading
 import unittest
@@ -91,24 +93,24 @@ class Agreement(unittest.TestCase):
             # Forty parts at most: rows may be long.
             part, threads = max(random.choice((1, 9, 60, 500)), len(rows) // 40), random.choice((1, 2, 3, 8))
             with sizes(PART=part, PART_ROOM=longest_row(columns), cut=cut):
-                table = random_rows.fields(columns), source, target, rows
+                table = random_rows.fields(columns).replace(b"<FIELD", b"<FIELD name='sky'"), source, target, rows
                 numbers.append(self.assert_as_one_call(*table, threads, random.random() < 0.5, random.choice((io.BytesIO, Slow))))
         self.assertGreater(numbers.count(0), turns // 3)
         self.assertGreater(len(set(numbers)), 4)
 
     def test_random_tables(self):
         random.seed(19)
-        self.assert_random_tables(700)
+        self.assert_random_tables(500)
 
     def test_any_cuts(self):
         random.seed(20)
-        self.assert_random_tables(400, lambda way, data: random.randint(-1, len(data)))
+        self.assert_random_tables(300, lambda way, data: random.randint(-1, len(data)))
         self.assert_random_tables(100, lambda way, data: 1)
 
     def test_parts_of_their_own_size(self):
         random.seed(21)
-        columns = sailmortar.columns(b"<FIELD datatype='int'/><FIELD datatype='char' arraysize='40*'/><FIELD datatype='bit' arraysize='9*'/>")
-        fields = random_rows.fields(columns)
+        fields = b"<FIELD datatype='int'/><FIELD datatype='char' arraysize='40*'/><FIELD datatype='bit' arraysize='9*'/>"
+        columns = sailmortar.columns(fields)
         for source, target in WAYS:
             some = b"".join(random_rows.spelled(columns, source, random_rows.Style(0, 0.5, 0)) for _ in range(500))
             rows = some * (1 + (3 << 20) // len(some))
@@ -124,54 +126,60 @@ class Agreement(unittest.TestCase):
                 with sizes(PART=60, cut=cut):
                     self.assertEqual(self.assert_as_one_call(SHORT, "tabledata", "binary", rows, threads), 11)
 
-    def test_rows_that_become_much_longer(self):
-        lengths, next_part = [], sailmortar._Input.next_part
+    def converted_parts(self, *table, threads):
+        """How long the parts were that were converted, one after the other."""
+        with mock.patch.object(sailmortar._Conversion, "_converted", autospec=True, side_effect=sailmortar._Conversion._converted) as converted:
+            self.assertEqual(self.assert_as_one_call(*table, threads), 0)
+        return [given.nbytes for _, given in map(operator.attrgetter("args"), converted.call_args_list)]
 
-        def noted(self, more):
-            lengths.append(more)
-            return next_part(self, more)
-
-        with sizes(PART=1 << 14, PART_ROOM=1 << 15), mock.patch.object(sailmortar._Input, "next_part", noted):
-            self.assert_as_one_call(b"<FIELD datatype='unsignedByte'/>", "binary", "tabledata", b"\xff" * (1 << 18), 2)
-        # A byte becomes 22, which half of the room has so often.
-        self.assertEqual((lengths[0], lengths[-1]), (1 << 14, 1 + (1 << 14) // 22))
+    def test_parts_are_shorter_where_rows_become_longer(self):
+        # A byte becomes 22.
+        with sizes(PART=1 << 14, PART_ROOM=1 << 15):
+            table = b"<FIELD datatype='unsignedByte'/>", "binary", "tabledata", b"\xff" * (1 << 18)
+            lengths = self.converted_parts(*table, threads=2)
+        self.assertEqual((max(lengths), statistics.mode(lengths)), (1 << 14, 1 + (1 << 14) // 22))
         fields, row = b"<FIELD datatype='long' arraysize='4096'/>", b"<TR><TD/></TR>"
         with sizes(PART=1 << 12):
             self.assert_as_one_call(fields, "tabledata", "binary2", row * 1000, 2)
+
+    def test_a_long_row_is_begun_a_few_times(self):
+        rows = b"<TR><TD>7" + b" " * 100_000 + b"</TD></TR>"
+        for threads in (1, 2):
+            with sizes(PART=100):
+                self.assertLess(sum(self.converted_parts(SHORT, "tabledata", "binary", rows, threads=threads)), 6 * len(rows))
 
 
 class Cuts(unittest.TestCase):
     """Guesses need not be right; but where they are not, one thread does the work of all."""
 
-    def assert_right(self, columns, rows, way):
+    def assert_right(self, fields, rows, way):
         """Each part ends where its last row ends."""
-        fields, (source, target) = random_rows.fields(columns), way
+        self.assertGreater(len(rows), 6 << 14)
         with sizes(PART=1 << 14), mock.patch.object(sailmortar._Conversion, "_go_on", side_effect=AssertionError):
-            writer, *said = streamed(fields, source, target, io.BytesIO(rows), 2)
-        self.assertEqual((writer.getvalue(), *said), converted(fields, source, target, rows))
+            writer, *said = streamed(fields, *way, io.BytesIO(rows), 2)
+        self.assertEqual((writer.getvalue(), *said), converted(fields, *way, rows))
 
-    def night(self, fields, source, count, style=random_rows.Style(0.2, 0.3, 0.5)):
+    def night(self, fields, source, count):
         columns = sailmortar.columns(fields)
-        return columns, b"".join(random_rows.spelled(columns, source, style) for _ in range(count))
+        rows = b"".join(random_rows.spelled(columns, source, random_rows.Style(0, 0.3, 0)) for _ in range(count))
+        return rows * (1 + (6 << 14) // len(rows))
 
     def test_short_rows(self):
         random.seed(22)
         mixed = SHORT + TEXT.replace(b"*", b"30*") + b"<FIELD datatype='bit' arraysize='12*'/><FIELD datatype='long'/>"
-        for way in WAYS[:8]:
-            for fields in (mixed, mixed + mixed, SHORT + b"<FIELD datatype='bit' arraysize='12'/>"):
-                self.assert_right(*self.night(fields, way[0], 3000, random_rows.Style(0, 0.3, 0)), way)
+        for way, fields in itertools.product(WAYS, (mixed, mixed + mixed, SHORT + b"<FIELD datatype='bit' arraysize='12'/>")):
+            self.assert_right(fields, self.night(fields, way[0], 500), way)
 
     def test_long_rows(self):
         random.seed(23)
-        for fields in (b"<FIELD datatype='short' arraysize='2000*'/>" + TEXT, b"<FIELD datatype='short' arraysize='2000'/>"):
-            for way in WAYS:
-                self.assert_right(*self.night(fields, way[0], 40, random_rows.Style(0, 0.3, 0)), way)
+        wide = b"<FIELD datatype='short' arraysize='2000*'/>"
+        for way, fields in itertools.product(WAYS, (wide + TEXT, wide.replace(b"*", b""))):
+            self.assert_right(fields, self.night(fields, way[0], 30), way)
 
     def test_rows_that_do_not_tell_where_they_begin(self):
         for fields in (TEXT, TEXT + SHORT, 3 * TEXT):
-            columns = sailmortar.columns(fields)
-            length = sum(4 if column.kind == "char" else 2 for column in columns)
-            self.assert_right(columns, bytes(length * 20_000), (Rows.BINARY, Rows.BINARY2))
+            row = b"".join(bytes(4 if column.kind == "char" else 2) for column in sailmortar.columns(fields))
+            self.assert_right(fields, row * 30_000, (Rows.BINARY, Rows.BINARY2))
 
     def test_data_without_a_cut(self):
         columns = sailmortar.columns(SHORT + TEXT)
@@ -223,11 +231,19 @@ class Readers(unittest.TestCase):
         self.assertEqual(places[:3], [300, 600, 900])
 
     def test_a_plain_file_that_grows_is_read_as_far_as_it_went(self):
-        with open(self.file, "rb") as reader, open(self.file, "ab") as growing, sizes(PART=300):
-            written = []
-            writer = mock.Mock(**{"write.side_effect": lambda rows: (written.append(rows.nbytes), growing.write(self.ROWS), growing.flush())})
-            self.assertEqual(convert_stream(SHORT, "binary", "binary", reader, writer, 2).bytes, len(self.ROWS))
-            self.assertEqual(sum(written), len(self.ROWS))
+        for threads in (1, 2):
+            with open(self.file, "rb") as reader, open(self.file, "ab", buffering=0) as growing, sizes(PART=300):
+                rows, written = reader.read(), []
+                reader.seek(0)
+
+                def write(rows):
+                    written.append(rows.tobytes())
+                    growing.write(self.ROWS[:100])
+
+                writer = mock.Mock(write=write)
+                self.assertEqual(convert_stream(SHORT, "binary", "binary", reader, writer, threads).bytes, len(rows))
+            self.assertEqual(b"".join(written), rows)
+            self.assertGreater(os.path.getsize(self.file), len(rows))
 
     def test_a_plain_file_that_shrinks_ends_where_it_ends(self):
         with open(self.file, "rb", buffering=0) as reader, sizes(PART=300):
@@ -290,6 +306,40 @@ class Readers(unittest.TestCase):
             convert_stream(SHORT, "binary", "binary", reader, io.BytesIO())
 
 
+class Late(concurrent.futures.Executor):
+    """A pool that does one thing when it is told to, or when that is waited for."""
+
+    def __init__(self):
+        self.calls = []
+
+    def submit(self, call, *arguments):
+        future = concurrent.futures.Future()
+        future.result = functools.partial(self.result, future, future.result)
+        self.calls.append(lambda: future.set_result(call(*arguments)))
+        return future
+
+    def result(self, future, result):
+        while not future.done():
+            self.run()
+        return result()
+
+    def run(self):
+        if self.calls:
+            self.calls.pop(0)()
+
+
+class AtOnce(concurrent.futures.Executor):
+    """A pool that has done everything before one looks."""
+
+    def __init__(self, threads):
+        self.threads = threads
+
+    def submit(self, call, *arguments):
+        future = concurrent.futures.Future()
+        future.set_result(call(*arguments))
+        return future
+
+
 class Writers(unittest.TestCase):
     ROWS = Readers.ROWS
 
@@ -325,6 +375,18 @@ class Writers(unittest.TestCase):
                     convert_stream(SHORT, "binary", "binary", io.BytesIO(self.ROWS), writer, 2)
             with self.assertRaisesRegex(OSError, "took 7 of 300 bytes"):
                 convert_stream(SHORT, "binary", "binary", io.BytesIO(self.ROWS), mock.Mock(**{"write.return_value": 7}), 2)
+
+    def test_rows_stand_as_long_as_the_call(self):
+        pool, written = Late(), []
+
+        def write(rows):
+            written.append(rows.tobytes())
+            pool.run()
+            self.assertEqual(rows, written[-1])
+
+        with sizes(PART=300), mock.patch("concurrent.futures.ThreadPoolExecutor", return_value=pool):
+            convert_stream(SHORT, "binary", "binary", io.BytesIO(self.ROWS), mock.Mock(write=write), 3)
+        self.assertEqual(b"".join(written), self.ROWS)
 
     def test_bytes_that_are_kept_too_long_are_no_other_bytes(self):
         kept = []
@@ -417,18 +479,6 @@ class Long(unittest.TestCase):
             self.assertEqual((writer.getvalue(), said), (output, expected))
 
 
-class AtOnce(concurrent.futures.Executor):
-    """A pool whose threads are done before one looks."""
-
-    def __init__(self, threads):
-        self.threads = threads
-
-    def submit(self, call, *arguments):
-        future = concurrent.futures.Future()
-        future.set_result(call(*arguments))
-        return future
-
-
 class Arguments(unittest.TestCase):
     def test_threads(self):
         for threads, error in ((0, ValueError), (-1, ValueError), (1.5, TypeError), ("2", TypeError)):
@@ -447,9 +497,11 @@ class Arguments(unittest.TestCase):
             self.assertEqual(streamed(SHORT, "binary", "binary", io.BytesIO(bytes(3 << 20)), 1, long=True)[1].rows, 3 << 19)
 
     def test_fields_and_kinds(self):
-        for arguments, error in ((("text", "binary", "binary"), TypeError), ((SHORT, "fits", "binary"), ValueError), ((SHORT, "binary", 3), ValueError)):
-            with self.assertRaises(error):
-                convert_stream(*arguments, None, None)
+        with self.assertRaisesRegex(TypeError, "^fields"):
+            convert_stream("text", "binary", "binary", None, None)
+        for kinds in (("fits", "binary"), ("binary", 3)):
+            with self.assertRaises(ValueError):
+                convert_stream(SHORT, *kinds, None, None)
         fields = bytearray(SHORT)
         self.assertEqual(streamed(memoryview(fields), Rows.BINARY, "BINARY2", io.BytesIO(bytes(4)))[1].rows, 2)
         fields.append(0)  # Nothing holds the buffer any more.

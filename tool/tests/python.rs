@@ -49,6 +49,7 @@ fn the_example_runs() {
         AAAHYSZiAFSgAABkdXNrAA==\n\
         <TR><TD>7</TD><TD>a&amp;b</TD><TD>T</TD></TR>\n\
         <TR><TD/><TD>dusk</TD><TD/></TR>\n\
+        from the file 2 rows, 16 bytes, the same: True\n\
         the same: True\n\
         another night differs at [(1, 1)]\n\
         row 1 of 2: <TR><TD/><TD>dusk</TD><TD/></TR>\n\
