@@ -922,15 +922,13 @@ class _Conversion:
     def _go_on(self, part: _Part, is_cut: bool) -> None:
         """Makes a part of what is left of one and, where that was cut inside a row, of what follows."""
         place, most = self._joined.place, self._longest_row
-        pieces = [part.given[place - part.start :]]
-        length = pieces[0].nbytes
+        rest = bytearray(part.given[place - part.start :])
         # Twice as much each time, so that a long row is not begun over and over.
-        wanted = min(2 * length, most) if is_cut else length
-        while length < wanted and (self._parts or not self._input.is_at_end):
-            pieces.append(self._parts.popleft().given if self._parts else self._next()[1])
-            length += pieces[-1].nbytes
-        given = memoryview(b"".join(pieces))
-        if length > most:
+        wanted = min(2 * len(rest), most) if is_cut else 0
+        while len(rest) < wanted and (self._parts or not self._input.is_at_end):
+            rest += self._parts.popleft().given if self._parts else self._next()[1]
+        given = memoryview(rest)
+        if given.nbytes > most:
             self._parts.appendleft(self._part(place + most, given[most:]))
         self._parts.appendleft(self._part(place, given[:most]))
 
