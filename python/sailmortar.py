@@ -951,7 +951,7 @@ def _cut(way: _Way, data: bytes) -> int:
     if way.source is Rows.TABLEDATA:
         return data.rfind(b"<TR")
     runs = _runs(way.declared, way.source)
-    return _counted_cut(runs, data) if len(runs) > 1 else len(data) // runs[0].fixed * runs[0].fixed
+    return _counted_cut(way, runs, data) if len(runs) > 1 else len(data) // runs[0].fixed * runs[0].fixed
 
 
 class _Run(NamedTuple):
@@ -974,23 +974,30 @@ def _runs(declared: List[Column], source: Rows) -> List[_Run]:
     return runs + [_Run(fixed, 0, 0)]
 
 
-def _counted_cut(runs: List[_Run], data: bytes) -> int:
+def _counted_cut(way: _Way, runs: List[_Run], data: bytes) -> int:
     """The same where cells have counts.
 
-    To walk from row to row is exact, and where rows are short it takes half as long as to convert them (an index of BINARY takes longer
-    still). But short rows tell where they begin: from any byte, walks meet a count over its bound, or come upon the start of a row and
-    from there to the same last one. So walks begin at each byte of about two rows near the end. Where they do not agree, as in zeros, all
-    rows are walked over.
+    Long rows are walked over. Short ones are too many for that, but they tell where they begin: from any byte, walks meet a count over its
+    bound, or come upon the start of a row and from there to the same last one. So walks begin at each byte of about two rows near the
+    end. Where they do not agree, as in zeros, or take too many steps, an index is made, which takes up to as long as a conversion.
     """
     place, rows, _ = _walked(runs, data, 0, _SOME_ROWS)
-    length = place // _SOME_ROWS
-    if rows == _SOME_ROWS and 2 * length * length < len(data):  # There are fewer walks to begin than rows to walk over.
-        first = len(data) - _SOME_ROWS * length
-        walks = [_walked(runs, data, start, len(data)) for start in range(first, first + 2 * length)]
-        ends = {end for end, rows, is_bound in walks if is_bound and rows > _SOME_ROWS // 8}
-        if len(ends) == 1:
-            return ends.pop()
-    return _walked(runs, data, place, len(data))[0]
+    if rows < _SOME_ROWS:
+        return place
+    return _agreed_cut(runs, data, place // _SOME_ROWS) or max(_indexed(way.source, way.text, memoryview(data))[1], default=0)
+
+
+def _agreed_cut(runs: List[_Run], data: bytes, length: int) -> int:
+    """Where the walks near the end come to, of rows of about this length; 0 where not to one place, or not in fewer steps than rows."""
+    ends, steps, first = set(), len(data) // length, len(data) - _SOME_ROWS * length
+    for start in range(first, first + 2 * length):
+        end, rows, is_bound = _walked(runs, data, start, steps)
+        steps -= rows + 1
+        if is_bound and rows > _SOME_ROWS // 8:
+            ends.add(end)
+        if steps <= 0 or len(ends) > 1:
+            return 0
+    return ends.pop() if ends else 0
 
 
 def _walked(runs: List[_Run], data: bytes, place: int, most: int) -> Tuple[int, int, bool]:

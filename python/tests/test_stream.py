@@ -6,7 +6,6 @@ import functools
 import gzip
 import io
 import itertools
-import operator
 import os
 import random
 import statistics
@@ -128,9 +127,10 @@ class Agreement(unittest.TestCase):
 
     def converted_parts(self, *table, threads):
         """How long the parts were that were converted, one after the other."""
-        with mock.patch.object(sailmortar._Conversion, "_converted", autospec=True, side_effect=sailmortar._Conversion._converted) as converted:
+        convert = sailmortar._Conversion._converted
+        with mock.patch.object(sailmortar._Conversion, "_converted", autospec=True, side_effect=convert) as calls:
             self.assertEqual(self.assert_as_one_call(*table, threads), 0)
-        return [given.nbytes for _, given in map(operator.attrgetter("args"), converted.call_args_list)]
+        return [call.args[1].nbytes for call in calls.call_args_list]
 
     def test_parts_are_shorter_where_rows_become_longer(self):
         # A byte becomes 22.
@@ -181,12 +181,25 @@ class Cuts(unittest.TestCase):
             row = b"".join(bytes(4 if column.kind == "char" else 2) for column in sailmortar.columns(fields))
             self.assert_right(fields, row * 30_000, (Rows.BINARY, Rows.BINARY2))
 
+    def test_guessing_takes_no_more_steps_than_there_are_rows(self):
+        zeros, long = b"\0\0\2\0" + bytes(512), b"\0\0\x0f\xfc" + bytes(4092)
+        for fields, row, before in ((TEXT, zeros, b""), (TEXT, bytes(4), b""), (TEXT + SHORT, bytes(6), b""), (TEXT, bytes(4), long * 64)):
+            count = (1 << 20) // len(row)
+            with mock.patch.object(sailmortar, "_walked", wraps=sailmortar._walked) as walked:
+                cut = self.cut(fields, Rows.BINARY, before + row * count) - len(before)
+            self.assertEqual((cut > len(row) * (count - 65), cut % len(row)), (True, 0))
+            self.assertLessEqual(sum(sailmortar._walked(*call.args)[1] for call in walked.call_args_list), 64 + count)
+
+    def cut(self, fields, source, data):
+        return sailmortar._cut(sailmortar._Way(memoryview(fields), sailmortar.columns(fields), source, source), data)
+
     def test_data_without_a_cut(self):
-        columns = sailmortar.columns(SHORT + TEXT)
-        cut = functools.partial(sailmortar._cut, sailmortar._Way(memoryview(b""), columns, Rows.TABLEDATA, Rows.BINARY))
-        self.assertEqual([cut(data) > 0 for data in (b"", b"<TR>", b"  ", b"<TR><TD/>", b"<TR/><TR")], [False] * 4 + [True])
-        cut = functools.partial(sailmortar._cut, sailmortar._Way(memoryview(b""), columns, Rows.BINARY, Rows.BINARY))
-        self.assertEqual([cut(data) for data in (b"", b"\0" * 5, b"\0" * 6, b"\0" * 11, b"\0\0\0\0\0\1", b"\xff" * 99)], [0, 0, 6, 6, 0, 0])
+        texts = b"", b"<TR>", b"  ", b"<TR><TD/>", b"<TR/><TR"
+        self.assertEqual([self.cut(SHORT, Rows.TABLEDATA, data) > 0 for data in texts], [False] * 4 + [True])
+        streams = b"", b"\0" * 5, b"\0" * 6, b"\0" * 11, b"\0\0\0\0\0\1", b"\xff" * 99
+        self.assertEqual([self.cut(SHORT + TEXT, Rows.BINARY, data) for data in streams], [0, 0, 6, 6, 0, 0])
+        # Counts are good wherever one begins, and the first row is not.
+        self.assertEqual(self.cut(TEXT + b"<FIELD datatype='boolean'/>", Rows.BINARY, b"\0\0\0\0x" + bytes(4995)), 0)
 
 
 class Raising(RuntimeError):
