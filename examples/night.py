@@ -1,8 +1,10 @@
-"""The sample night from Python: its columns, text to BINARY2, BINARY2 to base64, two nights compared, one row by an index, and a cut file.
+"""The sample night from Python: its columns, text to BINARY2, BINARY2 to base64, a file as a stream, two nights compared, one row by an index,
+and a cut file.
 
     python3 examples/night.py
 """
 
+import io
 import pathlib
 import sys
 
@@ -20,6 +22,11 @@ binary2 = sailmortar.convert(fields, "tabledata", "binary2", text)
 print(binary2.hex(" "))
 print(sailmortar.base64_encode(binary2).decode())
 print(sailmortar.convert(fields, "binary2", "tabledata", binary2).decode(), end="")
+
+# From a file to another, on all cores and in little memory; here the other is one in memory.
+with open(HERE / "night.tabledata", "rb") as reader, io.BytesIO() as writer:
+    answer = sailmortar.convert_stream(fields, "tabledata", "binary2", reader, writer)
+    print(f"from the file {answer.rows} rows, {answer.bytes} bytes, the same: {writer.getvalue() == binary2}")
 
 # Both forms show the same, whatever the spelling; another night does not.
 print("the same:", sailmortar.compare(fields, "tabledata", text, "binary2", binary2).same)

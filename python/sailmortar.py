@@ -1,6 +1,6 @@
 """Rows of VOTable tables between TABLEDATA, BINARY and BINARY2, any to any, base64, one row of a long stream, and two nights compared.
 
-    >>> import sailmortar
+    >>> import io, sailmortar
     >>> fields = b"<FIELD datatype='short'><VALUES null='-99'/></FIELD>"
     >>> sailmortar.convert(fields, "tabledata", "binary2", b"<TR><TD>7</TD></TR><TR><TD/></TR>").hex(" ")
     '00 00 07 80 00 00'
@@ -9,6 +9,9 @@
     ... except sailmortar.Refused as refused:
     ...     print(refused, refused.output)
     refusal 11 at row 1, column 0: a byte or a text that is no value of its kind b'\\x00\\x07'
+    >>> reader, writer = io.BytesIO(bytes.fromhex("00 00 07 80 00 00")), io.BytesIO()
+    >>> sailmortar.convert_stream(fields, "binary2", "tabledata", reader, writer).rows, writer.getvalue()
+    (2, b'<TR><TD>7</TD></TR>\\n<TR><TD/></TR>\\n')
     >>> sailmortar.columns(fields)
     [Column(place=0, name=None, kind='short', length='1', bound=1, null=-99)]
     >>> index = sailmortar.Index.build(fields, "binary2", bytes.fromhex("00 00 07 80 00 00"))
@@ -31,15 +34,21 @@ TypeError.
 from __future__ import annotations
 
 import array
+import collections
+import concurrent.futures
 import ctypes
 import enum
+import errno
+import functools
+import io
 import mmap
 import operator
 import os
 import pathlib
 import re
+import stat
 import struct
-from typing import TYPE_CHECKING, Callable, Dict, List, NamedTuple, Optional, Tuple, Union
+from typing import TYPE_CHECKING, Any, Callable, Deque, Dict, List, NamedTuple, Optional, Protocol, Tuple, Union
 
 if TYPE_CHECKING:
     from typing_extensions import Buffer  # Type checkers know it without the package.
@@ -47,7 +56,7 @@ else:
     Buffer = Union[bytes, bytearray, memoryview]
 
 __all__ = ["Answer", "Column", "Comparison", "Index", "MEANINGS", "Refused", "Rows", "__version__"]
-__all__ += ["base64_decode", "base64_encode", "columns", "compare", "convert", "declare"]
+__all__ += ["base64_decode", "base64_encode", "columns", "compare", "convert", "convert_stream", "declare"]
 
 __version__ = "0.1.0"
 
@@ -126,6 +135,7 @@ MEANINGS = {
 }
 """What each refusal's number means."""
 
+_OVER_SIZE = 6
 _NO_ROOM = 17
 _FIRST_OF_ROWS = 8  # Refusals below this number are of declarations, sizes and base64: no row was read.
 
@@ -140,7 +150,7 @@ class Refused(ValueError):
         """The whole answer; its number, row and column are attributes of the refusal too."""
         self.number, self.row, self.column = answer.number, answer.row, answer.column
         self.output = output
-        """The rows before the refused one, converted."""
+        """The rows before the refused one, converted; empty where they went to a writer."""
         self.offset = offset
         """The byte of the input where the refused row begins, which is where the row before it ends: white space before a row of TABLEDATA
         belongs to that row. It is 0 where no row was read (1 to 7)."""
@@ -199,6 +209,34 @@ def convert(fields: Buffer, source: Union[Rows, str], target: Union[Rows, str], 
         if answer.number:
             raise Refused(answer, output, end, _refused_name(answer, end, declared, kinds[0], given))
         return output
+
+
+def convert_stream(
+    fields: Buffer,
+    source: Union[Rows, str],
+    target: Union[Rows, str],
+    reader: "_Reader",
+    writer: "_Writer",
+    threads: Optional[int] = None,
+    long: bool = False,
+) -> Answer:
+    """Rows of the kind `source` from a reader, converted to rows of the kind `target` into a writer: files opened in binary mode, pipes,
+    io.BytesIO. Parts of them are converted at once, on so many threads; None is as many as there are cores.
+
+    What is written, and answered or refused, is what convert gives for the whole input. A refusal is raised as Refused: the rows before
+    the bad one are written, so that its `output` is empty, and its `offset` counts from where the reader stood. The reader has been read
+    further than that. What a reader or a writer raises is passed on; then some rows are written.
+
+    An input over its size, 1 GiB, is refused before any row. So a plain file is converted as it is read, up to the length that it had at
+    the start; what is none (a pipe, a compressed file) is read to its end first. With `long` an input may have any length, and each is
+    converted as it is read, in memory for some parts of 1 MiB a thread; a row that is not whole within 64 MiB is judged by these alone.
+    """
+    kinds, count = (Rows.named(source), Rows.named(target)), _thread_count(threads)
+    with _view("fields", fields) as text:
+        answer, offset, name = _streamed(_Way(text, _columns(text), *kinds), reader, writer, count, long)
+    if answer.number:
+        raise Refused(answer, b"", offset, name)
+    return answer
 
 
 class Comparison(NamedTuple):
@@ -340,7 +378,7 @@ class Index(NamedTuple):
             return output
 
 
-_LINE = 4096  # The room for a line at first.
+_LINE = 4096  # The room for a line at first: more than most have.
 _IN_WRITING = (14, 16)  # What a row that reads is refused with: always at a cell.
 
 
@@ -657,6 +695,335 @@ def _reaches_cells(number: int, declared: List[Column], source: Rows, given: mem
     return not int.from_bytes(flags, "big") & ((1 << -len(declared) % 8) - 1 if flags else 0)
 
 
+# A stream: parts of it are converted each by itself, and joined in their order by the library, which trusts no cut between them.
+
+_LIMIT = 1 << 30  # The size of an input.
+_PART = 1 << 20  # About how long a part is.
+_PART_ROOM = 1 << 23  # For what a part becomes, and for any row: 64 cells of 4,096 longs take 5.5 MB in TABLEDATA.
+_LONGEST_ROW = 1 << 26  # Where the input may have any length.
+_ENDLESS = (1 << 64) - 1  # The length of an input whose end was not met yet, and the room that a writer has.
+_CUT = (8, 10)  # What a part is refused with that ends inside a row.
+
+
+class _Reader(Protocol):
+    def read(self, most: int, /) -> Optional[bytes]:
+        """So many bytes or fewer; none at the end."""
+
+
+class _Writer(Protocol):
+    def write(self, rows: memoryview, /) -> object:
+        """Takes bytes that stand no longer than the call."""
+
+
+class _Way(NamedTuple):
+    """What is converted to what."""
+
+    text: memoryview
+    declared: List[Column]
+    source: Rows
+    target: Rows
+
+
+_Ended = Tuple[Answer, int, Optional[str]]
+"""The answer, where in the input its rows end, and the name of the refused column."""
+
+
+def _streamed(way: _Way, reader: _Reader, writer: _Writer, threads: int, long: bool) -> _Ended:
+    sized, length = (reader, _ENDLESS) if long else _sized(reader)
+    if length > _LIMIT and not long:
+        return Answer(_OVER_SIZE, 0, 0, 0, 0), 0, None
+    if threads == 1 or length < 2 * _PART:
+        # Nothing is guessed: where the rows of a part end is known before the next part is converted.
+        return _Conversion(way, _Input(sized, length, len), writer, long).run()
+    with concurrent.futures.ThreadPoolExecutor(threads) as pool:
+        return _Conversion(way, _Input(sized, length, functools.partial(_cut, way)), writer, long).run(pool, 2 * threads)
+
+
+def _thread_count(threads: Optional[int]) -> int:
+    count = len(os.sched_getaffinity(0)) if threads is None else operator.index(threads)
+    if count < 1:
+        raise ValueError(f"threads: {count} is no number of threads")
+    return count
+
+
+def _sized(reader: _Reader) -> Tuple[_Reader, int]:
+    """A reader, and how many bytes it has: of a plain file itself, else one of what was read to the end, or to a byte over the limit."""
+    length = _plain_length(reader)
+    if length:
+        return reader, length
+    whole = io.BytesIO()
+    while whole.tell() <= _LIMIT and whole.write(_read(reader, min(_PART, _LIMIT + 1 - whole.tell()))):
+        pass
+    length = whole.tell()
+    whole.seek(0)
+    return whole, length
+
+
+def _plain_length(reader: Any) -> int:
+    """How many bytes a plain file has from where it stands; 0 where only reading tells, as of the files in /proc."""
+    # Others have the number of a file and not its bytes: gzip.
+    if type(reader) not in (io.FileIO, io.BufferedReader, io.BufferedRandom) or type(getattr(reader, "raw", reader)) is not io.FileIO:
+        return 0
+    status = os.fstat(reader.fileno())
+    return max(0, status.st_size - reader.tell()) if stat.S_ISREG(status.st_mode) else 0
+
+
+def _read(reader: _Reader, most: int) -> bytes:
+    data = reader.read(most)
+    if data is None:
+        raise BlockingIOError(errno.EAGAIN, "the reader has no bytes now, and does not wait for them")
+    if not isinstance(data, (bytes, bytearray, memoryview)):
+        raise TypeError(f"reader: read gives {type(data).__name__}, not bytes; open the file in binary mode")
+    return bytes(data)
+
+
+def _write(writer: _Writer, rows: memoryview) -> None:
+    """Writes all of the rows. An unbuffered file may take fewer bytes than it is given; of any other that is an error."""
+    while rows.nbytes:
+        taken: Any = writer.write(rows)
+        if not isinstance(writer, io.RawIOBase):
+            if type(taken) is int and taken < rows.nbytes:
+                raise OSError(f"the writer took {taken} of {rows.nbytes} bytes")
+            return
+        if not taken:
+            raise BlockingIOError(errno.EAGAIN, "the writer takes no bytes now, and does not wait until it can")
+        rows = rows[taken:]
+
+
+class _Input:
+    """An input, read in parts that end where a row is guessed to end."""
+
+    def __init__(self, reader: _Reader, length: int, cut: Callable[[bytes], int]) -> None:
+        self._reader, self._unread, self._cut = reader, length, cut
+        self._start, self._begun = 0, b""  # Where the next part begins, and what was read of it.
+        self.length = _ENDLESS
+        """Where the last part ends, which may be empty, once the end was met."""
+
+    @property
+    def is_at_end(self) -> bool:
+        return self.length != _ENDLESS
+
+    def next_part(self, more: int) -> Tuple[int, memoryview]:
+        """Where the next part begins, and its bytes: those behind the last cut and about so many more."""
+        data = self._filled(more)
+        cut = 0 if self.is_at_end else self._cut(data)
+        # Where there is no cut a row goes on, and joining will find its end.
+        end = cut if cut > 0 else len(data)
+        start, self._start, self._begun = self._start, self._start + end, data[end:]
+        return start, memoryview(data)[:end]
+
+    def _filled(self, more: int) -> bytes:
+        pieces = [self._begun]
+        while more > 0 and not self.is_at_end:
+            data = _read(self._reader, min(more, self._unread))
+            pieces.append(data)
+            more, self._unread = more - len(data), self._unread - len(data)
+            if not data:
+                self.length = self._start + sum(map(len, pieces))
+        return b"".join(pieces)
+
+
+class _Part(NamedTuple):
+    """A part of an input, and what it becomes: six numbers, and the room that its rows stand in."""
+
+    start: int
+    given: memoryview
+    outcome: Callable[[], Tuple[List[int], mmap.mmap]]
+    is_ready: Callable[[], bool]
+
+    @property
+    def end(self) -> int:
+        return self.start + self.given.nbytes
+
+
+class _Joined(ctypes.Structure):
+    """How far the parts joined have come: the answer, where the next part has to begin, how many parts, and whether this is the end."""
+
+    _fields_ = [(name, ctypes.c_uint64) for name in ("number", "row", "column", "rows", "bytes", "place", "parts", "ended")]
+
+
+class _Conversion:
+    """A conversion in parts, which are read, joined and written on the calling thread."""
+
+    def __init__(self, way: _Way, input: _Input, writer: _Writer, long: bool) -> None:
+        self._way, self._input, self._writer = way, input, writer
+        self._longest_row = _LONGEST_ROW if long else _ENDLESS
+        self._parts: Deque[_Part] = collections.deque()  # What was read and not joined.
+        self._rooms: List[mmap.mmap] = []  # Those that are free.
+        self._joined = _Joined()
+        self._space = 0  # White space behind the last row of TABLEDATA that was joined: it belongs to the next.
+
+    def run(self, pool: Optional[concurrent.futures.Executor] = None, most: int = 1) -> _Ended:
+        """Converts all of the input, with no more parts at a time than `most`."""
+        joined = self._joined
+        while not joined.ended:
+            # What is ready is written before more is read, which may take its time.
+            if self._parts and (len(self._parts) >= most or self._input.is_at_end or self._parts[0].is_ready()):
+                part = self._parts.popleft()
+                self._join(part)
+            else:
+                self._parts.append(self._part(*self._next(), pool))
+        answer = Answer(joined.number, joined.row, joined.column, joined.rows, joined.bytes)
+        name = _refused_name(answer, joined.place - part.start, self._way.declared, self._way.source, part.given)
+        return answer, joined.place - self._space, name
+
+    def _next(self) -> Tuple[int, memoryview]:
+        """What is read next: as much as fills half of its room, going by the rows done."""
+        done = self._joined
+        return self._input.next_part(min(_PART, 1 + _PART_ROOM // 2 * done.place // done.bytes) if done.bytes else _PART)
+
+    def _part(self, start: int, given: memoryview, pool: Optional[concurrent.futures.Executor] = None) -> _Part:
+        """A part that is converted by a thread of the pool; without one, when it is joined."""
+        if pool is None:
+            return _Part(start, given, functools.partial(self._converted, given), lambda: True)
+        future = pool.submit(self._converted, given)
+        return _Part(start, given, future.result, future.done)
+
+    def _converted(self, given: memoryview) -> Tuple[List[int], mmap.mmap]:
+        text, _, source, target = self._way
+        numbers, room = _Numbers(), self._free_room()
+        with memoryview(room) as out:
+            stream = _address(text), text.nbytes, source, target, _address(given), given.nbytes
+            _library.sailmortar_convert_piece(*stream, _address(out), _PART_ROOM, numbers)
+        return list(numbers), room
+
+    def _free_room(self) -> mmap.mmap:
+        # Several threads take from the list, so that only taking tells whether there is one.
+        try:
+            return self._rooms.pop()
+        except IndexError:
+            return _mapping(_PART_ROOM)
+
+    def _join(self, part: _Part) -> None:
+        """Joins a part that begins where the parts before have come to, writes its rows, and goes on with what is left of it."""
+        numbers, room = part.outcome()
+        number, row, _, _, bytes, place = numbers
+        nine = (ctypes.c_uint64 * 9)(part.start, part.given.nbytes, _PART_ROOM, *numbers)
+        _library.sailmortar_join(self._length(part, number, row), _ENDLESS, nine, len(nine), self._joined)
+        assert self._joined.place == part.start + place, "the part is joined"
+        with memoryview(room) as out, out[:bytes] as rows:
+            _write(self._writer, rows)
+        self._rooms.append(room)
+        self._note_space(part.given[:place])
+        if not self._joined.ended and self._joined.place < part.end:
+            assert row or number in _CUT, "any row has room"
+            self._go_on(part, number in _CUT)
+
+    def _length(self, part: _Part, number: int, row: int) -> int:
+        """The length of the input, as far as it is known; a row that takes too long is judged as if it ended there."""
+        is_too_long = number in _CUT and row == 0 and part.given.nbytes >= self._longest_row
+        return part.end if is_too_long else self._input.length
+
+    def _note_space(self, joined: memoryview) -> None:
+        if self._way.source is Rows.TABLEDATA:
+            space = joined.nbytes - _bare_length(joined)
+            self._space = space if space < joined.nbytes else self._space + space
+
+    def _go_on(self, part: _Part, is_cut: bool) -> None:
+        """Makes a part of what is left of one and, where that was cut inside a row, of what follows."""
+        place, most = self._joined.place, self._longest_row
+        rest = bytearray(part.given[place - part.start :])
+        # Twice as much each time, so that a long row is not begun over and over.
+        wanted = min(2 * len(rest), most) if is_cut else 0
+        while len(rest) < wanted and (self._parts or not self._input.is_at_end):
+            rest += self._parts.popleft().given if self._parts else self._next()[1]
+        given = memoryview(rest)
+        if given.nbytes > most:
+            self._parts.appendleft(self._part(place + most, given[most:]))
+        self._parts.appendleft(self._part(place, given[:most]))
+
+
+def _bare_length(text: memoryview) -> int:
+    """How many bytes there are before the white space at the end, of which there is little as a rule."""
+    for end in range(text.nbytes, 0, -_LINE):
+        start = max(0, end - _LINE)
+        bare = text[start:end].tobytes().rstrip(b"\t\n\r ")
+        if bare:
+            return start + len(bare)
+    return 0
+
+
+# Where a row may begin: guesses, which cost time where they are wrong, and nothing else.
+
+
+def _cut(way: _Way, data: bytes) -> int:
+    """Where the last row may begin in data that begin with a row; 0 or less where that is the only one."""
+    if way.source is Rows.TABLEDATA:
+        return data.rfind(b"<TR")
+    runs = _runs(way.declared, way.source)
+    return _counted_cut(way, runs, data) if len(runs) > 1 else len(data) // runs[0].fixed * runs[0].fixed
+
+
+class _Run(NamedTuple):
+    """Bytes of a row of BINARY or BINARY2: so many fixed ones, and then a count of elements of so many bits each, up to a bound."""
+
+    fixed: int
+    bits: int
+    bound: int
+
+
+def _runs(declared: List[Column], source: Rows) -> List[_Run]:
+    """A row in runs; the last one has no count."""
+    runs, fixed = [], _around(source, declared)
+    for column in declared:
+        if _is_counted(column):
+            runs.append(_Run(fixed, _ELEMENTS[column.kind].bits, column.bound))
+            fixed = 0
+        else:
+            fixed += _fixed_bytes(column)
+    return runs + [_Run(fixed, 0, 0)]
+
+
+def _counted_cut(way: _Way, runs: List[_Run], data: bytes) -> int:
+    """The same where cells have counts.
+
+    Long rows are walked over. Short ones are too many for that, but they tell where they begin: from any byte, walks meet a count over its
+    bound, or come upon the start of a row and from there to the same last one. So walks begin at each byte of about two rows near the
+    end. Where they do not agree, as in zeros, or take too many steps, an index is made, which takes up to as long as a conversion.
+    """
+    place, rows, _ = _walked(runs, data, 0, _SOME_ROWS)
+    if rows < _SOME_ROWS:
+        return place
+    return _agreed_cut(runs, data, place // _SOME_ROWS) or max(_indexed(way.source, way.text, memoryview(data))[1], default=0)
+
+
+def _agreed_cut(runs: List[_Run], data: bytes, length: int) -> int:
+    """Where the walks near the end come to, of rows of about this length; 0 where not to one place, or not in fewer steps than rows."""
+    ends, steps, first = set(), len(data) // length, len(data) - _SOME_ROWS * length
+    for start in range(first, first + 2 * length):
+        end, rows, is_bound = _walked(runs, data, start, steps)
+        steps -= rows + 1
+        if is_bound and rows > _SOME_ROWS // 8:
+            ends.add(end)
+        if steps <= 0 or len(ends) > 1:
+            return 0
+    return ends.pop() if ends else 0
+
+
+def _walked(runs: List[_Run], data: bytes, place: int, most: int) -> Tuple[int, int, bool]:
+    """Where up to so many whole rows from a place on end, how many they are, and whether no count over its bound follows."""
+    *counted, (last, _, _) = runs
+    rows = 0
+    try:
+        while rows < most:
+            end = place
+            for fixed, bits, bound in counted:
+                (count,) = _COUNT.unpack_from(data, end + fixed)
+                if count > bound:
+                    return place, rows, False
+                end += fixed + 4 + (count * bits + 7) // 8
+            if end + last > len(data):
+                break
+            place, rows = end + last, rows + 1
+    except struct.error:
+        pass  # The data end before a count does.
+    return place, rows, True
+
+
+_COUNT = struct.Struct(">I")
+_SOME_ROWS = 64  # Enough to know how long a row is, and where it begins.
+
+
 # The library.
 
 _LIBRARY = "libsailmortar.so.0"
@@ -708,7 +1075,8 @@ def _declare_types(library: ctypes.CDLL) -> None:
     library.sailmortar_index.argtypes = part + [ctypes.c_uint32] + part + part + numbers
     library.sailmortar_fetch.argtypes = part + [ctypes.c_uint32] + part + part + [ctypes.c_uint64, ctypes.c_uint64] + part + numbers
     library.sailmortar_compare.argtypes = part + 2 * ([ctypes.c_uint32] + part) + part + numbers
-    for function in ("convert_piece", "base64_decode", "base64_encode", "declare", "index", "fetch", "compare"):
+    library.sailmortar_join.argtypes = [ctypes.c_uint64, ctypes.c_uint64] + numbers + [ctypes.c_size_t, ctypes.POINTER(_Joined)]
+    for function in ("convert_piece", "base64_decode", "base64_encode", "declare", "index", "fetch", "compare", "join"):
         getattr(library, "sailmortar_" + function).restype = None
 
 

@@ -49,6 +49,7 @@ fn the_example_runs() {
         AAAHYSZiAFSgAABkdXNrAA==\n\
         <TR><TD>7</TD><TD>a&amp;b</TD><TD>T</TD></TR>\n\
         <TR><TD/><TD>dusk</TD><TD/></TR>\n\
+        from the file 2 rows, 16 bytes, the same: True\n\
         the same: True\n\
         another night differs at [(1, 1)]\n\
         row 1 of 2: <TR><TD/><TD>dusk</TD><TD/></TR>\n\
@@ -62,7 +63,7 @@ fn the_example_runs() {
 fn the_example_in_its_text_holds() {
     let output = python(&["-m", "doctest", "-v", &format!("{ROOT}/python/sailmortar.py")]);
     assert_quiet(&output);
-    assert!(text(&output.stdout).contains("8 passed"), "{}", text(&output.stdout));
+    assert!(text(&output.stdout).contains("10 passed"), "{}", text(&output.stdout));
 }
 
 #[test]
@@ -116,6 +117,11 @@ fn one_row_is_found_by_an_index() {
 #[test]
 fn two_nights_are_compared() {
     assert_tests_pass("test_compare");
+}
+
+#[test]
+fn streams_are_converted_in_parts_on_several_threads() {
+    assert_tests_pass("test_stream");
 }
 
 #[test]
