@@ -36,8 +36,11 @@ mod face;
 mod index;
 mod index_file;
 mod indexed_rows;
+mod join_stub;
+mod joined;
 mod numbers;
 mod pieces;
+mod plan;
 #[allow(unsafe_code)]
 mod proved;
 mod stream;
@@ -51,6 +54,7 @@ pub use index_file::Misfit;
 pub use indexed_rows::IndexedRows;
 pub use numbers::{meaning, Number, NUMBERS};
 pub use pieces::{convert_pieces, convert_to_vec, Piece};
+pub use plan::Plan;
 pub use proved::{base64_decode, base64_encode, compare, convert, declare, fetch, index};
 pub use stream::{base64_decode_stream, base64_encode_stream, convert_stream, read_input, within_limit, ROOM};
 

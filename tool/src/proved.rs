@@ -4,6 +4,8 @@ use std::mem::MaybeUninit;
 
 use crate::face::{sailmortar_base64_decode, sailmortar_base64_encode, sailmortar_convert_piece, sailmortar_declare};
 use crate::face::{sailmortar_compare, sailmortar_fetch, sailmortar_index};
+use crate::join_stub::sailmortar_join;
+use crate::joined::Call;
 use crate::{Comparison, Done, Input, Place, Refused, RefusedInput, Rows, ROWS_PER_START};
 
 /// Room that is lent for bytes to be written to. What it held before need not be anything.
@@ -30,7 +32,7 @@ fn outcome([number, row, column, rows, bytes]: [u64; 5], offset: u64) -> Result<
     }
 }
 
-fn convert_in(decls: &[u8], from: Rows, to: Rows, input: &[u8], out: &mut Room) -> Result<Done, Refused> {
+fn piece_in(decls: &[u8], from: Rows, to: Rows, input: &[u8], out: &mut Room) -> [u64; 6] {
     let mut answer = [0; 6];
     // SAFETY: each pointer and length is a slice's own, and `out` and `answer` are lent to this call alone.
     unsafe {
@@ -46,7 +48,11 @@ fn convert_in(decls: &[u8], from: Rows, to: Rows, input: &[u8], out: &mut Room) 
             &mut answer,
         );
     }
-    let [five @ .., offset] = answer;
+    answer
+}
+
+fn convert_in(decls: &[u8], from: Rows, to: Rows, input: &[u8], out: &mut Room) -> Result<Done, Refused> {
+    let [five @ .., offset] = piece_in(decls, from, to, input, out);
     outcome(five, offset)
 }
 
@@ -120,6 +126,19 @@ pub fn convert(decls: &[u8], from: Rows, to: Rows, input: &[u8], out: &mut [u8])
 
 pub(crate) fn convert_behind(decls: &[u8], from: Rows, to: Rows, input: &[u8], out: &mut Vec<u8>) -> Result<Done, Refused> {
     behind(out, |room| convert_in(decls, from, to, input, room))
+}
+
+/// The same with every number that the call answers, for joining.
+pub(crate) fn piece_behind(decls: &[u8], from: Rows, to: Rows, input: &[u8], out: &mut Vec<u8>) -> [u64; 6] {
+    let answer = piece_in(decls, from, to, input, out.spare_capacity_mut());
+    // SAFETY: as in `behind`.
+    unsafe { out.set_len(out.len() + answer[4] as usize) };
+    answer
+}
+
+/// Joins calls on parts of an input to what was joined before, as far as they can be joined.
+pub(crate) fn join(length: u64, room: u64, calls: &[Call], joined: &mut [u64; 8]) {
+    sailmortar_join(length, room, calls.as_flattened(), joined);
 }
 
 /// Decodes base64 (RFC 4648, white space skipped anywhere) into `out`. A refusal (6, 7 or 17) writes nothing.
