@@ -5,7 +5,8 @@ use std::thread::scope;
 
 use crate::joined::Joined;
 use crate::parts::{Part, Source, LONGEST_ROW};
-use crate::workers::{Converted, Output, Way, Workers};
+use crate::way::Way;
+use crate::workers::{Converted, Output, Workers};
 use crate::{Done, Error, Piece};
 
 /// How far a conversion has come.
@@ -90,7 +91,7 @@ impl<'a, S: Source> Joining<'a, S> {
             return Ok(None);
         }
         let mut output = self.spare.pop().unwrap_or_default();
-        self.way.convert(&part, &mut output)?;
+        output.fill(self.way, &part)?;
         self.join(part, output)
     }
 

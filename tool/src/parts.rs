@@ -92,7 +92,7 @@ impl<'a> Source for Slice<'a> {
             match self.cuts.cut(start as u64, &rest[..wanted]) {
                 Some(length) => break &rest[..length],
                 None if wanted >= self.longest => break &rest[..wanted],
-                None => wanted *= 2,
+                None => wanted = (2 * wanted).min(self.longest),
             }
         };
         let is_last = bytes.len() == rest.len();
@@ -229,7 +229,7 @@ impl Source for Stream<'_> {
             self.read(wanted)?;
             match self.length_of_part() {
                 Some(length) => break length,
-                None => wanted = wanted.max(2 * self.begun.filled),
+                None => wanted = wanted.max(2 * self.begun.filled).min(self.longest),
             }
         };
         let mut behind = self.spare.pop().unwrap_or_default();

@@ -32,7 +32,7 @@ fn outcome([number, row, column, rows, bytes]: [u64; 5], offset: u64) -> Result<
     }
 }
 
-fn piece_in(decls: &[u8], from: Rows, to: Rows, input: &[u8], out: &mut Room) -> [u64; 6] {
+fn convert_in(decls: &[u8], from: Rows, to: Rows, input: &[u8], out: &mut Room) -> [u64; 6] {
     let mut answer = [0; 6];
     // SAFETY: each pointer and length is a slice's own, and `out` and `answer` are lent to this call alone.
     unsafe {
@@ -49,11 +49,6 @@ fn piece_in(decls: &[u8], from: Rows, to: Rows, input: &[u8], out: &mut Room) ->
         );
     }
     answer
-}
-
-fn convert_in(decls: &[u8], from: Rows, to: Rows, input: &[u8], out: &mut Room) -> Result<Done, Refused> {
-    let [five @ .., offset] = piece_in(decls, from, to, input, out);
-    outcome(five, offset)
 }
 
 fn decode_in(input: &[u8], out: &mut Room) -> Result<Done, Refused> {
@@ -121,16 +116,13 @@ fn fetch_in(decls: &[u8], from: Rows, input: &[u8], index: &[u32], rows: u64, ro
 /// The input may be a piece of a table, such as its front while the rest is still to come: a row that is cut is refused (8, of TABLEDATA
 /// 10), and the next piece begins at the refusal's `offset`, with what has come since.
 pub fn convert(decls: &[u8], from: Rows, to: Rows, input: &[u8], out: &mut [u8]) -> Result<Done, Refused> {
-    convert_in(decls, from, to, input, room_of(out))
+    let [five @ .., offset] = convert_in(decls, from, to, input, room_of(out));
+    outcome(five, offset)
 }
 
-pub(crate) fn convert_behind(decls: &[u8], from: Rows, to: Rows, input: &[u8], out: &mut Vec<u8>) -> Result<Done, Refused> {
-    behind(out, |room| convert_in(decls, from, to, input, room))
-}
-
-/// The same with every number that the call answers, for joining.
-pub(crate) fn piece_behind(decls: &[u8], from: Rows, to: Rows, input: &[u8], out: &mut Vec<u8>) -> [u64; 6] {
-    let answer = piece_in(decls, from, to, input, out.spare_capacity_mut());
+/// The same into the room that a Vec has behind its elements, with every number that the call answers.
+pub(crate) fn convert_behind(decls: &[u8], from: Rows, to: Rows, input: &[u8], out: &mut Vec<u8>) -> [u64; 6] {
+    let answer = convert_in(decls, from, to, input, out.spare_capacity_mut());
     // SAFETY: as in `behind`.
     unsafe { out.set_len(out.len() + answer[4] as usize) };
     answer
