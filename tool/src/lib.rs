@@ -38,7 +38,6 @@ mod face;
 mod index;
 mod index_file;
 mod indexed_rows;
-mod join_stub;
 mod joined;
 mod joining;
 mod numbers;

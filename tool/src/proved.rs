@@ -3,8 +3,7 @@
 use std::mem::MaybeUninit;
 
 use crate::face::{sailmortar_base64_decode, sailmortar_base64_encode, sailmortar_convert_piece, sailmortar_declare};
-use crate::face::{sailmortar_compare, sailmortar_fetch, sailmortar_index};
-use crate::join_stub::sailmortar_join;
+use crate::face::{sailmortar_compare, sailmortar_fetch, sailmortar_index, sailmortar_join};
 use crate::joined::Call;
 use crate::{Comparison, Done, Input, Place, Refused, RefusedInput, Rows, ROWS_PER_START};
 
@@ -130,7 +129,9 @@ pub(crate) fn convert_behind(decls: &[u8], from: Rows, to: Rows, input: &[u8], o
 
 /// Joins calls on parts of an input to what was joined before, as far as they can be joined.
 pub(crate) fn join(length: u64, room: u64, calls: &[Call], joined: &mut [u64; 8]) {
-    sailmortar_join(length, room, calls.as_flattened(), joined);
+    let parts = calls.as_flattened();
+    // SAFETY: as in `convert_in`; `joined` is lent to this call alone.
+    unsafe { sailmortar_join(length, room, parts.as_ptr(), parts.len(), joined) };
 }
 
 /// Decodes base64 (RFC 4648, white space skipped anywhere) into `out`. A refusal (6, 7 or 17) writes nothing.
