@@ -69,8 +69,8 @@ impl<'scope, 'env, B: AsRef<[u8]> + Send + 'scope> Workers<'scope, 'env, B> {
         Workers { scope, way, threads, running: 0, jobs, queue: Arc::new(Mutex::new(queue)), answers: VecDeque::new() }
     }
 
-    /// Whether there is one that a part can be given to; a thread is started where all are at work. One thread alone would only be waited for.
-    pub fn are_there(&mut self) -> bool {
+    /// Starts a thread where all are at work, as long as there may be more; whether there is one at all. One alone would only be waited for.
+    pub fn hire(&mut self) -> bool {
         if self.threads > 1 && self.running < self.threads && self.running <= self.answers.len() {
             let (way, queue) = (self.way, self.queue.clone());
             self.running += usize::from(Builder::new().spawn_scoped(self.scope, move || work(way, &queue)).is_ok());
@@ -92,7 +92,7 @@ impl<'scope, 'env, B: AsRef<[u8]> + Send + 'scope> Workers<'scope, 'env, B> {
 
     /// Whether enough was given ahead.
     pub fn are_full(&self) -> bool {
-        self.answers.len() >= self.threads + AHEAD
+        self.answers.len() >= self.threads.saturating_add(AHEAD)
     }
 
     /// The first of the parts that were given and not taken, where it is converted; or waits for it.
