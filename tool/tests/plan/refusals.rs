@@ -12,7 +12,7 @@ fn rows_with(good: &[u8], row: &[u8], place: usize) -> Vec<u8> {
 
 /// In parts of one to a few rows, from a slice and from a reader.
 fn refused_everywhere(from: Rows, to: Rows, good: &[u8], row: &[u8], number: u64) {
-    for place in 0..12 {
+    for place in [0, 1, 5, 10, 11] {
         let night = Night::new(TEXT, from, rows_with(good, row, place));
         let expected = night.in_one_call(to);
         let refused = expected.answer.expect_err("a refusal");
