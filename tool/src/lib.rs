@@ -3,7 +3,8 @@
 //! The converter is proved: whatever bytes come in, the answer is rows or one numbered refusal with its row and column, the good rows
 //! before it stand whole in the output, and every byte after them is untouched. This crate is the thin, unproved layer over it: slices in,
 //! results out. One row of a long stream of BINARY or BINARY2 is found by an [`Index`], of a file without reading the rest of it
-//! ([`IndexedRows`]). Where two inputs differ, each of any kind of rows, [`compare()`] tells.
+//! ([`IndexedRows`]). Where two inputs differ, each of any kind of rows, [`compare()`] tells. On all cores, and from a reader of any length, a
+//! [`Plan`] converts.
 //!
 //! ```
 //! # fn main() -> Result<(), sailmortar::Error> {
@@ -32,15 +33,22 @@ mod answer;
 mod base64;
 mod columns;
 mod compare;
+mod cuts;
 mod face;
 mod index;
 mod index_file;
 mod indexed_rows;
+mod joined;
+mod joining;
 mod numbers;
+mod parts;
 mod pieces;
+mod plan;
 #[allow(unsafe_code)]
 mod proved;
 mod stream;
+mod way;
+mod workers;
 
 pub use answer::{Done, Error, Refused, Rows};
 pub use base64::{base64_decode_to_vec, base64_encode_to_vec, Base64Writer};
@@ -51,6 +59,7 @@ pub use index_file::Misfit;
 pub use indexed_rows::IndexedRows;
 pub use numbers::{meaning, Number, NUMBERS};
 pub use pieces::{convert_pieces, convert_to_vec, Piece};
+pub use plan::Plan;
 pub use proved::{base64_decode, base64_encode, compare, convert, declare, fetch, index};
 pub use stream::{base64_decode_stream, base64_encode_stream, convert_stream, read_input, within_limit, ROOM};
 

@@ -102,3 +102,8 @@ pub fn compare(decls: &[u8], from: [u32; 2], [first, second]: [&[u8]; 2], places
     }
     answer
 }
+
+pub fn join(length: u64, room: u64, parts: &[u64], joined: &mut [u64; 8]) {
+    // SAFETY: as in `conversion`; `joined` is lent to this call alone.
+    unsafe { face::sailmortar_join(length, room, parts.as_ptr(), parts.len(), joined) };
+}
