@@ -42,7 +42,7 @@ fn for_a_second(hint: &str) -> String {
 }
 
 fn instead_of_a_tag(stream: &Stream, fault: &[u8]) -> Option<&'static str> {
-    let is_first = without_space(stream.input).len() == fault.len();
+    let is_first = stream.window.place == 0 && without_space(stream.window.bytes).len() == fault.len();
     match fault {
         [b'<', ..] => of_a_tag(fault),
         _ if is_first => of_text(fault).or_else(|| of_other_rows(fault)),
@@ -104,14 +104,14 @@ fn is_base64(text: &[u8]) -> bool {
 
 /// A hint for rows of bytes that cannot be read.
 fn of_bytes(stream: &Stream, refused: &Refused) -> Option<&'static str> {
-    let text = without_space(stream.input);
+    let text = without_space(stream.window.start);
     let starts = |tag: &str| text.starts_with(tag.as_bytes());
     match refused.number {
         14.. => None,
         _ if starts("<?xml") || starts("<VOTABLE") => Some("this is a whole document: the bytes of its stream alone are wanted"),
         _ if starts("<TR>") || starts("<tr>") || starts("<TABLEDATA>") => Some("this looks like TABLEDATA: is --from right?"),
         _ if is_base64_of(stream, refused) => Some("this looks like base64: is --base64-in missing?"),
-        _ => of_packed(stream.input),
+        _ => of_packed(stream.window.start),
     }
 }
 
@@ -119,7 +119,7 @@ fn of_bytes(stream: &Stream, refused: &Refused) -> Option<&'static str> {
 fn is_base64_of(stream: &Stream, refused: &Refused) -> bool {
     let is_text = stream.columns.iter().all(|column| column.kind == Kind::Char);
     let is_told = refused.row < FIRST_ROWS && (!is_text || refused.number == 9);
-    is_told && !stream.decoded && is_base64(stream.input)
+    is_told && !stream.decoded && is_base64(stream.window.start)
 }
 
 /// A hint for a text that is no base64.

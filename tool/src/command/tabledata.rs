@@ -12,10 +12,10 @@ use crate::text::{after_tag, is_space, tag_or_text, without_space};
 const LINE_END: &[u8] = b"\r\n";
 
 pub fn standing<'a>(stream: &Stream<'a>, refused: &Refused) -> Option<Standing<'a>> {
-    let row = without_space(stream.input.get(refused.offset..)?);
+    let row = without_space(stream.window.from(refused.offset)?);
     let at = |place, here: &'a [u8], said: Said<'a>| {
         let Said { words, shown, fault } = said;
-        Some(Standing { place, byte: stream.input.len() - here.len(), words, shown: plain(shown), fault })
+        Some(Standing { place, byte: stream.window.place_of(here), words, shown: plain(shown), fault })
     };
     let Some(cells) = after_tag(row, "<TR", ">") else {
         return at(Place::Start, row, instead(row, "<TR>"));
