@@ -32,18 +32,22 @@ mod answer;
 mod base64;
 mod columns;
 mod compare;
+mod cuts;
 mod face;
 mod index;
 mod index_file;
 mod indexed_rows;
 mod join_stub;
 mod joined;
+mod joining;
 mod numbers;
+mod parts;
 mod pieces;
 mod plan;
 #[allow(unsafe_code)]
 mod proved;
 mod stream;
+mod workers;
 
 pub use answer::{Done, Error, Refused, Rows};
 pub use base64::{base64_decode_to_vec, base64_encode_to_vec, Base64Writer};

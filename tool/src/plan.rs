@@ -1,20 +1,45 @@
-//! Conversion on all cores, of an input of any length: parts of it are converted by themselves and joined in order.
+//! Conversion on all cores, and of an input of any length.
+//!
+//! Parts of the input are converted by themselves, on several threads, and joined in order. That parts which are joined so are what one call
+//! answers and writes is proved of the archive's functions, wherever the input is cut. What is not proved is that each part is handed on once, in
+//! order and whole: reading (parts.rs), threads (workers.rs) and writing (joining.rs).
 
 use std::io::{self, Read, Write};
 use std::num::NonZero;
 use std::thread::available_parallelism;
 
-use crate::joined::Joined;
-use crate::numbers::{INPUT_OVER_SIZE, NO_ROOM};
-use crate::proved::piece_behind;
-use crate::{declare, read_input, Done, Error, Piece, Refused, Rows, INPUT_LIMIT};
+use crate::cuts::Cuts;
+use crate::joining::Joining;
+use crate::numbers::INPUT_OVER_SIZE;
+use crate::parts::{Slice, Stream, LONGEST_ROW};
+use crate::workers::Way;
+use crate::{read_input, Done, Error, Piece, Refused, Rows, INPUT_LIMIT};
 
-/// How an input is to be converted: on how many cores, in parts of what size, and whether it is converted while it is read.
+/// About how many bytes a part has.
+const PART: usize = 1 << 20;
+
+/// How to convert: on how many threads, in parts of what size, and whether while the input is read.
+///
+/// Whatever is planned, the answer and the bytes are those of one call, [`convert_to_vec`](crate::convert_to_vec).
+///
+/// ```
+/// # fn main() -> Result<(), sailmortar::Error> {
+/// use sailmortar::{Plan, Rows};
+///
+/// let (fields, night) = (b"<FIELD datatype='short'/>", [0, 7, 0, 8]);
+/// let mut text = Vec::new();
+/// let done = Plan::new().length(4).convert(fields, Rows::Binary, Rows::TableData, &night[..], &mut text)?;
+/// assert_eq!(done.rows, 2);
+/// assert_eq!(text, b"<TR><TD>7</TD></TR>\n<TR><TD>8</TD></TR>\n");
+/// # Ok(())
+/// # }
+/// ```
+#[must_use = "a plan does nothing until it converts"]
 #[derive(Clone, Debug)]
 pub struct Plan {
     threads: usize,
     part: usize,
-    cuts: Option<Vec<u64>>,
+    cuts: Vec<u64>,
     length: Option<u64>,
     long: bool,
 }
@@ -26,74 +51,119 @@ impl Default for Plan {
 }
 
 impl Plan {
+    /// On all cores, in parts of about a megabyte. An input is read to its end before a row is written, since its size is judged first.
     pub fn new() -> Plan {
-        Plan { threads: available_parallelism().map_or(1, NonZero::get), part: 1 << 20, cuts: None, length: None, long: false }
+        let threads = available_parallelism().map_or(1, NonZero::get);
+        Plan { threads, part: PART, cuts: Vec::new(), length: None, long: false }
     }
 
+    /// On so many threads beside the one that calls, which reads and writes. With one there is none beside it, and for an input of one part.
     pub fn threads(mut self, threads: usize) -> Plan {
         self.threads = threads.max(1);
         self
     }
 
+    /// In parts of about so many bytes. As many parts as threads and two more are in memory, each with what it was converted to.
     pub fn part(mut self, bytes: usize) -> Plan {
-        self.part = bytes.clamp(1, 64 << 20);
+        self.part = bytes.clamp(1, LONGEST_ROW);
         self
     }
 
+    /// Cuts the input at such places, where rows begin, instead of guessing; behind the last of them it guesses. Places that are wrong cost
+    /// time, and change nothing.
     pub fn cuts(mut self, places: impl Into<Vec<u64>>) -> Plan {
-        self.cuts = Some(places.into());
+        self.cuts = places.into();
+        self.cuts.sort_unstable();
         self
     }
 
+    /// The input is so long: it is converted while it is read, and no more of it is read. One that ends before is as long as it is.
     pub fn length(mut self, bytes: u64) -> Plan {
         self.length = Some(bytes);
         self
     }
 
+    /// The input may be of any length: none is refused for its size, and it is converted while it is read.
+    ///
+    /// So that memory stays bounded, a row of TABLEDATA that is not whole within 64 MiB is judged by those: it is refused (10), though it might have
+    /// ended well behind them. A row that is shorter is judged as in one call.
     pub fn long(mut self) -> Plan {
         self.long = true;
         self
     }
 
+    /// Converts from a reader to a writer.
+    ///
+    /// Accepted or refused, the rows done are written whole, and `output` is flushed. Where that fails the answer is the system's error, whatever
+    /// else was to be said: then the rows do not stand.
     pub fn convert(&self, decls: &[u8], from: Rows, to: Rows, input: impl Read, mut output: impl Write) -> Result<Done, Error> {
         let done = self.convert_pieces(decls, from, to, input, &mut Vec::new(), |piece| output.write_all(piece.bytes));
         output.flush()?;
         done
     }
 
+    /// Converts from a reader, and hands the output to `sink` in pieces, whole rows each. An error of `sink` ends the conversion, and is the answer.
+    ///
+    /// Where a row is refused, or `sink` fails, `left` gets what was read of the input and not converted, from where the rows end that were handed
+    /// on: so it is, with what the reader still has, the rest of the input. Else it is empty.
     pub fn convert_pieces(
+        &self,
+        decls: &[u8],
+        from: Rows,
+        to: Rows,
+        mut input: impl Read,
+        left: &mut Vec<u8>,
+        mut sink: impl FnMut(Piece) -> io::Result<()>,
+    ) -> Result<Done, Error> {
+        left.clear();
+        let cuts = Cuts::new(decls, from, self.part, &self.cuts)?;
+        if self.length.is_none() && !self.long {
+            return self.convert_all(decls, from, to, input, left, sink);
+        }
+        let limit = self.length.unwrap_or(u64::MAX);
+        self.within_limit(limit)?;
+        let source = Stream::new(&mut input, limit, &cuts, self.longest());
+        Joining::new(Way { decls, from, to }, source, &mut sink, self.long).run(self.threads, Some(left))
+    }
+
+    /// The same of an input that is read to its end first.
+    fn convert_all(
         &self,
         decls: &[u8],
         from: Rows,
         to: Rows,
         input: impl Read,
         left: &mut Vec<u8>,
-        sink: impl FnMut(Piece) -> io::Result<()>,
+        mut sink: impl FnMut(Piece) -> io::Result<()>,
     ) -> Result<Done, Error> {
-        declare(decls)?;
-        self.within_limit(self.length.unwrap_or(0))?;
-        let most = if self.long { usize::MAX - 1 } else { INPUT_LIMIT };
-        let bytes = read_input(input.take(self.length.unwrap_or(u64::MAX)), 0, most)?;
-        let mut joined = Joined::default();
-        let done = self.in_parts(decls, from, to, &bytes, &mut joined, sink);
-        left.clear();
+        let (mut input, mut read) = (read_input(input, 0, INPUT_LIMIT)?, 0);
+        let done = self.convert_slice(decls, from, to, &input, |piece| {
+            read = piece.read;
+            sink(piece)
+        });
         if done.is_err() {
-            left.extend_from_slice(&bytes[joined.place() as usize..]);
+            input.drain(..read);
+            *left = input;
         }
         done
     }
 
+    /// Converts a slice, and hands the output to `sink` in pieces, whole rows each. An error of `sink` ends the conversion, and is the answer.
     pub fn convert_slice(
         &self,
         decls: &[u8],
         from: Rows,
         to: Rows,
         input: &[u8],
-        sink: impl FnMut(Piece) -> io::Result<()>,
+        mut sink: impl FnMut(Piece) -> io::Result<()>,
     ) -> Result<Done, Error> {
-        self.in_parts(decls, from, to, input, &mut Joined::default(), sink)
+        let cuts = Cuts::new(decls, from, self.part, &self.cuts)?;
+        self.within_limit(input.len() as u64)?;
+        let source = Slice::new(input, &cuts, self.longest());
+        Joining::new(Way { decls, from, to }, source, &mut sink, self.long).run(self.threads, None)
     }
 
+    /// One call refuses what is too long before it looks at a row.
     fn within_limit(&self, length: u64) -> Result<(), Refused> {
         match self.long || length <= INPUT_LIMIT as u64 {
             true => Ok(()),
@@ -101,36 +171,12 @@ impl Plan {
         }
     }
 
-    fn in_parts(
-        &self,
-        decls: &[u8],
-        from: Rows,
-        to: Rows,
-        input: &[u8],
-        joined: &mut Joined,
-        mut sink: impl FnMut(Piece) -> io::Result<()>,
-    ) -> Result<Done, Error> {
-        declare(decls)?;
-        self.within_limit(input.len() as u64)?;
-        let (mut out, mut room) = (Vec::new(), self.part);
-        loop {
-            out.clear();
-            out.try_reserve_exact(room)?;
-            let start = joined.place();
-            let rest = &input[start as usize..];
-            let rest = &rest[..rest.len().min(INPUT_LIMIT)];
-            let room_there = out.capacity() as u64;
-            let [number, row, column, rows, bytes, place] = piece_behind(decls, from, to, rest, &mut out);
-            let call = [start, rest.len() as u64, room_there, number, row, column, rows, bytes, place];
-            joined.join(Some(input.len() as u64), &[call]);
-            if !out.is_empty() {
-                sink(Piece { bytes: &out, rows: joined.rows(), read: joined.place() as usize })?;
-            } else if number == NO_ROOM {
-                room *= 2;
-            }
-            if let Some(outcome) = joined.outcome() {
-                return Ok(outcome?);
-            }
+    /// The most bytes of a part in which there is no place to cut.
+    fn longest(&self) -> usize {
+        if self.long {
+            LONGEST_ROW
+        } else {
+            INPUT_LIMIT
         }
     }
 }

@@ -16,6 +16,7 @@ mod agreement {
     mod compare_nights;
     mod declarations;
     mod index;
+    mod join;
     mod library;
     mod line_ends;
     mod out_of_range;

@@ -9,6 +9,7 @@ pub mod converter;
 pub mod declarations;
 pub mod index;
 pub mod integer;
+pub mod join;
 pub mod tabledata;
 pub mod text;
 
