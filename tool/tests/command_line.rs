@@ -510,6 +510,8 @@ fn files_that_are_not_there_are_named() {
         (format!("{words} --fields folder night.binary -o out"), "folder: Is a directory"),
         (format!("{words} --fields fields nowhere -o out"), "nowhere: No such file or directory"),
         (format!("{words} --fields fields folder -o out"), "folder: Is a directory"),
+        (format!("{words} --fields fields --long folder -o out"), "folder: Is a directory"),
+        ("check --fields fields --from binary --long folder".into(), "folder: Is a directory"),
         (format!("{words} --fields fields night.binary/x -o out"), "night.binary/x: Not a directory"),
         (format!("{words} --fields fields night.binary -o nowhere/out"), "nowhere/out: No such file or directory"),
         (format!("{words} --fields fields night.binary -o folder"), "folder: Is a directory"),

@@ -40,10 +40,19 @@ fn converted(from: Rows, to: Rows, input: &[u8]) -> (Vec<u8>, Option<Refused>) {
     }
 }
 
+/// Rows as they are written.
 fn good(kind: Rows, from: usize, to: usize) -> Vec<u8> {
     let (bytes, refused) = converted(Rows::TableData, kind, &rows(from, to));
     assert_eq!(refused, None);
     bytes
+}
+
+/// Rows as they are read, of which text has two lines each.
+fn night(kind: Rows, from: usize, to: usize) -> Vec<u8> {
+    match kind {
+        Rows::TableData => rows(from, to),
+        _ => good(kind, from, to),
+    }
 }
 
 fn scratch(test: &str) -> Scratch {
@@ -67,8 +76,8 @@ fn taken(scratch: &Scratch, name: &str) -> Option<Vec<u8>> {
 fn any_number_of_threads_writes_the_same_in_all_nine_ways() {
     let scratch = scratch("threads_ways");
     for from in KINDS {
-        let night = good(from, 0, MANY);
-        assert!(night.len() > 2_500_000, "{from} has many parts");
+        let night = night(from, 0, MANY);
+        assert!(night.len() > 2_000_000, "{from} has several parts");
         scratch.put("night", &night);
         for to in KINDS {
             let (expected, words) = (good(to, 0, MANY), way(from, to));
@@ -89,10 +98,10 @@ fn few_rows_are_the_same_on_many_threads() {
     let scratch = scratch("threads_few");
     for from in KINDS {
         for count in [0, 1, 2, 100] {
-            scratch.put("night", &good(from, 0, count));
+            scratch.put("night", &night(from, 0, count));
             for words in ["--threads 1", "--threads 8", "--long", "--long --threads 8"] {
                 let words = format!("{} {words} -v", way(from, Rows::Binary2));
-                let (said, piped) = (scratch.run(&format!("{words} night")), scratch.run_with(&words, &good(from, 0, count)));
+                let (said, piped) = (scratch.run(&format!("{words} night")), scratch.run_with(&words, &night(from, 0, count)));
                 assert_eq!((said.status, &said.out), (0, &good(Rows::Binary2, 0, count)), "{words}");
                 assert_eq!(said.err, piped.err.replace("standard input", "night"), "{words}");
                 let rows = if count == 1 { "1 row,".to_string() } else { format!("{count} rows,") };
@@ -130,8 +139,8 @@ const BAD: [Bad; 9] = [
 impl Bad {
     /// So many good rows, this one, and good ones up to `all`.
     fn among(&self, before: usize, all: usize) -> Vec<u8> {
-        let behind = if self.is_last { vec![] } else { good(self.from, before + 1, all.max(before + 1)) };
-        [good(self.from, 0, before), self.row.to_vec(), behind].concat()
+        let behind = if self.is_last { vec![] } else { night(self.from, before + 1, all) };
+        [night(self.from, 0, before), self.row.to_vec(), behind].concat()
     }
 }
 
@@ -185,7 +194,7 @@ fn check_says_the_same_on_any_number_of_threads() {
     let scratch = scratch("threads_check");
     for bad in &BAD {
         let words = format!("check --fields fields --from {} --to {}", bad.from, bad.to);
-        for night in [good(bad.from, 0, MANY), bad.among(MANY / 2, MANY)] {
+        for night in [night(bad.from, 0, MANY), bad.among(MANY / 2, MANY)] {
             scratch.put("night", &night);
             let piped = scratch.run_with(&words, &night);
             let name = |text: String| text.replace("standard input", "night");
@@ -295,8 +304,9 @@ fn a_sink_that_fails_in_the_middle_ends_the_run() {
 #[test]
 fn with_long_rows_come_out_of_a_pipe_while_others_come_in() {
     let scratch = scratch("threads_along");
-    let (first, second) = (rows(0, MANY), rows(MANY, MANY + 100));
-    let expected = good(Rows::Binary2, 0, MANY + 100);
+    // More than what is in memory at any time, so that some of it must have been written.
+    let (first, second) = (rows(0, 5 * MANY), rows(5 * MANY, 5 * MANY + 100));
+    let expected = good(Rows::Binary2, 0, 5 * MANY + 100);
     for threads in THREADS {
         let mut child = scratch.spawn(&format!("{} --long --threads {threads}", way(Rows::TableData, Rows::Binary2)));
         let (mut input, mut output) = (child.stdin.take().expect("a pipe"), child.stdout.take().expect("a pipe"));
@@ -376,6 +386,30 @@ fn with_long_an_input_over_a_gibibyte_is_converted() {
     assert!(said.status == 1 && said.err.starts_with(first), "{}", said.err);
     assert!(said.err.contains("the 32,769 rows before it are good"), "{}", said.err);
     assert!(said.err.contains(&format!("row 32769 begins at byte {}, column 0 at byte ", (1 << 30) + row)), "{}", said.err);
+}
+
+/// A cell that is white space for more than that reads well where all of it is held.
+#[test]
+fn with_long_a_row_is_judged_by_64_mebibytes() {
+    let scratch = scratch("threads_long_row");
+    let wide = [b"<TR><TD>", &b" ".repeat(65 << 20)[..], b"7</TD><TD/><TD/></TR>\n"].concat();
+    scratch.put("night", &[row(0).as_bytes(), &wide, row(1).as_bytes()].concat());
+    let words = "check --fields fields --from tabledata";
+    assert_eq!(scratch.run(&format!("{words} night")).status, 0);
+    let lines = [
+        "sailmortar: night: refusal 10 at row 1, column 0 (sky): short, the first 64 MiB of the row end where </TD> should stand: \
+         TABLEDATA tags or references are broken, or the number of cells is wrong",
+        "sailmortar: hint: with --long a row of TABLEDATA is judged by its first 64 MiB, and this one goes on behind them",
+    ];
+    let said = scratch.run(&format!("{words} --long night"));
+    assert_eq!((said.status, said.err.lines().next(), said.err.lines().last()), (1, Some(lines[0]), Some(lines[1])));
+    // What is broken is told from what is long, and what stands behind 64 MiB is in the rest all the same.
+    let broken = [row(0).as_bytes(), b"<TR><TD>7</TD></TR>\n", &wide, &wide].concat();
+    scratch.put("night", &broken);
+    let said = scratch.run(&format!("{} night -o out --rest rest --long", way(Rows::TableData, Rows::Binary2)));
+    assert!(said.err.contains("at row 1, column 1 (note): char 200*, '</TR>' where <TD> should stand: "), "{}", said.err);
+    assert!(!said.err.contains("hint"), "{}", said.err);
+    assert!(scratch.get("rest") == broken[row(0).trim_end().len()..], "the rest is whole");
 }
 
 /// Files of the system's own say that they have no bytes, or a page of them, and have others.

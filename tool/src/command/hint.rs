@@ -11,6 +11,10 @@ const FIRST_ROWS: u64 = 10;
 /// Bytes by which an input is told.
 const START: usize = 64;
 
+/// A tag or a reference that is cut has fewer bytes.
+const CUT: usize = 16;
+
+const LONG_ROW: &str = "with --long a row of TABLEDATA is judged by its first 64 MiB, and this one goes on behind them";
 const ROWS_ALONE: &str = "the rows alone are wanted: take out the tags around them";
 
 /// Tags that stand where a row or a cell should, and what to do about them.
@@ -29,6 +33,7 @@ const TAGS: &[(&str, &str)] = &[
 /// A hint for a refused row; `fault` is what stands where a tag or a reference of TABLEDATA should.
 pub fn of_row(stream: &Stream, refused: &Refused, fault: Option<&[u8]>) -> Option<String> {
     let hint = match (stream.from, fault) {
+        (Rows::TableData, Some(fault)) if stream.window.goes_on && fault.len() < CUT => Some(LONG_ROW),
         (Rows::TableData, Some(fault)) => instead_of_a_tag(stream, fault),
         (Rows::TableData, None) => None,
         _ => of_bytes(stream, refused),

@@ -2,8 +2,11 @@
 //! since the length is judged before any row.
 
 use std::fs::File;
+use std::hint::black_box;
 use std::io::{self, ErrorKind, Read, Write};
+use std::num::NonZeroUsize;
 use std::os::unix::fs::FileExt;
+use std::thread::available_parallelism;
 
 use sailmortar::{Done, Error, Piece, Plan, Refused, Rows};
 
@@ -14,11 +17,14 @@ use crate::output::Output;
 use crate::progress::Progress;
 use crate::report;
 use crate::text::count;
-use crate::window::Window;
+use crate::window::{Window, LONGEST_ROW};
 use crate::End;
 
 /// Bytes that are kept of the start of an input that is not kept whole. Hints look at fewer, behind white space.
 const START: usize = 1 << 20;
+
+/// Bytes of address space that a thread is to find: the heap that the system's library sets aside for it is half of that, and is hardly used.
+const FOR_A_THREAD: usize = 128 << 20;
 
 /// Bytes of a file that are read at a time where they are not converted.
 const CHUNK: usize = 1 << 16;
@@ -27,6 +33,7 @@ const CHUNK: usize = 1 << 16;
 pub struct Source<'a> {
     pub input: &'a Input,
     from: Rows,
+    is_long: bool,
     plan: Plan,
     kept: Kept<'a>,
 }
@@ -39,19 +46,17 @@ enum Kept<'a> {
 }
 
 impl<'a> Source<'a> {
-    /// An input over its size is refused here if it is a plain file.
+    /// The rows are read here where they are not to be read as they are converted.
     pub fn open(input: &'a mut Input, table: &Table, working: Working) -> Result<Source<'a>, End> {
-        let plan = working.threads.map_or_else(Plan::new, |threads| Plan::new().threads(threads.get()));
         // A file of the system's own may say that it has no bytes, and have some.
-        let is_read_first = !working.long && (table.base64_in || input.bytes_left() == 0);
-        if is_read_first {
+        let (length, from, is_long) = (input.bytes_left(), table.from, working.long);
+        if !is_long && (table.base64_in || length == 0) {
             let rows = read_rows(input, table.base64_in)?;
-            return Ok(Source { input, from: table.from, plan, kept: Kept::All(rows) });
+            return Ok(Source { input, from, is_long, plan: plan(working), kept: Kept::All(rows) });
         }
-        let length = input.bytes_left();
-        let plan = if working.long { plan.long() } else { plan.length(length) };
-        let reader = Reader::new(input, table.from).map_err(Trouble::with(&input.name))?;
-        Ok(Source { input, from: table.from, plan, kept: Kept::Left(reader, Vec::new()) })
+        let reader = Reader::new(input, from).map_err(Trouble::with(&input.name))?;
+        let plan = if is_long { plan(working).long() } else { plan(working).length(length) };
+        Ok(Source { input, from, is_long, plan, kept: Kept::Left(reader, Vec::new()) })
     }
 
     /// Converts the rows; `done` is the word for that where it is told how far things are.
@@ -108,17 +113,35 @@ impl<'a> Source<'a> {
         behind.map_or(Ok(()), |file| copy(file, self.input, rest))
     }
 
-    /// What messages see of the rows from the refused one on. The converter has judged by no byte that was not read, and all from that row on
-    /// are kept.
+    /// What messages see of the rows from the refused one on: all that was read, and so all that the row was judged by.
     pub fn window(&self, refused: &Refused) -> Window<'_> {
         match &self.kept {
             Kept::All(rows) => Window::whole(rows),
             Kept::Left(reader, left) => {
                 let line_feeds = reader.line_feeds_before(refused.offset, left);
-                Window { start: &reader.start, bytes: left, place: refused.offset, line_feeds, goes_on: !reader.ended }
+                let bytes = if self.is_long { &left[..left.len().min(LONGEST_ROW)] } else { left };
+                let goes_on = self.is_long && (bytes.len() < left.len() || !reader.ended);
+                Window { start: &reader.start, bytes, place: refused.offset, line_feeds, goes_on }
             }
         }
     }
+}
+
+/// On as many threads as were asked for, or on all cores, as long as there is room for them: the system's library ends a program of which a
+/// thread finds no memory at its start, and no one is told why.
+fn plan(working: Working) -> Plan {
+    let mut threads = working.threads.or_else(|| available_parallelism().ok()).map_or(1, NonZeroUsize::get);
+    while threads > 1 && !is_room(threads.saturating_mul(FOR_A_THREAD)) {
+        threads /= 2;
+    }
+    Plan::new().threads(threads)
+}
+
+/// Whether the system has so many bytes; they are not used.
+fn is_room(bytes: usize) -> bool {
+    let mut room: Vec<u8> = Vec::new();
+    let is_there = room.try_reserve_exact(bytes).is_ok();
+    is_there && black_box(room).capacity() >= bytes
 }
 
 fn how_far(piece: &Piece, length: Option<u64>, done: &str) -> String {

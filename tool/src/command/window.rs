@@ -2,6 +2,9 @@
 
 use crate::text::count;
 
+/// With `--long` a row is judged by so many bytes where they do not hold all of it.
+pub const LONGEST_ROW: usize = 64 << 20;
+
 #[derive(Clone, Copy)]
 pub struct Window<'a> {
     /// The first bytes of the input, by which hints tell what it is.
@@ -12,7 +15,7 @@ pub struct Window<'a> {
     pub place: usize,
     /// How many line feeds stand before them, where that could be counted.
     pub line_feeds: Option<u64>,
-    /// Whether the input goes on behind them.
+    /// Whether the input goes on behind them, and the row was judged by them alone.
     pub goes_on: bool,
 }
 
