@@ -1,15 +1,15 @@
 /*
- * Sailmortar: rows of VOTable tables between TABLEDATA, BINARY and BINARY2, any to any, and base64; one row of a long stream by an index; and where
- * two inputs of rows differ.
+ * Sailmortar: rows of VOTable tables between TABLEDATA, BINARY and BINARY2, any to any, and base64; one row of a long stream by an index; where
+ * two inputs of rows differ; and parts of an input, converted on several cores, as one.
  *
  * Link target/library/libsailmortar.a, or libsailmortar.so beside it; once installed, what `pkg-config --cflags --libs sailmortar` says.
  * All functions but sailmortar_version are proved: whatever bytes come in, the answer is rows or one numbered refusal with its row and
  * column, the good rows before it stand whole in the output, and every byte of the output after them is as it was. They allocate nothing,
  * keep nothing between calls, may be called from several threads at once, and use less than 128 KB of stack.
  *
- * What the caller sees to: a length is the number of bytes behind its pointer, of an index or of places the number of its 32-bit numbers; a
- * pointer may be null where its length is 0, `answer` never; `out`, an index that is filled, places and `answer` overlap nothing else; no length
- * is over PTRDIFF_MAX bytes.
+ * What the caller sees to: a length is the number of bytes behind its pointer, of an index or of places the number of its 32-bit numbers, of parts
+ * that of its 64-bit numbers; a pointer may be null where its length is 0, `answer` and `joined` never; `out`, an index that is filled, places,
+ * `answer` and `joined` overlap nothing else; no length is over PTRDIFF_MAX bytes.
  */
 #ifndef SAILMORTAR_H
 #define SAILMORTAR_H
@@ -61,6 +61,12 @@ enum {
     SAILMORTAR_FIRST_BEYOND = 5,  /* how many rows the first input has beyond the second */
     SAILMORTAR_SECOND_BEYOND = 6, /* how many rows the second input has beyond the first */
     SAILMORTAR_PLACES = 7         /* how many places were filled, each of them two numbers */
+};
+
+/* Two places more in `joined` of sailmortar_join; the six of sailmortar_convert_piece stand before them. */
+enum {
+    SAILMORTAR_PARTS = 6, /* how many parts were joined */
+    SAILMORTAR_ENDED = 7  /* 1 where no part is to follow, else 0 */
 };
 
 /* Refusal numbers. */
@@ -156,6 +162,31 @@ void sailmortar_fetch(const uint8_t *decls, size_t decls_length, uint32_t from, 
  */
 void sailmortar_compare(const uint8_t *decls, size_t decls_length, uint32_t from_first, const uint8_t *first, size_t first_length, uint32_t from_second,
                         const uint8_t *second, size_t second_length, uint32_t *places, size_t places_length, uint64_t answer[8]);
+
+/* How many numbers a part has. */
+enum {
+    SAILMORTAR_PART_NUMBERS = 9
+};
+
+/*
+ * Parts of an input, each converted by itself, joined to what one call on all of it answers: so an input can be converted on several cores, or while it
+ * is read. A part has nine numbers: where in the input it begins, its length, the room it was given, and the six that sailmortar_convert_piece answered.
+ * `parts_length` counts numbers, and those behind the last whole nine are not looked at.
+ *
+ * `joined` is all 0 at first. Each call goes on with the next parts, and `joined` gets how far that has come: six numbers as of one
+ * sailmortar_convert_piece, how many parts were joined, and whether that is the end. A part is joined where it begins at `joined`'s SAILMORTAR_END, and
+ * what it has written is not more than there is room left; else it and those behind it are not. One that was cut in the middle of a row, or whose own
+ * room was full, is joined up to that row, and the next has to begin there: SAILMORTAR_END says where. So wherever an input is cut, a wrong cut only
+ * costs time.
+ *
+ * `length` is that of the input, or UINT64_MAX while it is not known; `room` that of the whole output, or UINT64_MAX where it takes all. Once it has
+ * ended, the numbers are those of one call on all of the input with that room, and what the joined parts have written, one behind the other, is what that
+ * call writes. A last part from SAILMORTAR_END to the end of the input, which may be empty, with the room that is left always ends it. The place alone may
+ * be another: where a part of TABLEDATA was cut behind white space it stands there, and one call's before the white space.
+ *
+ * An input over 1 GiB, which one call refuses, is joined as any other is; a part over 1 GiB is not joined.
+ */
+void sailmortar_join(uint64_t length, uint64_t room, const uint64_t *parts, size_t parts_length, uint64_t joined[8]);
 
 #ifdef __cplusplus
 }

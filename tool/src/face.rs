@@ -53,4 +53,5 @@ extern "C" {
         places_length: usize,
         answer: *mut [u64; 8],
     );
+    pub fn sailmortar_join(length: u64, room: u64, parts: *const u64, parts_length: usize, joined: *mut [u64; 8]);
 }

@@ -154,7 +154,7 @@ impl<'a, S: Read + Seek, I: Read + Seek> IndexedRows<'a, S, I> {
 
 /// So many zeros, which take no memory until something else is written there. Whether the system gives so much is tried first: it ends a
 /// program that takes it untried.
-fn zeros<Z: Copy + Default>(count: usize) -> Result<Vec<Z>, Error> {
+pub(crate) fn zeros<Z: Copy + Default>(count: usize) -> Result<Vec<Z>, Error> {
     Vec::<Z>::new().try_reserve_exact(count)?;
     Ok(vec![Z::default(); count])
 }

@@ -1,5 +1,5 @@
-//! Parts of an input that were converted by themselves, joined to what one call on all of it answers. The sums and the judging are those of the
-//! proved `sailmortar_join`; here its numbers have names.
+//! Calls on parts of an input, joined to what one call on all of it answers. The sums and the judging are those of the proved
+//! `sailmortar_join`; here its numbers have names.
 
 use crate::proved::join;
 use crate::{Done, Refused};
@@ -8,9 +8,9 @@ use crate::{Done, Refused};
 pub type Call = [u64; 9];
 
 /// The room of an output that takes all, and the length of an input whose end is not known.
-pub const NO_END: u64 = u64::MAX;
+const NO_END: u64 = u64::MAX;
 
-/// How far parts were joined.
+/// How far calls were joined.
 #[derive(Clone, Copy, Debug, Default)]
 pub struct Joined {
     numbers: [u64; 8],
@@ -36,7 +36,7 @@ impl Joined {
         self.numbers[5]
     }
 
-    /// What one call answers, once all is joined that it looks at.
+    /// What one call answers, once all is joined that tells it.
     pub fn outcome(&self) -> Option<Result<Done, Refused>> {
         let [number, row, column, rows, bytes, place, _, ended] = self.numbers;
         match (ended, number) {

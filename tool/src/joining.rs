@@ -5,7 +5,8 @@ use std::thread::scope;
 
 use crate::joined::Joined;
 use crate::parts::{Part, Source, LONGEST_ROW};
-use crate::workers::{Converted, Output, Way, Workers};
+use crate::way::Way;
+use crate::workers::{Converted, Output, Workers};
 use crate::{Done, Error, Piece};
 
 /// How far a conversion has come.
@@ -62,7 +63,7 @@ impl<'a, S: Source> Joining<'a, S> {
     fn go_on(&mut self, workers: &mut Workers<S::Bytes>) -> Result<Option<Done>, Error> {
         let part = self.source.next()?.expect("the last part ends it");
         let is_alone = part.is_last && workers.are_idle();
-        if self.rest.is_some() || is_alone || !workers.are_there() {
+        if self.rest.is_some() || is_alone || !workers.hire() {
             return self.convert(part);
         }
         workers.give(part, self.spare.pop().unwrap_or_default());
@@ -90,7 +91,7 @@ impl<'a, S: Source> Joining<'a, S> {
             return Ok(None);
         }
         let mut output = self.spare.pop().unwrap_or_default();
-        self.way.convert(&part, &mut output)?;
+        output.fill(self.way, &part)?;
         self.join(part, output)
     }
 
@@ -130,10 +131,10 @@ impl<'a, S: Source> Joining<'a, S> {
 
     /// What was read from the place on where the rows joined end.
     fn tell(&mut self, left: &mut Vec<u8>, workers: &mut Workers<S::Bytes>) -> Result<(), Error> {
-        let mut add = |bytes: &[u8]| left.try_reserve(bytes.len()).map(|()| left.extend_from_slice(bytes));
-        if let Some(rest) = &self.rest {
-            add(rest.from(self.joined.place()))?;
+        if let Some(rest) = self.rest.take() {
+            *left = S::into_vec_from(rest, self.joined.place());
         }
+        let mut add = |bytes: &[u8]| left.try_reserve(bytes.len()).map(|()| left.extend_from_slice(bytes));
         while let Some(converted) = workers.take(true) {
             add(converted.part.bytes.as_ref())?;
         }

@@ -3,7 +3,8 @@
 //! The converter is proved: whatever bytes come in, the answer is rows or one numbered refusal with its row and column, the good rows
 //! before it stand whole in the output, and every byte after them is untouched. This crate is the thin, unproved layer over it: slices in,
 //! results out. One row of a long stream of BINARY or BINARY2 is found by an [`Index`], of a file without reading the rest of it
-//! ([`IndexedRows`]). Where two inputs differ, each of any kind of rows, [`compare()`] tells.
+//! ([`IndexedRows`]). Where two inputs differ, each of any kind of rows, [`compare()`] tells. On all cores, and from a reader of any length, a
+//! [`Plan`] converts.
 //!
 //! ```
 //! # fn main() -> Result<(), sailmortar::Error> {
@@ -37,7 +38,6 @@ mod face;
 mod index;
 mod index_file;
 mod indexed_rows;
-mod join_stub;
 mod joined;
 mod joining;
 mod numbers;
@@ -47,6 +47,7 @@ mod plan;
 #[allow(unsafe_code)]
 mod proved;
 mod stream;
+mod way;
 mod workers;
 
 pub use answer::{Done, Error, Refused, Rows};

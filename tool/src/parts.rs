@@ -1,10 +1,10 @@
 //! Parts of an input, in order and without gaps: of a slice, or of a reader as it is read.
 
-use std::collections::TryReserveError;
 use std::io::{self, ErrorKind, Read};
 use std::time::{Duration, Instant};
 
 use crate::cuts::Cuts;
+use crate::indexed_rows::zeros;
 use crate::Error;
 
 /// Without a bound on the input, a row is judged by so many bytes where they do not hold all of it.
@@ -53,6 +53,9 @@ pub trait Source {
     /// One part of what is left of the first from a place on, and of the second, which is the next.
     fn together(&mut self, first: Part<Self::Bytes>, place: u64, second: Part<Self::Bytes>) -> Result<Part<Self::Bytes>, Error>;
 
+    /// The bytes of a part from a place on.
+    fn into_vec_from(part: Part<Self::Bytes>, place: u64) -> Vec<u8>;
+
     /// Whether there is a next part, and it is not likely to take long until it is there.
     fn is_ready(&self) -> bool;
 
@@ -92,7 +95,7 @@ impl<'a> Source for Slice<'a> {
             match self.cuts.cut(start as u64, &rest[..wanted]) {
                 Some(length) => break &rest[..length],
                 None if wanted >= self.longest => break &rest[..wanted],
-                None => wanted *= 2,
+                None => wanted = (2 * wanted).min(self.longest),
             }
         };
         let is_last = bytes.len() == rest.len();
@@ -102,6 +105,10 @@ impl<'a> Source for Slice<'a> {
 
     fn together(&mut self, _first: Part<&'a [u8]>, place: u64, second: Part<&'a [u8]>) -> Result<Part<&'a [u8]>, Error> {
         Ok(Part { start: place, bytes: &self.input[place as usize..second.end() as usize], is_last: second.is_last })
+    }
+
+    fn into_vec_from(part: Part<&'a [u8]>, place: u64) -> Vec<u8> {
+        part.from(place).to_vec()
     }
 
     fn is_ready(&self) -> bool {
@@ -128,30 +135,22 @@ impl AsRef<[u8]> for Buffer {
 
 impl Buffer {
     /// Makes room for so many bytes in all.
-    fn reserve(&mut self, length: usize) -> Result<(), TryReserveError> {
+    fn reserve(&mut self, length: usize) -> Result<(), Error> {
         if length > self.room.len() {
-            // The system ends a program that takes zeros untried.
-            Vec::<u8>::new().try_reserve_exact(length)?;
-            let mut room = vec![0; length];
+            let mut room = zeros(length)?;
             room[..self.filled].copy_from_slice(self.as_ref());
             self.room = room;
         }
         Ok(())
     }
 
-    fn extend(&mut self, bytes: &[u8]) -> Result<(), TryReserveError> {
-        let filled = self.filled + bytes.len();
-        if filled > self.room.len() {
-            self.reserve(filled.max(2 * self.room.len()))?;
-        }
-        self.room[self.filled..filled].copy_from_slice(bytes);
-        self.filled = filled;
+    /// Has these bytes, and no others.
+    fn set(&mut self, bytes: &[u8]) -> Result<(), Error> {
+        self.filled = 0;
+        self.reserve(bytes.len())?;
+        self.room[..bytes.len()].copy_from_slice(bytes);
+        self.filled = bytes.len();
         Ok(())
-    }
-
-    fn drop_front(&mut self, length: usize) {
-        self.room.copy_within(length..self.filled, 0);
-        self.filled -= length;
     }
 
     /// Reads once, up to so many bytes in all; whether there is an end instead.
@@ -209,11 +208,10 @@ impl<'a> Stream<'a> {
     /// How many of the bytes read make a part; none where more have to be read.
     fn length_of_part(&self) -> Option<usize> {
         let bytes = self.begun.as_ref();
-        match self.cuts.cut(self.start, bytes) {
-            _ if self.is_at_end => Some(bytes.len()),
-            None if bytes.len() >= self.longest => Some(bytes.len()),
-            cut => cut,
+        if self.is_at_end {
+            return Some(bytes.len());
         }
+        self.cuts.cut(self.start, bytes).or((bytes.len() >= self.longest).then_some(bytes.len()))
     }
 }
 
@@ -229,12 +227,11 @@ impl Source for Stream<'_> {
             self.read(wanted)?;
             match self.length_of_part() {
                 Some(length) => break length,
-                None => wanted = wanted.max(2 * self.begun.filled),
+                None => wanted = wanted.max(2 * self.begun.filled).min(self.longest),
             }
         };
         let mut behind = self.spare.pop().unwrap_or_default();
-        behind.filled = 0;
-        behind.extend(&self.begun.as_ref()[length..])?;
+        behind.set(&self.begun.as_ref()[length..])?;
         let mut bytes = std::mem::replace(&mut self.begun, behind);
         bytes.filled = length;
         let part = Part { start: self.start, bytes, is_last: self.is_at_end };
@@ -243,11 +240,19 @@ impl Source for Stream<'_> {
         Ok(Some(part))
     }
 
-    fn together(&mut self, mut first: Part<Buffer>, place: u64, second: Part<Buffer>) -> Result<Part<Buffer>, Error> {
-        first.bytes.drop_front((place - first.start) as usize);
-        first.bytes.extend(second.bytes.as_ref())?;
+    fn together(&mut self, first: Part<Buffer>, place: u64, second: Part<Buffer>) -> Result<Part<Buffer>, Error> {
+        let mut room = Self::into_vec_from(first, place);
+        room.try_reserve(second.length())?;
+        room.extend_from_slice(second.bytes.as_ref());
         self.give_back(second.bytes);
-        Ok(Part { start: place, bytes: first.bytes, is_last: second.is_last })
+        Ok(Part { start: place, bytes: Buffer { filled: room.len(), room }, is_last: second.is_last })
+    }
+
+    fn into_vec_from(part: Part<Buffer>, place: u64) -> Vec<u8> {
+        let Buffer { mut room, filled } = part.bytes;
+        room.truncate(filled);
+        room.drain(..(place - part.start) as usize);
+        room
     }
 
     fn give_back(&mut self, bytes: Buffer) {

@@ -1,15 +1,13 @@
 //! Conversion that makes its own room: to the end of a Vec, or in pieces, so that memory holds the input and one piece of the output.
 //!
 //! The proved converter stops with refusal 17 where the room is full, with the rows before it written whole, and says where they end. It is
-//! then called again on the input behind them. That the parts together are what one call would answer and write is proved of the archive's
-//! functions (`in_pieces`, crates/promises): rows and bytes are added, a refusal stands at its row plus the rows before. The adding up, in
-//! `Course`, is all that is not proved.
+//! then called again on the input behind them, and the calls are joined (joined.rs).
 
 use std::io;
 
-use crate::numbers::NO_ROOM;
-use crate::proved::convert_behind;
-use crate::{Done, Error, Refused, Rows};
+use crate::joined::Joined;
+use crate::way::Way;
+use crate::{convert, Done, Error, Refused, Rows, INPUT_LIMIT};
 
 /// A piece of the output, and how far the conversion has come with it.
 #[derive(Clone, Copy, Debug)]
@@ -32,67 +30,56 @@ pub fn convert_pieces(
     room: usize,
     mut sink: impl FnMut(Piece) -> io::Result<()>,
 ) -> Result<Done, Error> {
-    let mut course = Course::new(decls, from, to, input);
+    let mut course = Course::new(Way { decls, from, to }, input)?;
     let mut out = Vec::new();
     out.try_reserve_exact(room.max(1))?;
     loop {
-        let part = course.go_on(&mut out);
+        let outcome = course.go_on(&mut out);
         if !out.is_empty() {
-            sink(Piece { bytes: &out, rows: course.done.rows, read: course.read })?;
+            sink(Piece { bytes: &out, rows: course.joined.rows(), read: course.joined.place() as usize })?;
         }
-        match part? {
-            Part::Last => return Ok(course.done),
-            Part::Full if out.is_empty() => out.try_reserve_exact(2 * out.capacity())?,
-            Part::Full => out.clear(),
+        match outcome {
+            Some(outcome) => return Ok(outcome?),
+            None if out.is_empty() => out.try_reserve_exact(2 * out.capacity())?,
+            None => out.clear(),
         }
     }
 }
 
 /// [`convert`](crate::convert) to the end of `out`, with as much room as it takes. Accepted or refused, the rows done stand there.
 pub fn convert_to_vec(decls: &[u8], from: Rows, to: Rows, input: &[u8], out: &mut Vec<u8>) -> Result<Done, Error> {
-    let mut course = Course::new(decls, from, to, input);
-    out.try_reserve(input.len().min(crate::INPUT_LIMIT) + 4096)?;
+    let mut course = Course::new(Way { decls, from, to }, input)?;
+    out.try_reserve(input.len() + 4096)?;
     loop {
-        match course.go_on(out)? {
-            Part::Last => return Ok(course.done),
-            Part::Full => out.try_reserve(2 * (out.capacity() - out.len()) + 4096)?,
+        match course.go_on(out) {
+            Some(outcome) => return Ok(outcome?),
+            None => out.try_reserve(2 * (out.capacity() - out.len()) + 4096)?,
         }
     }
 }
 
 /// How far a conversion has come.
 struct Course<'a> {
-    decls: &'a [u8],
-    from: Rows,
-    to: Rows,
+    way: Way<'a>,
     input: &'a [u8],
-    read: usize,
-    done: Done,
-}
-
-/// How a part of a conversion ended.
-enum Part {
-    Last,
-    Full,
+    joined: Joined,
 }
 
 impl<'a> Course<'a> {
-    fn new(decls: &'a [u8], from: Rows, to: Rows, input: &'a [u8]) -> Course<'a> {
-        Course { decls, from, to, input, read: 0, done: Done::default() }
+    fn new(way: Way<'a>, input: &'a [u8]) -> Result<Course<'a>, Refused> {
+        if input.len() > INPUT_LIMIT {
+            // It is refused before any row, and there is nothing to join.
+            convert(way.decls, way.from, way.to, input, &mut [])?;
+        }
+        Ok(Course { way, input, joined: Joined::default() })
     }
 
-    /// Converts what is left of the input into the room behind `out`. A refusal is that of the whole input.
-    fn go_on(&mut self, out: &mut Vec<u8>) -> Result<Part, Refused> {
-        let rest = &self.input[self.read..];
-        let before = self.done;
-        let (rows, bytes, read, end) = match convert_behind(self.decls, self.from, self.to, rest, out) {
-            Ok(done) => (done.rows, done.bytes, rest.len(), Ok(Part::Last)),
-            Err(refused) if refused.number == NO_ROOM => (refused.rows, refused.bytes, refused.offset, Ok(Part::Full)),
-            Err(refused) => (refused.rows, refused.bytes, refused.offset, Err(refused)),
-        };
-        self.read += read;
-        self.done = Done { rows: before.rows + rows, bytes: before.bytes + bytes };
-        let Done { rows, bytes } = self.done;
-        end.map_err(|refused| Refused { row: before.rows + refused.row, rows, bytes, offset: self.read, ..refused })
+    /// Converts what is left of the input into the room behind `out`; the outcome of the whole where that is its end, or nothing where the room is
+    /// full.
+    fn go_on(&mut self, out: &mut Vec<u8>) -> Option<Result<Done, Refused>> {
+        let start = self.joined.place();
+        let call = self.way.call(start, &self.input[start as usize..], out);
+        self.joined.join(Some(self.input.len() as u64), &[call]);
+        self.joined.outcome()
     }
 }

@@ -12,11 +12,17 @@ use crate::cuts::Cuts;
 use crate::joining::Joining;
 use crate::numbers::INPUT_OVER_SIZE;
 use crate::parts::{Slice, Stream, LONGEST_ROW};
-use crate::workers::Way;
-use crate::{read_input, Done, Error, Piece, Refused, Rows, INPUT_LIMIT};
+use crate::way::Way;
+use crate::{declare, read_input, Done, Error, Piece, Refused, Rows, INPUT_LIMIT};
 
-/// About how many bytes a part has.
+/// The most and the least bytes of a part. Between them, and where the length of the input is known, each thread gets so many parts that none is
+/// waited for long at the end.
 const PART: usize = 1 << 20;
+const LEAST_PART: usize = 1 << 16;
+const PARTS_FOR_A_THREAD: usize = 32;
+
+/// What is not longer takes longer on several threads, which have to be started.
+const SMALL: usize = 2 * LEAST_PART;
 
 /// How to convert: on how many threads, in parts of what size, and whether while the input is read.
 ///
@@ -35,37 +41,31 @@ const PART: usize = 1 << 20;
 /// # }
 /// ```
 #[must_use = "a plan does nothing until it converts"]
-#[derive(Clone, Debug)]
+#[derive(Clone, Debug, Default)]
 pub struct Plan {
-    threads: usize,
-    part: usize,
+    threads: Option<usize>,
+    part: Option<usize>,
     cuts: Vec<u64>,
     length: Option<u64>,
     long: bool,
 }
 
-impl Default for Plan {
-    fn default() -> Plan {
-        Plan::new()
-    }
-}
-
 impl Plan {
-    /// On all cores, in parts of about a megabyte. An input is read to its end before a row is written, since its size is judged first.
+    /// On all cores, in parts of about a megabyte, or less where the input is short. It is read to its end before a row is written, since its size is
+    /// judged first.
     pub fn new() -> Plan {
-        let threads = available_parallelism().map_or(1, NonZero::get);
-        Plan { threads, part: PART, cuts: Vec::new(), length: None, long: false }
+        Plan::default()
     }
 
-    /// On so many threads beside the one that calls, which reads and writes. With one there is none beside it, and for an input of one part.
+    /// On so many threads beside the one that calls, which reads and writes. Where it is one, and for an input of one part, there is none beside it.
     pub fn threads(mut self, threads: usize) -> Plan {
-        self.threads = threads.max(1);
+        self.threads = Some(threads.max(1));
         self
     }
 
-    /// In parts of about so many bytes. As many parts as threads and two more are in memory, each with what it was converted to.
+    /// In parts of about so many bytes. As many parts as threads, and two more, are in memory, each with what it was converted to.
     pub fn part(mut self, bytes: usize) -> Plan {
-        self.part = bytes.clamp(1, LONGEST_ROW);
+        self.part = Some(bytes.clamp(1, LONGEST_ROW));
         self
     }
 
@@ -116,14 +116,15 @@ impl Plan {
         mut sink: impl FnMut(Piece) -> io::Result<()>,
     ) -> Result<Done, Error> {
         left.clear();
-        let cuts = Cuts::new(decls, from, self.part, &self.cuts)?;
         if self.length.is_none() && !self.long {
             return self.convert_all(decls, from, to, input, left, sink);
         }
+        let (threads, part) = self.threads_and_part(self.length);
+        let cuts = Cuts::new(decls, from, part, &self.cuts)?;
         let limit = self.length.unwrap_or(u64::MAX);
         self.within_limit(limit)?;
         let source = Stream::new(&mut input, limit, &cuts, self.longest());
-        Joining::new(Way { decls, from, to }, source, &mut sink, self.long).run(self.threads, Some(left))
+        Joining::new(Way { decls, from, to }, source, &mut sink, self.long).run(threads, Some(left))
     }
 
     /// The same of an input that is read to its end first.
@@ -136,6 +137,7 @@ impl Plan {
         left: &mut Vec<u8>,
         mut sink: impl FnMut(Piece) -> io::Result<()>,
     ) -> Result<Done, Error> {
+        declare(decls)?;
         let (mut input, mut read) = (read_input(input, 0, INPUT_LIMIT)?, 0);
         let done = self.convert_slice(decls, from, to, &input, |piece| {
             read = piece.read;
@@ -157,10 +159,23 @@ impl Plan {
         input: &[u8],
         mut sink: impl FnMut(Piece) -> io::Result<()>,
     ) -> Result<Done, Error> {
-        let cuts = Cuts::new(decls, from, self.part, &self.cuts)?;
+        let (threads, part) = self.threads_and_part(Some(input.len() as u64));
+        let cuts = Cuts::new(decls, from, part, &self.cuts)?;
         self.within_limit(input.len() as u64)?;
         let source = Slice::new(input, &cuts, self.longest());
-        Joining::new(Way { decls, from, to }, source, &mut sink, self.long).run(self.threads, None)
+        Joining::new(Way { decls, from, to }, source, &mut sink, self.long).run(threads, None)
+    }
+
+    /// For an input of this length, where it is known.
+    fn threads_and_part(&self, length: Option<u64>) -> (usize, usize) {
+        let length = usize::try_from(length.unwrap_or(u64::MAX)).unwrap_or(usize::MAX);
+        let threads = match self.threads {
+            Some(threads) => threads,
+            None if length <= SMALL => 1,
+            None => available_parallelism().map_or(1, NonZero::get),
+        };
+        let share = length / threads.saturating_mul(PARTS_FOR_A_THREAD);
+        (threads, self.part.unwrap_or(share.clamp(LEAST_PART, PART)))
     }
 
     /// One call refuses what is too long before it looks at a row.

@@ -3,8 +3,7 @@
 use std::mem::MaybeUninit;
 
 use crate::face::{sailmortar_base64_decode, sailmortar_base64_encode, sailmortar_convert_piece, sailmortar_declare};
-use crate::face::{sailmortar_compare, sailmortar_fetch, sailmortar_index};
-use crate::join_stub::sailmortar_join;
+use crate::face::{sailmortar_compare, sailmortar_fetch, sailmortar_index, sailmortar_join};
 use crate::joined::Call;
 use crate::{Comparison, Done, Input, Place, Refused, RefusedInput, Rows, ROWS_PER_START};
 
@@ -32,7 +31,7 @@ fn outcome([number, row, column, rows, bytes]: [u64; 5], offset: u64) -> Result<
     }
 }
 
-fn piece_in(decls: &[u8], from: Rows, to: Rows, input: &[u8], out: &mut Room) -> [u64; 6] {
+fn convert_in(decls: &[u8], from: Rows, to: Rows, input: &[u8], out: &mut Room) -> [u64; 6] {
     let mut answer = [0; 6];
     // SAFETY: each pointer and length is a slice's own, and `out` and `answer` are lent to this call alone.
     unsafe {
@@ -49,11 +48,6 @@ fn piece_in(decls: &[u8], from: Rows, to: Rows, input: &[u8], out: &mut Room) ->
         );
     }
     answer
-}
-
-fn convert_in(decls: &[u8], from: Rows, to: Rows, input: &[u8], out: &mut Room) -> Result<Done, Refused> {
-    let [five @ .., offset] = piece_in(decls, from, to, input, out);
-    outcome(five, offset)
 }
 
 fn decode_in(input: &[u8], out: &mut Room) -> Result<Done, Refused> {
@@ -121,16 +115,13 @@ fn fetch_in(decls: &[u8], from: Rows, input: &[u8], index: &[u32], rows: u64, ro
 /// The input may be a piece of a table, such as its front while the rest is still to come: a row that is cut is refused (8, of TABLEDATA
 /// 10), and the next piece begins at the refusal's `offset`, with what has come since.
 pub fn convert(decls: &[u8], from: Rows, to: Rows, input: &[u8], out: &mut [u8]) -> Result<Done, Refused> {
-    convert_in(decls, from, to, input, room_of(out))
+    let [five @ .., offset] = convert_in(decls, from, to, input, room_of(out));
+    outcome(five, offset)
 }
 
-pub(crate) fn convert_behind(decls: &[u8], from: Rows, to: Rows, input: &[u8], out: &mut Vec<u8>) -> Result<Done, Refused> {
-    behind(out, |room| convert_in(decls, from, to, input, room))
-}
-
-/// The same with every number that the call answers, for joining.
-pub(crate) fn piece_behind(decls: &[u8], from: Rows, to: Rows, input: &[u8], out: &mut Vec<u8>) -> [u64; 6] {
-    let answer = piece_in(decls, from, to, input, out.spare_capacity_mut());
+/// The same into the room that a Vec has behind its elements, with every number that the call answers.
+pub(crate) fn convert_behind(decls: &[u8], from: Rows, to: Rows, input: &[u8], out: &mut Vec<u8>) -> [u64; 6] {
+    let answer = convert_in(decls, from, to, input, out.spare_capacity_mut());
     // SAFETY: as in `behind`.
     unsafe { out.set_len(out.len() + answer[4] as usize) };
     answer
@@ -138,7 +129,9 @@ pub(crate) fn piece_behind(decls: &[u8], from: Rows, to: Rows, input: &[u8], out
 
 /// Joins calls on parts of an input to what was joined before, as far as they can be joined.
 pub(crate) fn join(length: u64, room: u64, calls: &[Call], joined: &mut [u64; 8]) {
-    sailmortar_join(length, room, calls.as_flattened(), joined);
+    let parts = calls.as_flattened();
+    // SAFETY: as in `convert_in`; `joined` is lent to this call alone.
+    unsafe { sailmortar_join(length, room, parts.as_ptr(), parts.len(), joined) };
 }
 
 /// Decodes base64 (RFC 4648, white space skipped anywhere) into `out`. A refusal (6, 7 or 17) writes nothing.

@@ -8,19 +8,10 @@ use std::thread::{Builder, Scope};
 use crate::joined::Call;
 use crate::numbers::NO_ROOM;
 use crate::parts::Part;
-use crate::proved::piece_behind;
-use crate::Rows;
+use crate::way::Way;
 
 /// Parts that are read and converted ahead, beside one for each thread: so no thread waits while others are read and written.
 const AHEAD: usize = 2;
-
-/// What is converted to what.
-#[derive(Clone, Copy)]
-pub struct Way<'a> {
-    pub decls: &'a [u8],
-    pub from: Rows,
-    pub to: Rows,
-}
 
 /// What converting a part gave: the calls on it, and what they wrote, one behind the other. It is used again for one part after the other.
 #[derive(Default)]
@@ -29,24 +20,22 @@ pub struct Output {
     pub bytes: Vec<u8>,
 }
 
-impl Way<'_> {
+impl Output {
     /// Converts a part. Where the room is full there is more of it, and another call goes on.
-    pub fn convert<B: AsRef<[u8]>>(&self, part: &Part<B>, output: &mut Output) -> Result<(), TryReserveError> {
-        let Output { calls, bytes: out } = output;
-        calls.clear();
-        out.clear();
-        out.try_reserve(part.length())?;
+    pub fn fill<B: AsRef<[u8]>>(&mut self, way: Way, part: &Part<B>) -> Result<(), TryReserveError> {
+        self.calls.clear();
+        self.bytes.clear();
+        self.bytes.try_reserve(part.length())?;
         let mut start = part.start;
         loop {
-            calls.try_reserve(1)?;
-            let (input, room) = (part.from(start), out.capacity() - out.len());
-            let [number, row, column, rows, bytes, place] = piece_behind(self.decls, self.from, self.to, input, out);
-            calls.push([start, input.len() as u64, room as u64, number, row, column, rows, bytes, place]);
+            self.calls.try_reserve(1)?;
+            let call @ [_, _, _, number, .., place] = way.call(start, part.from(start), &mut self.bytes);
+            self.calls.push(call);
             if number != NO_ROOM {
                 return Ok(());
             }
             start += place;
-            out.try_reserve(2 * (out.capacity() - out.len()) + 4096)?;
+            self.bytes.try_reserve(2 * (self.bytes.capacity() - self.bytes.len()) + 4096)?;
         }
     }
 }
@@ -80,8 +69,8 @@ impl<'scope, 'env, B: AsRef<[u8]> + Send + 'scope> Workers<'scope, 'env, B> {
         Workers { scope, way, threads, running: 0, jobs, queue: Arc::new(Mutex::new(queue)), answers: VecDeque::new() }
     }
 
-    /// Whether there is one that a part can be given to; a thread is started where all are at work. One thread alone would only be waited for.
-    pub fn are_there(&mut self) -> bool {
+    /// Starts a thread where all are at work, as long as there may be more; whether there is one at all. One alone would only be waited for.
+    pub fn hire(&mut self) -> bool {
         if self.threads > 1 && self.running < self.threads && self.running <= self.answers.len() {
             let (way, queue) = (self.way, self.queue.clone());
             self.running += usize::from(Builder::new().spawn_scoped(self.scope, move || work(way, &queue)).is_ok());
@@ -103,7 +92,7 @@ impl<'scope, 'env, B: AsRef<[u8]> + Send + 'scope> Workers<'scope, 'env, B> {
 
     /// Whether enough was given ahead.
     pub fn are_full(&self) -> bool {
-        self.answers.len() >= self.threads + AHEAD
+        self.answers.len() >= self.threads.saturating_add(AHEAD)
     }
 
     /// The first of the parts that were given and not taken, where it is converted; or waits for it.
@@ -121,7 +110,7 @@ fn work<B: AsRef<[u8]>>(way: Way, queue: &Mutex<Receiver<Job<B>>>) {
     loop {
         let job = queue.lock().unwrap_or_else(PoisonError::into_inner).recv();
         let Ok(Job { part, mut output, answer }) = job else { return };
-        let memory = way.convert(&part, &mut output);
+        let memory = output.fill(way, &part);
         // It fails where nobody waits for it any more.
         let _ = answer.send(Converted { part, output, memory });
     }

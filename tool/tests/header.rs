@@ -121,11 +121,56 @@ static int two_nights(void) {
     COUNTS(0, 0, 0, 0);
     return 0;
 }
+/* A part of three shorts, from one place to another, in so much room; what it writes goes to `out`. */
+static void convert_part(uint64_t part[SAILMORTAR_PART_NUMBERS], uint64_t start, uint64_t end, uint8_t *out, size_t room) {
+    static const uint8_t night[6] = {0, 7, 0, 8, 0, 9};
+    part[0] = start;
+    part[1] = end - start;
+    part[2] = room;
+    sailmortar_convert_piece(SHORT, SAILMORTAR_BINARY, SAILMORTAR_BINARY2, night + start, (size_t)(end - start), out, room, part + 3);
+}
+#define JOINED(number, row, rows, bytes, end, parts, ended) \
+    if (joined[SAILMORTAR_NUMBER] != (number) || joined[SAILMORTAR_ROW] != (row) || joined[SAILMORTAR_COLUMN] != 0) return __LINE__; \
+    if (joined[SAILMORTAR_ROWS] != (rows) || joined[SAILMORTAR_BYTES] != (bytes) || joined[SAILMORTAR_END] != (end)) return __LINE__; \
+    if (joined[SAILMORTAR_PARTS] != (parts) || joined[SAILMORTAR_ENDED] != (ended)) return __LINE__
+/* Cut in the middle of a row, and where a row begins; the input's end, and the room's. */
+static int parts_of_a_night(void) {
+    uint64_t parts[3 * SAILMORTAR_PART_NUMBERS], joined[8] = {0, 0, 0, 0, 0, 0, 0, 0};
+    uint8_t out[9];
+    memset(out, 0xEE, sizeof out);
+    convert_part(parts, 0, 3, out, 9);
+    convert_part(parts + 9, 3, 6, out + 3, 6);
+    sailmortar_join(6, 9, parts, 18, joined);
+    JOINED(0, 0, 1, 3, 2, 1, 0);
+    convert_part(parts, 2, 6, out + 3, 3);
+    convert_part(parts + 9, 4, 6, out + 6, 3);
+    sailmortar_join(6, 9, parts, 17, joined);
+    JOINED(0, 0, 2, 6, 4, 2, 0);
+    sailmortar_join(UINT64_MAX, UINT64_MAX, parts + 9, 9, joined);
+    JOINED(0, 0, 3, 9, 6, 3, 0);
+    convert_part(parts, 6, 6, NULL, 0);
+    sailmortar_join(6, 9, parts, 9, joined);
+    JOINED(0, 0, 3, 9, 6, 4, 1);
+    if (memcmp(out, "\0\0\7\0\0\10\0\0\11", 9) != 0) return __LINE__;
+    memset(joined, 0, sizeof joined);
+    convert_part(parts, 0, 5, out, 4);
+    sailmortar_join(5, 5, parts, 9, joined);
+    JOINED(0, 0, 1, 3, 2, 1, 0);
+    convert_part(parts, 2, 5, out, 2);
+    sailmortar_join(5, 5, parts, 9, joined);
+    JOINED(SAILMORTAR_NO_ROOM, 1, 1, 3, 2, 2, 1);
+    memset(joined, 0, sizeof joined);
+    convert_part(parts, 0, 5, out, 6);
+    sailmortar_join(5, UINT64_MAX, parts, 9, joined);
+    JOINED(SAILMORTAR_STREAM_ENDS, 2, 2, 6, 4, 1, 1);
+    return 0;
+}
 int main(void) {
     uint8_t out[8];
     uint64_t answer[6] = {0, 0, 0, 0, 0, 77};
     int wrong = index_and_fetch();
     if (wrong == 0) wrong = two_nights();
+    if (wrong == 0) wrong = parts_of_a_night();
     if (wrong != 0) return wrong;
     memset(out, 0xEE, sizeof out);
     sailmortar_convert(TEXT("<FIELD datatype='int'/>"), 3, SAILMORTAR_BINARY, TEXT(""), out, 8, answer);
@@ -324,9 +369,16 @@ static int nulls_elsewhere(void) {
     IS(SAILMORTAR_COLUMNS_OUT_OF_RANGE);
     return 0;
 }
+static int nulls_in_joining(void) {
+    uint64_t joined[8] = {1, 2, 3, 4, 5, 6, 7, 8}, same[8];
+    memcpy(same, joined, sizeof same);
+    sailmortar_join(9, 9, NULL, 0, joined);
+    return memcmp(same, joined, sizeof same) == 0 ? 0 : __LINE__;
+}
 int main(void) {
     memset(answer, 0xEE, sizeof answer);
     int wrong = nulls_elsewhere();
+    if (wrong == 0) wrong = nulls_in_joining();
     for (uint32_t pair = 0; pair < 9 && wrong == 0; pair++) wrong = nulls_in_comparing(pair / 3, pair % 3);
     for (uint32_t from = 1; from < 3 && wrong == 0; from++) wrong = nulls_in_an_index(from);
     for (uint32_t way = 0; way < 9 && wrong == 0; way++) wrong = nulls_in_rows(sailmortar_convert, way / 3, way % 3);

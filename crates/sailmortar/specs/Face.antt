@@ -2,13 +2,15 @@
 use Prim.Native.Nat.{suc, zero, ℕ}
 use mathlib.Core.List.{List, [], _++_, _∷_}
 use mathlib.Core.Option.{Option, none, some}
-use lib.ListN.{length, replicate}
+use lib.ListN.{getD, length, replicate}
 use Rattle.base64.specs.Base64.{decodeCall, encodeCall}
 use Rattle.compare.specs.Compare.{Compared, compare}
 use Rattle.compare.specs.declared.Comparison.{Comparison}
 use Rattle.fields.specs.Fields.{declare}
 use Rattle.index.specs.Fetch.{fetch}
 use Rattle.index.specs.Index.{index}
+use Rattle.parts.specs.Join.{join, partsOf}
+use Rattle.parts.specs.declared.Joined.{Joined}
 use Rattle.rows.specs.Convert.{convert}
 use Rattle.rows.specs.Pieces.{PieceCall, convertPiece}
 use Rattle.table.specs.Outcome.{Call, Refusal}
@@ -94,6 +96,27 @@ comparedFaced c = record { numbers = eight (c .answer); buffer = c .buffer }
 unfoldable pub compareFace : List ℕ → ℕ → List ℕ → ℕ → List ℕ → List ℕ → Faced
 compareFace decls from-first first from-second second places =
     betweenKinds (rowsOf from-first) (rowsOf from-second) (noSuchKind 7 places) (λ source other. comparedFaced (compare decls source first other second places))
+
+-- ---- parts joined: number, row, column, rows, bytes, place, parts used, and whether it has ended; at entry how far it has come, at exit how far with
+-- these parts, nine numbers each
+
+unfoldable pub joinedOf : List ℕ → Joined
+joinedOf s = record {
+  number = getD s 0 0;
+  row = getD s 1 0;
+  column = getD s 2 0;
+  rows = getD s 3 0;
+  bytes = getD s 4 0;
+  place = getD s 5 0;
+  parts = getD s 6 0;
+  ended = getD s 7 0;
+}
+
+unfoldable pub joinedNumbers : Joined → List ℕ
+joinedNumbers j = j .number ∷ j .row ∷ j .column ∷ j .rows ∷ j .bytes ∷ j .place ∷ j .parts ∷ j .ended ∷ []
+
+unfoldable pub joinFace : ℕ → ℕ → List ℕ → List ℕ → List ℕ
+joinFace length room parts joined = joinedNumbers (join length room (joinedOf joined) (partsOf parts))
 
 -- ---- base64
 

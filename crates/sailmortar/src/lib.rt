@@ -2,10 +2,11 @@
 // and the bytes written.
 use compare::Comparison;
 use convert::Piece;
+use parts::Joined;
 use table::Answer;
 use table::Rows;
 ghost use mathlib.Core.Path.{_≡_};
-ghost use Rattle.sailmortar.specs.Face.{binaryOf, compareFace, convertFace, declareFace, decodeFace, eight, encodeFace, fetchFace, five, indexFace, pieceFace, rowsOf, six};
+ghost use Rattle.sailmortar.specs.Face.{binaryOf, compareFace, convertFace, declareFace, decodeFace, eight, encodeFace, fetchFace, five, indexFace, joinFace, joinedNumbers, joinedOf, pieceFace, rowsOf, six};
 ghost use Rattle.sailmortar.specs.Named.{namedAs};
 
 // 01 has no number for it.
@@ -190,6 +191,46 @@ pub extern "C" fn sailmortar_compare(
     };
     let c = comparing::compare(decls, source, first, other, second, places);
     put_comparison(c, answer);
+}
+
+fn joined_of(joined: &[u64; 8]) -> Joined
+    ensures { λ r. ⌜ r ≡ joinedOf (now (joined .entry)) ⌝ }
+{
+    Joined {
+        number: joined[0],
+        row: joined[1],
+        column: joined[2],
+        rows: joined[3],
+        bytes: joined[4],
+        place: joined[5],
+        parts: joined[6],
+        ended: joined[7],
+    }
+}
+
+fn put_joined(j: Joined, joined: &mut [u64; 8])
+    ensures { λ _. ⌜ now (joined .exit) ≡ joinedNumbers j ⌝ }
+{
+    *joined = [
+        j.number,
+        j.row,
+        j.column,
+        j.rows,
+        j.bytes,
+        j.place,
+        j.parts,
+        j.ended,
+    ];
+}
+
+// Parts of an input of this length, each converted by itself, joined in the room of the whole: `joined` has at entry how far it has come, all 0 at
+// first, and gets how far with these parts, nine numbers each: start, length, room, and the six that its call answered.
+#[no_mangle]
+pub extern "C" fn sailmortar_join(length: u64, room: u64, parts: &[u64], joined: &mut [u64; 8])
+    ensures { λ _. ⌜ now (joined .exit) ≡ joinFace length room (now (parts .entry)) (now (joined .entry)) ⌝ }
+{
+    let so_far = joined_of(joined);
+    put_joined(joining::join(length, room, parts, so_far), joined);
 }
 
 // Base64 to bytes.

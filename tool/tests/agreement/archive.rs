@@ -3,9 +3,6 @@
 #[path = "../../src/face.rs"]
 mod face;
 
-#[path = "../../src/join_stub.rs"]
-mod join_stub;
-
 // The one that the library does not call.
 extern "C" {
     fn sailmortar_convert(
@@ -107,5 +104,6 @@ pub fn compare(decls: &[u8], from: [u32; 2], [first, second]: [&[u8]; 2], places
 }
 
 pub fn join(length: u64, room: u64, parts: &[u64], joined: &mut [u64; 8]) {
-    join_stub::sailmortar_join(length, room, parts, joined);
+    // SAFETY: as in `conversion`; `joined` is lent to this call alone.
+    unsafe { face::sailmortar_join(length, room, parts.as_ptr(), parts.len(), joined) };
 }

@@ -46,9 +46,9 @@ fn some_part(random: &mut Random, start: u64) -> [u64; 9] {
 
 #[test]
 fn any_numbers_are_joined_as_the_model_joins_them() {
-    let (mut joined_parts, mut ended) = ([0; 8], 0);
-    for seed in seeds(120_000_000, 60_000) {
-        let mut random = Random::new(seed);
+    let (seeds, mut joined_parts, mut ended) = (seeds(120_000_000, 60_000), [0; 8], 0);
+    for seed in &seeds {
+        let mut random = Random::new(*seed);
         let mut joined = [0; 8];
         if random.one_in(3) {
             joined = joined.map(|_| some_number(&mut random));
@@ -70,7 +70,8 @@ fn any_numbers_are_joined_as_the_model_joins_them() {
         ended += u64::from(end != joined[7]);
     }
     // All of it happens: parts that are joined and that are not, and ends.
-    assert!(joined_parts[..4].iter().all(|times| *times > 100) && ended > 1_000, "{joined_parts:?}, {ended}");
+    let all_happen = joined_parts[..4].iter().all(|times| *times > 100) && ended > 1_000;
+    assert!(all_happen || seeds.len() == 1, "{joined_parts:?}, {ended}");
 }
 
 #[test]

@@ -17,8 +17,8 @@ fn some_cuts(random: &mut Random, night: &Night) -> Vec<u64> {
         2 => (0..=length as u64 + 2).collect(),
         3 => (0..=length as u64).rev().step_by(7).collect(),
         4 => vec![u64::MAX, length as u64, length as u64 + 1, 0, 0, u64::MAX - 1],
-        5 => night.starts(),
-        _ => night.starts().into_iter().map(|start| start + 1).rev().collect(),
+        5 => night.ends().into_iter().map(|end| end as u64).collect(),
+        _ => night.ends().into_iter().map(|end| end as u64 + 1).rev().collect(),
     }
 }
 
@@ -127,16 +127,62 @@ fn every_single_cut() {
     }
 }
 
-/// Places at which rows begin, as an index has them: each part ends at one of them.
-#[test]
-fn parts_end_where_rows_begin() {
-    let night = Night::new("<FIELD datatype='short'/>", Rows::Binary, (0..200).collect::<Vec<u8>>());
+/// Where the pieces of a good night end, which is where its parts do.
+fn ends_of_pieces(plan: &Plan, night: &Night) -> Vec<usize> {
     let mut ends = Vec::new();
-    let plan = Plan::new().threads(3).part(40).cuts((0..100).step_by(10).map(|place| 2 * place).collect::<Vec<u64>>());
-    let done = plan.convert_slice(&night.declarations, night.from, Rows::Binary, &night.input, |piece| {
+    let done = plan.convert_slice(&night.declarations, night.from, Rows::Binary2, &night.input, |piece| {
         ends.push(piece.read);
         Ok(())
     });
-    assert_eq!(done.expect("it is good").rows, 100);
-    assert_eq!(ends, [40, 80, 120, 160, 200]);
+    done.expect("it is good");
+    ends
+}
+
+/// Places at which rows begin, as an index has them: each part ends at one of them.
+#[test]
+fn parts_end_where_they_are_said_to() {
+    let night = Night::new("<FIELD datatype='short'/>", Rows::Binary, (0..200).collect::<Vec<u8>>());
+    let plan = Plan::new().threads(3).part(45).cuts((0..100).step_by(10).map(|place| 2 * place).collect::<Vec<u64>>());
+    assert_eq!(ends_of_pieces(&plan, &night), [40, 80, 120, 160, 200]);
+    assert_eq!(ends_of_pieces(&plan.part(1).cuts([150, 70, 4]), &night)[..3], [4, 70, 150]);
+}
+
+/// Where a part that begins at `start` is to end by guess: with the last row that is whole in so many bytes, or in twice as many.
+fn guessed_end(night: &Night, ends: &[usize], start: usize, part: usize) -> usize {
+    let mut reach = start + part;
+    while reach < night.input.len() {
+        let is_told = |end: usize| match night.from {
+            // By the start of the next row.
+            Rows::TableData => {
+                night.input[end..].windows(3).position(|letters| letters == b"<TR").is_some_and(|tag| end + tag + 3 <= reach)
+            }
+            _ => end <= reach,
+        };
+        if let Some(end) = ends.iter().rev().find(|end| **end > start && is_told(**end)) {
+            return *end;
+        }
+        reach += reach - start;
+    }
+    night.input.len()
+}
+
+/// No answer depends on a guess, but how long it takes does.
+#[test]
+fn guesses_are_right() {
+    let (seeds, mut parts) = (seeds(133_000_000, 300), 0);
+    for seed in &seeds {
+        for from in [Rows::TableData, Rows::Binary, Rows::Binary2] {
+            let mut random = Random::new(*seed);
+            let (night, part) = (Night::good(&mut random, from, 40), random.between(1, 700));
+            let (ends, mut expected) = (night.ends(), Vec::new());
+            while expected.last().unwrap_or(&0) < ends.last().unwrap_or(&0) {
+                expected.push(guessed_end(&night, &ends, *expected.last().unwrap_or(&0), part));
+            }
+            let told = ends_of_pieces(&Plan::new().threads(1).part(part), &night);
+            assert_eq!(told, expected, "seed {seed}, {from}, parts of {part}: {night:?}");
+            parts += told.len();
+        }
+    }
+    // They are not all of one part.
+    assert!(seeds.len() == 1 || parts > 10 * seeds.len(), "{parts} parts");
 }

@@ -76,3 +76,17 @@ fn a_broken_row_with_much_behind_it() {
         }
     }
 }
+
+/// A row is tried again in twice as many bytes, and not with each part that is added to it: that would be a thousand times the work.
+#[test]
+fn a_row_of_very_many_parts() {
+    let letters = "x".repeat(4 << 20);
+    let night = Night::new(FIELDS, Rows::TableData, format!("<TR><TD>7</TD></TR>\n<TR><TD>{letters}</TD></TR>\n<TR><TD>8</TD></TR>"));
+    let expected = night.in_one_call(Rows::Binary);
+    assert_eq!(expected.answer.map_err(|refused| (refused.number, refused.row)), Err((11, 1)));
+    let plan = Plan::new().threads(2).part(1).cuts((0..night.input.len() as u64).step_by(64).collect::<Vec<_>>());
+    let begun = std::time::Instant::now();
+    assert_eq!(night.as_slice(&plan, Rows::Binary), expected);
+    assert_eq!(night.from_reader(&plan.long(), Rows::Binary, Steps::new(&night.input, 1 << 16)), expected);
+    assert!(begun.elapsed().as_secs() < 20, "{:?}", begun.elapsed());
+}

@@ -49,18 +49,24 @@ impl Night {
         Night { declarations: declarations.as_bytes().to_vec(), from, input: input.into() }
     }
 
-    /// Up to so many rows of a few columns, in a third of the seeds damaged and in a third cut off.
-    pub fn random(random: &mut Random, from: Rows, rows: usize) -> Night {
+    /// Up to so many rows of a few columns, all of them good.
+    pub fn good(random: &mut Random, from: Rows, rows: usize) -> Night {
         let (columns, rows) = (some(random, 1, 5), random.below(rows + 1));
         let kind = EVERY_KIND_OF_ROWS[from as usize];
         let table = table(random, &columns, kind, rows);
-        let good = spelled(random, &columns, kind, &table);
-        let input = match random.below(3) {
-            0 => damaged(random, &good),
-            1 => good[..random.between(0, good.len())].to_vec(),
-            _ => good,
-        };
+        let input = spelled(random, &columns, kind, &table);
         Night { declarations: declarations(&columns), from, input }
+    }
+
+    /// The same, one in three damaged and one in three cut off.
+    pub fn random(random: &mut Random, from: Rows, rows: usize) -> Night {
+        let good = Night::good(random, from, rows);
+        let input = match random.below(3) {
+            0 => damaged(random, &good.input),
+            1 => good.input[..random.between(0, good.input.len())].to_vec(),
+            _ => return good,
+        };
+        Night { input, ..good }
     }
 
     /// What one call says, with room enough.
@@ -76,15 +82,15 @@ impl Night {
         }
     }
 
-    /// Where rows begin, in one that is accepted.
-    pub fn starts(&self) -> Vec<u64> {
+    /// Where the rows before a refused one end.
+    pub fn ends(&self) -> Vec<usize> {
         let columns = crate::model::declarations::read(&self.declarations).expect("they are good");
-        let (kind, mut at, mut starts) = (EVERY_KIND_OF_ROWS[self.from as usize], 0, Vec::new());
+        let (kind, mut at, mut ends) = (EVERY_KIND_OF_ROWS[self.from as usize], 0, Vec::new());
         while let Ok(Some((_, end))) = converter::read_row(&columns, kind, &self.input, at) {
-            starts.push(at as u64);
+            ends.push(end);
             at = end;
         }
-        starts
+        ends
     }
 
     /// What a plan says of it as a slice; each piece is whole rows, and says how many they are and where they end.
