@@ -403,6 +403,8 @@ fn with_long_a_row_is_judged_by_64_mebibytes() {
     ];
     let said = scratch.run(&format!("{words} --long night"));
     assert_eq!((said.status, said.err.lines().next(), said.err.lines().last()), (1, Some(lines[0]), Some(lines[1])));
+    let piped = Said::of(scratch.shell(&format!("cat night | \"$PROGRAM\" {words} --long")));
+    assert_eq!(piped.err.replace("standard input", "night"), said.err);
     // What is broken is told from what is long, and what stands behind 64 MiB is in the rest all the same.
     let broken = [row(0).as_bytes(), b"<TR><TD>7</TD></TR>\n", &wide, &wide].concat();
     scratch.put("night", &broken);

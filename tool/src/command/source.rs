@@ -130,11 +130,15 @@ impl<'a> Source<'a> {
 /// On as many threads as were asked for, or on all cores, as long as there is room for them: the system's library ends a program of which a
 /// thread finds no memory at its start, and no one is told why.
 fn plan(working: Working) -> Plan {
-    let mut threads = working.threads.or_else(|| available_parallelism().ok()).map_or(1, NonZeroUsize::get);
+    let wanted = working.threads.or_else(|| available_parallelism().ok()).map_or(1, NonZeroUsize::get);
+    let mut threads = wanted;
     while threads > 1 && !is_room(threads.saturating_mul(FOR_A_THREAD)) {
         threads /= 2;
     }
-    Plan::new().threads(threads)
+    match working.threads.is_none() && threads == wanted {
+        true => Plan::new(),
+        false => Plan::new().threads(threads),
+    }
 }
 
 /// Whether the system has so many bytes; they are not used.
