@@ -4,7 +4,7 @@ mod shell;
 
 use std::fs::{self, File};
 use std::io::{Read, Write};
-use std::process::Command;
+use std::process::{Command, Stdio};
 use std::thread;
 use std::time::Duration;
 
@@ -581,14 +581,21 @@ sys.exit(run.wait())
 fn progress_is_shown_at_a_terminal_and_wiped() {
     let scratch = Scratch::new("progress");
     scratch.put("int", b"<FIELD datatype='int' name='n'/>");
-    let mut python = Command::new("python3");
-    python.env("TERM", "xterm").args(["-c", SLOW, PROGRAM]).args(["convert", "--fields", "int", "--from", "binary", "--to", "binary2"]);
-    let output = python.current_dir(&scratch.0).output().expect("python3 runs");
-    let said = String::from_utf8(output.stdout).expect("text");
-    let (drawn, message) = said.rsplit_once("\r\x1b[K").expect("it is wiped");
-    assert!(drawn.contains("\r\x1b[Ksailmortar: 10 MB read"), "{said:?}");
-    assert!(message.starts_with("sailmortar: standard input: refusal 8 at row 3932160, column 0 (n): "), "{said:?}");
-    assert_eq!(output.status.code(), Some(1));
+    // Both at once, since each waits for seconds.
+    let runs = [("--verbose", "10 MB read"), ("--long", " MB converted, ")].map(|(option, words)| {
+        let mut python = Command::new("python3");
+        python.env("TERM", "xterm").args(["-c", SLOW, PROGRAM]).args("convert --fields int --from binary --to binary2".split(' '));
+        let python = python.arg(option).current_dir(&scratch.0).stdin(Stdio::null()).stdout(Stdio::piped());
+        (words, python.spawn().expect("python3 runs"))
+    });
+    for (words, run) in runs {
+        let output = run.wait_with_output().expect("python3 ends");
+        let said = String::from_utf8(output.stdout).expect("text");
+        let (drawn, message) = said.rsplit_once("\r\x1b[K").expect("it is wiped");
+        assert!(drawn.contains("\r\x1b[Ksailmortar: ") && drawn.contains(words), "{said:?}");
+        assert!(message.starts_with("sailmortar: standard input: refusal 8 at row 3932160, column 0 (n): "), "{said:?}");
+        assert_eq!(output.status.code(), Some(1));
+    }
 }
 
 #[test]

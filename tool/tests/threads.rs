@@ -17,8 +17,8 @@ const FIELDS: &str = "<FIELD name='sky' datatype='short'><VALUES null='-99'/></F
 const KINDS: [Rows; 3] = [Rows::TableData, Rows::Binary, Rows::Binary2];
 const THREADS: [usize; 4] = [1, 2, 3, 8];
 
-/// Rows of several megabytes in each kind.
-const MANY: usize = 25_000;
+/// Rows of a megabyte or more in each kind, which has some twenty parts.
+const MANY: usize = 12_000;
 
 /// A row of text, on two lines.
 fn row(number: usize) -> String {
@@ -76,11 +76,11 @@ fn taken(scratch: &Scratch, name: &str) -> Option<Vec<u8>> {
 fn any_number_of_threads_writes_the_same_in_all_nine_ways() {
     let scratch = scratch("threads_ways");
     for from in KINDS {
-        let night = night(from, 0, MANY);
+        let night = night(from, 0, 2 * MANY);
         assert!(night.len() > 2_000_000, "{from} has several parts");
         scratch.put("night", &night);
         for to in KINDS {
-            let (expected, words) = (good(to, 0, MANY), way(from, to));
+            let (expected, words) = (good(to, 0, 2 * MANY), way(from, to));
             for threads in THREADS {
                 assert_eq!(scratch.run(&format!("{words} night -o out --threads {threads}")), Said::good(b""), "{words}");
                 assert!(taken(&scratch, "out").as_ref() == Some(&expected), "{words}, {threads} threads");
@@ -305,8 +305,8 @@ fn a_sink_that_fails_in_the_middle_ends_the_run() {
 fn with_long_rows_come_out_of_a_pipe_while_others_come_in() {
     let scratch = scratch("threads_along");
     // More than what is in memory at any time, so that some of it must have been written.
-    let (first, second) = (rows(0, 5 * MANY), rows(5 * MANY, 5 * MANY + 100));
-    let expected = good(Rows::Binary2, 0, 5 * MANY + 100);
+    let (first, second) = (rows(0, 10 * MANY), rows(10 * MANY, 10 * MANY + 100));
+    let expected = good(Rows::Binary2, 0, 10 * MANY + 100);
     for threads in THREADS {
         let mut child = scratch.spawn(&format!("{} --long --threads {threads}", way(Rows::TableData, Rows::Binary2)));
         let (mut input, mut output) = (child.stdin.take().expect("a pipe"), child.stdout.take().expect("a pipe"));
@@ -329,6 +329,32 @@ fn with_long_rows_come_out_of_a_pipe_while_others_come_in() {
         drop(input);
         assert!(reader.join().expect("the reader ends") == expected, "{threads} threads");
         assert_eq!(Said::of(child.wait_with_output().expect("it ends")), Said::good(b""));
+    }
+}
+
+/// Runs a program until its output has some bytes, sends a signal to the thread that was started last, and says which signal ended it.
+const SIGNALLED: &str = "
+import ctypes, glob, os, signal, subprocess, sys, time
+run = subprocess.Popen(sys.argv[1:])
+written = lambda: sum(os.path.getsize(part) for part in glob.glob('out.*.part'))
+while written() < 1 << 20:
+    time.sleep(0.001)
+threads = sorted(int(name) for name in os.listdir('/proc/%d/task' % run.pid))
+ctypes.CDLL(None).tgkill(run.pid, threads[-1], signal.SIGTERM)
+print(len(threads) > 1, -run.wait() == signal.SIGTERM)
+";
+
+#[test]
+fn a_signal_to_any_thread_ends_the_run_and_leaves_nothing() {
+    let scratch = scratch("threads_signal");
+    zeros(&scratch, 1 << 30);
+    scratch.put("out", b"yesterday");
+    for threads in ["2", "8"] {
+        let mut python = Command::new("python3");
+        python.args(["-c", SIGNALLED, PROGRAM]).args("convert --fields longs --from binary --to tabledata zeros -o out".split(' '));
+        let said = Said::of(python.args(["--threads", threads]).current_dir(&scratch.0).output().expect("python3 runs"));
+        assert_eq!(said, Said::good(b"True True\n"));
+        assert_eq!((scratch.get("out"), scratch.parts()), (b"yesterday".to_vec(), vec![]));
     }
 }
 
