@@ -39,8 +39,8 @@ fn main() {
     println!("{memory}");
 }
 
-/// Seconds of one call, of a plan on one thread, and of one on so many.
-fn seconds(night: &Night, from: Rows, to: Rows, threads: usize) -> [f64; 3] {
+/// Seconds of one call, of a plan on one thread, and of one on all cores.
+fn seconds(night: &Night, from: Rows, to: Rows) -> [f64; 3] {
     let (input, expected) = (form(night, from), form(night, to));
     let [mut out, mut out_of_one, mut out_of_all] = [(); 3].map(|()| vec![0xff; expected.len()]);
     let seconds = best_of([
@@ -49,7 +49,7 @@ fn seconds(night: &Night, from: Rows, to: Rows, threads: usize) -> [f64; 3] {
             assert_eq!(done.map(|done| done.rows), Ok(night.rows as u64));
         },
         &mut || by_plan(Plan::new().threads(1), night, from, to, &mut out_of_one),
-        &mut || by_plan(Plan::new().threads(threads), night, from, to, &mut out_of_all),
+        &mut || by_plan(Plan::new(), night, from, to, &mut out_of_all),
     ]);
     assert!([out, out_of_one, out_of_all].iter().all(|out| out == expected), "{from} to {to}");
     seconds
@@ -67,12 +67,12 @@ fn by_plan(plan: Plan, night: &Night, from: Rows, to: Rows, out: &mut [u8]) {
 }
 
 fn nine_ways(night: &Night, threads: usize) {
-    println!("| from | to | MB | one call MB/s | plan, 1 thread MB/s | plan, {threads} threads MB/s | {threads} threads / one call | {threads} threads / 1 thread |");
+    println!("| from | to | MB | one call MB/s | plan, 1 thread MB/s | plan, {threads} cores MB/s | {threads} cores / one call | {threads} cores / 1 thread |");
     println!("|---|---|--:|--:|--:|--:|--:|--:|");
     for from in EVERY_KIND {
         for to in EVERY_KIND {
             let size = mega(form(night, from).len());
-            let [call, one, all] = seconds(night, from, to, threads);
+            let [call, one, all] = seconds(night, from, to);
             let [call_speed, one_speed, all_speed] = [call, one, all].map(|seconds| size / seconds);
             println!(
                 "| {from} | {to} | {size:.1} | {call_speed:.0} | {one_speed:.0} | {all_speed:.0} | {:.2} | {:.2} |",
@@ -85,12 +85,12 @@ fn nine_ways(night: &Night, threads: usize) {
 }
 
 fn sizes(threads: usize) {
-    println!("| from | to | KB | one call µs | plan, 1 thread µs | plan, {threads} threads µs | {threads} threads / one call | {threads} threads / 1 thread |");
+    println!("| from | to | KB | one call µs | plan, 1 thread µs | plan, {threads} cores µs | {threads} cores / one call | {threads} cores / 1 thread |");
     println!("|---|---|--:|--:|--:|--:|--:|--:|");
     for (from, to) in [(Rows::TableData, Rows::Binary2), (Rows::Binary2, Rows::TableData)] {
         for night in SIZES.map(|size| table::night(1_000 * size)) {
             let size = form(&night, from).len() / 1_000;
-            let [call, one, all] = seconds(&night, from, to, threads);
+            let [call, one, all] = seconds(&night, from, to);
             let [call_time, one_time, all_time] = [call, one, all].map(|seconds| seconds * 1e6);
             println!("| {from} | {to} | {size} | {call_time:.0} | {one_time:.0} | {all_time:.0} | {:.2} | {:.2} |", call / all, one / all);
         }

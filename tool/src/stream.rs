@@ -28,7 +28,8 @@ pub fn read_input(mut input: impl Read, expected: usize, limit: usize) -> io::Re
     }
 }
 
-/// [`convert`](crate::convert) from a reader to a writer, in memory for the input and one piece of the output.
+/// [`convert`](crate::convert) from a reader to a writer, in memory for the input and one piece of the output. A [`Plan`](crate::Plan) does so on
+/// all cores, and in less memory.
 ///
 /// Accepted or refused, the rows done are written whole, and `output` is flushed. Where that fails the answer is the system's error,
 /// whatever else was to be said: then the rows do not stand.

@@ -3,11 +3,13 @@
 -- what it is about is there already.
 use Prim.Native.Nat.{_≤_, zero-le, ℕ}
 use native.Mathlib.Omega.{arith}
-use mathlib.Core.Bool.{Bool, false≢true}
+use mathlib.Core.Bool.{Bool, false, false≢true, true}
 use mathlib.Core.List.{List, [], _++_, _∷_, append-assoc}
 use mathlib.Core.Logic.{_⊎_, inl, inr}
 use mathlib.Core.Path.{_∙_, _≡_, ap, refl, subst, subst⁻¹, sym}
+use lib.Dec.{eqb}
 use lib.ListN.{length, length-append}
+use borrow.Author.Tests.{eqb-false, eqb-true}
 use Rattle.demands.proofs.Demand1.{rows-of}
 use Rattle.demands.proofs.Demand2.{declared-columns, demand2}
 use Rattle.demands.proofs.Writing.{FirstLine, first-line, lines-good}
@@ -112,6 +114,34 @@ no-row-cut (no-start h) = stays (no-start-cut h) (λ q g. no-start g)
 no-row-cut (no-cells h r) = stays (no-cells-cut r) (λ q g. no-cells (start-longer q h) g)
 no-row-cut (no-end h r (no-text-end none)) = inl refl
 
+-- ---- and a row that has not ended stays one that has begun
+
+white-front : (s q : List ℕ) → White (s ++ q) → White s
+white-front [] q w = white-end
+white-front (b ∷ s) q (white-then h w) = white-then h (white-front s q w)
+
+empty-front : (s q : List ℕ) → s ++ q ≡ [] → s ≡ []
+empty-front [] q e = refl
+empty-front (b ∷ s) q e = let n = ap length e in absurd (omega (arith, n))
+
+more-longer : {from : Rows} {s : List ℕ} (q : List ℕ) → MoreAt s from → MoreAt (s ++ q) from
+more-longer {s = s} q (text-more h) = text-more (λ w. h (white-front s q w))
+more-longer {s = s} q (binary-more h) = binary-more (λ e. h (empty-front s q e))
+more-longer {s = s} q (binary2-more h) = binary2-more (λ e. h (empty-front s q e))
+
+-- so a stream that stops with another number stops there whatever follows
+pub stays-stopped : (from : Rows) (cs : List Column) → AreColumns cs → (rest more : List ℕ) (e : Refusal) → AreBytes (rest ++ more)
+    → (e .number ≡ cutNumber from → ⊥) → read from cs rest ≡ stopped e → read from cs (rest ++ more) ≡ stopped e
+unfolding andThen tableOf at
+stays-stopped from cs i rest more e bytes other q =
+    let stop = first-stop from cs i rest e q in
+    go (more-at-is from rest (stop .0)) (no-row-cut (fails-at (no-row-is from cs rest (parts-bytes (rest ++ more) rest more refl bytes .0)) (stop .1)))
+  where
+    go : MoreAt rest from → (e .number ≡ cutNumber from) ⊎ ((q : List ℕ) → NoRow from cs (rest ++ q) (e .number) (e .column)) → read from cs (rest ++ more) ≡ stopped e
+    go m (inl n) = absurd (other n)
+    go m (inr f) = stops-exactly from cs i [] (rest ++ more) (e .number) (e .column) bytes .0
+        (record { rest = rest ++ more; before = rows-none; more = more-longer more m; none = f more })
+
 -- ---- the rows of the front, and those of the whole
 
 -- a table is its rows, and then its end or its refusal
@@ -153,23 +183,6 @@ lines-front to cs (xs ∷ done) left body l =
 
 -- ---- what a call on the front gives
 
-white-front : (s q : List ℕ) → White (s ++ q) → White s
-white-front [] q w = white-end
-white-front (b ∷ s) q (white-then h w) = white-then h (white-front s q w)
-
-empty-front : (s q : List ℕ) → s ++ q ≡ [] → s ≡ []
-empty-front [] q e = refl
-empty-front (b ∷ s) q e = let n = ap length e in absurd (omega (arith, n))
-
-more-longer : {from : Rows} {s : List ℕ} (q : List ℕ) → MoreAt s from → MoreAt (s ++ q) from
-more-longer {s = s} q (text-more h) = text-more (λ w. h (white-front s q w))
-more-longer {s = s} q (binary-more h) = binary-more (λ e. h (empty-front s q e))
-more-longer {s = s} q (binary2-more h) = binary2-more (λ e. h (empty-front s q e))
-
-stop-no-end : (e : Refusal) → Ends (andThen (tableOf []) (stopped e)) → ⊥
-unfolding andThen tableOf
-stop-no-end e h = h
-
 run-front : (from to : Rows) (cs : List Column) (room : ℕ) (s body : List ℕ) (rows : List (List Cell)) (u : Table) → read from cs s ≡ andThen (tableOf rows) u
     → lines to cs (tableOf rows) ≡ good body → length body ≤ room → write to cs room (length rows) body u ≡ run from to cs room s
 unfolding run
@@ -182,16 +195,15 @@ module _ (decls : List ℕ) (from to : Rows) (front more out : List ℕ) (cs : L
   i = declared-columns decls cs declared
 
   -- what stands behind the whole rows of the front is no row, and with more behind it no refusal: so the refusal is the cut's
-  the-number : (rest : List ℕ) (left : List (List Cell)) (e : Refusal) → AreBytes (rest ++ more) → MoreAt rest from → NoRow from cs rest (e .number) (e .column)
-      → read from cs (rest ++ more) ≡ tableOf left → e .number ≡ cutNumber from
-  the-number rest left e a m h q = go (no-row-cut h)
+  the-number : (rest : List ℕ) (left : List (List Cell)) (e : Refusal) → AreBytes (rest ++ more) → read from cs rest ≡ stopped e → read from cs (rest ++ more) ≡ tableOf left
+      → e .number ≡ cutNumber from
+  the-number rest left e a q s = go (eqb (e .number) (cutNumber from)) refl
     where
-      go : (e .number ≡ cutNumber from) ⊎ ((q : List ℕ) → NoRow from cs (rest ++ q) (e .number) (e .column)) → e .number ≡ cutNumber from
-      go (inl n) = n
-      go (inr f) =
-          let s : read from cs (rest ++ more) ≡ andThen (tableOf []) (stopped (at (e .column) (e .number)))
-          = stops-exactly from cs i [] (rest ++ more) (e .number) (e .column) a .0 (record { rest = rest ++ more; before = rows-none; more = more-longer more m; none = f more }) in
-          absurd (stop-no-end (at (e .column) (e .number)) (subst Ends s (subst⁻¹ Ends q (table-ends left))))
+      go : (t : Bool) → eqb (e .number) (cutNumber from) ≡ t → e .number ≡ cutNumber from
+      go true h = eqb-true (e .number) (cutNumber from) h
+      go false h =
+          let stays = stays-stopped from cs i rest more e a (eqb-false (e .number) (cutNumber from) h) q in
+          absurd (subst Ends stays (subst⁻¹ Ends s (table-ends left)))
 
   fate-of : (done left : List (List Cell)) (rest body : List ℕ) (u : Table) → IsLast u → read from cs rest ≡ u → AreBytes rest → AreBytes (rest ++ more)
       → read from cs (rest ++ more) ≡ tableOf left → (o : Outcome) → write to cs (length out) (length done) body u ≡ o → CutFate from cs rest (length done) (ending o out) × (rowsDone o ≡ length done)
@@ -202,7 +214,7 @@ module _ (decls : List ℕ) (from to : Rows) (front more out : List ℕ) (cs : L
       let f = first-stop from cs i rest x q in
       let m : MoreAt rest from = more-at-is from rest (f .0) in
       let h : NoRow from cs rest (x .number) (x .column) = fails-at (no-row-is from cs rest a) (f .1) in
-      let n : x .number ≡ cutNumber from = the-number rest left x b m h s in
+      let n : x .number ≡ cutNumber from = the-number rest left x b q s in
       rw (← e) (cut-inside m (subst (λ (y : ℕ). NoRow from cs rest y (x .column)) n h) (n, refl, refl), refl)
   fate-of done left rest body (row xs t) l q a b s o e = absurd l
 

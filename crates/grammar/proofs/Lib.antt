@@ -22,3 +22,6 @@ pub mod Exactly
 pub mod Cut
 pub mod Examples
 pub mod Fetched
+pub mod Staying
+pub mod PartJoined
+pub mod Joined

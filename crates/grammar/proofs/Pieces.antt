@@ -2,7 +2,7 @@
 -- the piece and whatever has come behind it, in any room that has those rows, is those rows and then a call on what stands behind the place. By
 -- `resumes`, and since a row reader looks no further than its row.
 use Prim.Native.Nat.{_-_, _≤_, suc, zero, ℕ}
-use native.Mathlib.Nat.{not-suc-le-zero}
+use native.Mathlib.Nat.{le-refl, not-suc-le-zero}
 use native.Mathlib.Omega.{arith}
 use mathlib.Core.List.{List, [], _++_, append-assoc, append-nil}
 use mathlib.Core.Path.{_∙_, _≡_, ap, ap₂, refl, subst⁻¹, sym}
@@ -33,7 +33,7 @@ use Rattle.table.specs.Result.{good}
 use Rattle.table.specs.declared.Column.{Column}
 use Rattle.table.specs.declared.Rows.{Rows}
 
-abbrev IsAccepted : Outcome → Type 0
+abbrev pub IsAccepted : Outcome → Type 0
 IsAccepted (accepted r w) = Unit {0}
 IsAccepted (refused e r w) = ⊥
 
@@ -115,7 +115,12 @@ module _ (from : Rows) (cs : List Column) (i : AreColumns cs) where
         reads = f .reads ∙ ap (λ (n : ℕ). upTo n (read from cs s)) q;
       }
 
-piece-place : (decls : List ℕ) (from to : Rows) (input out : List ℕ) (cs : List Column) → front decls (length input) ≡ good cs
+pub place-inside : (from : Rows) (cs : List Column) (s : List ℕ) (o : Outcome) → placeOf from cs s o ≤ length s
+unfolding placeOf
+place-inside from cs s (accepted r w) = le-refl (length s)
+place-inside from cs s (refused e r w) = omega arith
+
+pub piece-place : (decls : List ℕ) (from to : Rows) (input out : List ℕ) (cs : List Column) → front decls (length input) ≡ good cs
     → convertPiece decls from to input out .place ≡ placeOf from cs input (run from to cs (length out) input)
 unfolding convertPiece placeUnder
 piece-place decls from to input out cs e = rw e

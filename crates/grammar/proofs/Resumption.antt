@@ -20,7 +20,7 @@ use Rattle.rows.specs.Sequence.{finished, row, rowThen, stopped}
 use Rattle.rows.specs.Stream.{Table, atEnd, fitted, read, readRow, readStart, run, write, writeRow, wroteThen}
 use Rattle.table.proofs.Laws.{holds-at, holds-cond}
 use Rattle.table.specs.Bytes.{skipWhite}
-use Rattle.table.specs.Cell.{AreColumns}
+use Rattle.table.specs.Cell.{AreColumns, Cell}
 use Rattle.table.specs.Outcome.{Refusal, accepted, at, written}
 use Rattle.table.specs.Result.{Holds, Result, bad, good, holds, refuses}
 use Rattle.table.specs.declared.Column.{Column}
@@ -52,17 +52,26 @@ end-before Binary cs i a b h = ap (λ (s : List ℕ). read Binary cs (s ++ b)) (
 end-before Binary2 cs i a b h = ap (λ (s : List ℕ). read Binary2 cs (s ++ b)) (empty-is a h)
 
 module _ (from : Rows) (cs : List Column) (i : AreColumns cs) where
+  -- the first row is the same row, whatever follows
+  pub row-before : (a b : List ℕ) (xs : List Cell) (t : Table) → read from cs a ≡ row xs t
+      → (rest : List ℕ) × (read from cs rest ≡ t) × (read from cs (a ++ b) ≡ row xs (read from cs (rest ++ b)))
+  row-before a b xs t q =
+      let f = first-row from cs i a xs t q in
+      let k : Taken (readRow from cs) a (xs, f .0) = holds-at (row-taken from cs a) (f .1) in (
+        f .0,
+        f .2,
+        ap (λ (s : List ℕ). read from cs (s ++ b)) (k .whole)
+            ∙ ap (read from cs) (append-assoc (k .taken) (f .0) b)
+            ∙ read-row from cs i (k .taken ++ (f .0 ++ b)) xs (f .0 ++ b) (k .again (f .0 ++ b)),
+      )
+
   pub read-both : (t : Table) (a b : List ℕ) → read from cs a ≡ t → Ends t → read from cs (a ++ b) ≡ andThen t (read from cs b)
   unfolding andThen
   read-both finished a b q e = end-before from cs i a b (ends-there from cs i a q)
   read-both (stopped x) a b q e = absurd e
   read-both (row xs t) a b q e =
-      let f = first-row from cs i a xs t q in
-      let k : Taken (readRow from cs) a (xs, f .0) = holds-at (row-taken from cs a) (f .1) in
-      ap (λ (s : List ℕ). read from cs (s ++ b)) (k .whole)
-      ∙ ap (read from cs) (append-assoc (k .taken) (f .0) b)
-      ∙ read-row from cs i (k .taken ++ (f .0 ++ b)) xs (f .0 ++ b) (k .again (f .0 ++ b))
-      ∙ ap (row xs) (read-both t (f .0) b (f .2) e)
+      let f = row-before a b xs t q in
+      f .2 ∙ ap (row xs) (read-both t (f .0) b (f .1) e)
 
 -- ---- writing
 

@@ -10,3 +10,4 @@ pub mod DeclarationRefusals
 pub mod Valid
 pub mod Exact
 pub mod Resumption
+pub mod Parts

@@ -1,14 +1,15 @@
 -- Joining, a part at a time: what is known of a part that is used, and of one that the whole ends with.
 use Prim.Native.Nat.{_*_, _+_, _-_, _<_, _≤_, suc, ℕ}
-use mathlib.Core.Bool.{false, false≢true, true}
+use mathlib.Core.Bool.{Bool, cond, false, false≢true, true}
 use mathlib.Core.List.{List, [], _∷_}
 use mathlib.Core.Path.{_∙_, _≡_, ap, refl, sym}
+use native.Mathlib.Nat.{le-refl}
 use native.Mathlib.Omega.{arith}
 use lib.Dec.{eqb, leb}
 use lib.ListN.{drop}
 use lib.Seq.{drop-drop}
-use borrow.Author.Tests.{eqb-true, leb-true, ne-eqb}
-use Rattle.parts.specs.Join.{atItsEnd, isCounted, isFinal, isUsed, join, joinedWith, mostCount, partAt, partsIn}
+use borrow.Author.Tests.{eq-eqb, eqb-false, eqb-true, le-leb, leb-true, ne-eqb}
+use Rattle.parts.specs.Join.{atItsEnd, endedWith, goneOn, isCounted, isFinal, isUsed, join, joinedWith, mostCount, partAt, partsIn}
 use Rattle.parts.specs.declared.Joined.{Joined}
 use Rattle.parts.specs.declared.Part.{Part}
 use Rattle.table.proofs.Laws.{and-both}
@@ -40,6 +41,14 @@ module _ (j : Joined) (p : Part) where
       let c = and-both (leb (j .rows + p .row) mostCount) _ (b .1) in
       record { place = leb-true _ _ (a .0); rows = leb-true _ _ (b .0); row = leb-true _ _ (c .0); parts = leb-true _ _ (c .1) }
 
+  pub all-counted : Counted j p → isCounted j p ≡ true
+  unfolding isCounted
+  all-counted c = rw (
+    le-leb (j .place + p .place) mostCount (c .place),
+    le-leb (j .rows + p .rows) mostCount (c .rows),
+    le-leb (j .rows + p .row) mostCount (c .row),
+  ) (le-leb (j .parts + 1) mostCount (c .parts))
+
   module _ (room : ℕ) where
     pub is-used : isUsed room j p ≡ true → Used room j p
     unfolding isUsed
@@ -62,6 +71,44 @@ module _ (j : Joined) (p : Part) where
       pub other-final : (p .number ≡ 17 → ⊥) → atItsEnd (p .number) ≡ false → isFinal length room j p ≡ true
       unfolding isFinal
       other-final h e = rw (ne-eqb (p .number) 17 h, e)
+
+      -- a part that ends with the whole and had all the room that is left
+      pub last-final : p .start + p .length ≡ length → room ≤ j .bytes + p .room → isFinal length room j p ≡ true
+      last-final e h = go (eqb (p .number) 17) refl (atItsEnd (p .number)) refl
+        where
+          go : (a : Bool) → eqb (p .number) 17 ≡ a → (b : Bool) → atItsEnd (p .number) ≡ b → isFinal length room j p ≡ true
+          go true f b g = full-final (eqb-true (p .number) 17 f) ∙ le-leb room (j .bytes + p .room) h
+          go false f true g = end-final g ∙ eq-eqb (p .start + p .length) length e
+          go false f false g = other-final (eqb-false (p .number) 17 f) g
+
+      pub one-part-more : joinedWith length room j p .parts ≡ j .parts + 1
+      unfolding joinedWith endedWith goneOn
+      one-part-more = go (isFinal length room j p)
+        where
+          go : (b : Bool) → cond b (endedWith j p) (goneOn j p) .parts ≡ j .parts + 1
+          go true = refl
+          go false = refl
+
+      pub joined-final : isFinal length room j p ≡ true → joinedWith length room j p ≡ endedWith j p
+      unfolding joinedWith
+      joined-final e = rw e
+
+      pub joined-not-final : isFinal length room j p ≡ false → joinedWith length room j p ≡ goneOn j p
+      unfolding joinedWith
+      joined-not-final e = rw e
+
+    pub all-used : Used room j p → isUsed room j p ≡ true
+    unfolding isUsed
+    all-used u = rw (
+      eq-eqb (j .ended) 0 (u .goes-on),
+      eq-eqb (p .start) (j .place) (u .begins),
+      le-leb (p .length) mostInput (u .sized),
+      le-leb (j .bytes + p .bytes) room (u .fits),
+    ) (u .counted)
+
+    pub ended-unused : j .ended ≡ 1 → isUsed room j p ≡ false
+    unfolding isUsed
+    ended-unused e = rw e
 
 pub no-end : (n : ℕ) → (n ≡ 0 → ⊥) → (n ≡ 8 → ⊥) → (n ≡ 10 → ⊥) → atItsEnd n ≡ false
 unfolding atItsEnd
@@ -116,3 +163,19 @@ module _ (length room : ℕ) (first j : Joined) (count i : ℕ) (s : List ℕ)
         → join length room first (partsIn count s) ≡ join length room k (partsIn (count - (i + 1)) (drop ((i + 1) * 9) s))
     joined-one-more e k h =
         next ∙ join-used length room j p _ e ∙ ap (λ (x : Joined). join length room x (partsIn (count - (i + 1)) (drop ((i + 1) * 9) s))) (sym h)
+
+-- nothing is joined behind the end
+pub join-ended : (length room : ℕ) (j : Joined) (ps : List Part) → j .ended ≡ 1 → join length room j ps ≡ j
+join-ended length room j [] e = join-none length room j
+join-ended length room j (p ∷ ps) e = join-unused length room j p ps (ended-unused j p room e)
+
+-- parts are never fewer
+pub parts-more : (length room : ℕ) (j : Joined) (ps : List Part) → j .parts ≤ join length room j ps .parts
+unfolding join
+parts-more length room j [] = le-refl (j .parts)
+parts-more length room j (p ∷ ps) = go (isUsed room j p) (parts-more length room (joinedWith length room j p) ps)
+  where
+    go : (b : Bool) → joinedWith length room j p .parts ≤ join length room (joinedWith length room j p) ps .parts
+        → j .parts ≤ cond b (join length room (joinedWith length room j p) ps) j .parts
+    go true ih = omega (arith, ih, one-part-more j p room length)
+    go false ih = le-refl (j .parts)

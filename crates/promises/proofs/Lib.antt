@@ -1,4 +1,5 @@
 pub mod Laws
 pub mod Pieces
+pub mod Parts
 pub mod Steps
 pub mod OneRow

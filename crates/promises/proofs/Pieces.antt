@@ -1,7 +1,6 @@
 -- A piece of an input and what stands behind its place are one call on the whole: `goes-on-behind` of the definitions, carried to the numbers and the
 -- buffers.
-use Prim.Native.Nat.{_+_, _-_, _<_, _≤_, zero-le, ℕ}
-use native.Mathlib.Nat.{le-refl}
+use Prim.Native.Nat.{_+_, _-_, _≤_, zero-le, ℕ}
 use native.Mathlib.Omega.{arith}
 use mathlib.Core.List.{List, _++_}
 use mathlib.Core.Option.{Option, none, some}
@@ -10,21 +9,21 @@ use lib.ListN.{drop, getD, length, length-append, length-drop, length-take, take
 use lib.Seq.{drop-append-le}
 use borrow.Author.Tests.{ne-eqb}
 use borrow.Rule.Slice.PartAt.{part-to-end}
-use Rattle.demands.proofs.Demand1.{output-of, run-done}
-use Rattle.demands.proofs.Writing.{EndsAt}
+use Rattle.demands.proofs.Demand1.{output-of}
 use Rattle.demands.proofs.Demand2.{stands}
 use Rattle.demands.specs.Demands.{output}
 use Rattle.fields.specs.Fields.{declare}
 use Rattle.fields.specs.Front.{front}
 use Rattle.grammar.proofs.ColumnsRead.{declares-read}
-use Rattle.grammar.proofs.Pieces.{goes-on-behind}
+use Rattle.grammar.proofs.Pieces.{goes-on-behind, place-inside}
+use Rattle.grammar.proofs.Staying.{Numbered, run-numbered}
 use Rattle.grammar.specs.Resumption.{followedBy}
 use Rattle.promises.proofs.Laws.{Faces, convert-ends, is-convert}
 use Rattle.promises.specs.Promises.{Between, OneByTwo, RowsOrRefusal, callOf, joinedAnswer, joinedCall}
 use Rattle.rows.proofs.Calls.{converts}
 use Rattle.rows.specs.Convert.{convert}
 use Rattle.rows.specs.Pieces.{convertPiece, placeOf, placeUnder}
-use Rattle.rows.specs.Stream.{read, run}
+use Rattle.rows.specs.Stream.{run}
 use Rattle.sailmortar.proofs.Numbers.{known}
 use Rattle.sailmortar.specs.Face.{Faced, betweenKinds, convertFace, five, noSuchKind, pieceFace, pieceFaced, rowsOf, six}
 use Rattle.table.specs.All.{AreBytes}
@@ -38,11 +37,7 @@ use Rattle.table.specs.declared.Rows.{Rows}
 
 place-at : (from to : Rows) (input out : List ℕ) (r : Result Refusal (List Column)) → placeUnder r (λ cs. placeOf from cs input (run from to cs (length out) input)) ≤ length input
 unfolding placeUnder
-place-at from to input out (good cs) = of-outcome (run from to cs (length out) input)
-  where
-    of-outcome : (o : Outcome) → placeOf from cs input o ≤ length input
-    of-outcome (accepted r w) = unfold placeOf in le-refl (length input)
-    of-outcome (refused e r w) = unfold placeOf in omega arith
+place-at from to input out (good cs) = place-inside from cs input (run from to cs (length out) input)
 place-at from to input out (bad e) = zero-le
 
 sixth : (decls : List ℕ) (input out : List ℕ) (from to : Option Rows)
@@ -65,18 +60,6 @@ pub place-within-whole : (decls : List ℕ) (from to : ℕ) (input : List ℕ) (
 place-within-whole decls from to input cut out numbers e = omega (arith, place-within decls from to (take cut input) out numbers e, take-short cut input)
 
 -- ---- two outcomes, as one call has them
-
--- a refusal has a number
-abbrev Numbered : Outcome → Type 0
-Numbered (accepted r w) = Unit {0}
-Numbered (refused e r w) = 0 < e .number
-
-run-numbered : (from to : Rows) (cs : List Column) (room : ℕ) (input : List ℕ) → Numbered (run from to cs room input)
-run-numbered from to cs room input = let d = run-done from to cs room input in go (run from to cs room input) (d .done) (d .ended)
-  where
-    go : (o : Outcome) (done : ℕ) → EndsAt to cs room (read from cs input) done o → Numbered o
-    go (accepted r w) done e = tt
-    go (refused x r w) done e = omega (arith, e .0 .0 .0)
 
 same-call : (a b : Answer) (u v : List ℕ) → a ≡ b → u ≡ v → _≡_ {A = Call} (record { answer = a; buffer = u }) (record { answer = b; buffer = v })
 same-call a b u v p q = ap₂ (λ (x : Answer) (y : List ℕ). record { answer = x; buffer = y }) p q
@@ -103,17 +86,17 @@ sixth-of c place = refl
 
 module _ (decls : List ℕ) (from to : ℕ) (input first : List ℕ) {numbers exit : List ℕ} (h : Faces (pieceFace decls from to input first) numbers exit)
     (source target : Rows) (e : rowsOf from ≡ some source) (f : rowsOf to ≡ some target) where
-  faces-piece : Faces (pieceFaced (convertPiece decls source target input first)) numbers exit
+  pub faces-piece : Faces (pieceFaced (convertPiece decls source target input first)) numbers exit
   unfolding pieceFace
   faces-piece =
       subst (λ (x : Faced). Faces x numbers exit)
       (known from to (noSuchKind 5 first) (λ source target. pieceFaced (convertPiece decls source target input first)) source e target f) h
 
-  piece-is : callOf numbers exit ≡ convert decls source target input first
+  pub piece-is : callOf numbers exit ≡ convert decls source target input first
   unfolding pieceFaced convertPiece
   piece-is = ap₂ callOf (faces-piece .numbers-are) (faces-piece .buffer-is) ∙ call-of-six (convert decls source target input first) _
 
-  piece-place : getD numbers 5 0 ≡ convertPiece decls source target input first .place
+  pub piece-place : getD numbers 5 0 ≡ convertPiece decls source target input first .place
   unfolding pieceFaced
   piece-place = ap (λ (ns : List ℕ). getD ns 5 0) (faces-piece .numbers-are) ∙ sixth-of (convertPiece decls source target input first .call) _
 

@@ -6,7 +6,7 @@ use mathlib.Core.Logic.{_↔_}
 use mathlib.Core.Option.{none, some}
 use mathlib.Core.Path.{_≡_}
 use lib.Dec.{eqb}
-use lib.ListN.{drop, getD, length}
+use lib.ListN.{drop, getD, length, take}
 use Rattle.demands.specs.Demands.{Accepted, Comes, Ended, SameFate, Stream, output}
 use Rattle.demands.specs.OneRow.{FetchEnded, FetchesAlike, IndexEnded, StopsAsConverted}
 use Rattle.demands.specs.Places.{showsAt}
@@ -16,6 +16,7 @@ use Rattle.grammar.specs.Base64Text.{Base64Text}
 use Rattle.grammar.specs.DeclarationRefusals.{NotDeclared}
 use Rattle.grammar.specs.Declarations.{Declares}
 use Rattle.grammar.specs.Exact.{Answers, CutFile, InGrammar, NotDecoded, Refuses, tableOf}
+use Rattle.grammar.specs.Parts.{firstOf}
 use Rattle.grammar.specs.Valid.{Spells}
 use Rattle.rows.specs.Stream.{read}
 use Rattle.sailmortar.specs.Face.{binaryOf, rowsOf}
@@ -209,6 +210,22 @@ joinedCall c d out =
 abbrev pub OneByTwo : (decls input : List ℕ) (first : Call) (rest : List ℕ) (second : Call) (out : List ℕ) (whole : Call) → Rows → Rows → Type 0
 OneByTwo decls input first rest second out whole from to =
     (cs : List Column) → Declares decls cs → length input ≤ 1073741824 → length out ≡ first .answer .bytes + length rest → whole ≡ joinedCall first second out
+
+-- ---- in parts
+
+-- the nine numbers of a part that its call answered with these six
+abbrev pub partNumbers : ℕ → ℕ → ℕ → List ℕ → List ℕ
+partNumbers start size room answer =
+    start ∷ size ∷ room ∷ getD answer 0 0 ∷ getD answer 1 0 ∷ getD answer 2 0 ∷ getD answer 3 0 ∷ getD answer 4 0 ∷ getD answer 5 0 ∷ []
+
+-- two parts, the input up to a cut and from there on, each by a call of its own, and their numbers joined; and one call on the whole
+pub record JoinedAsOne (decls input : List ℕ) (cut : ℕ) (first second : Call) (joined out1 out2 out3 : List ℕ) (whole : Call) (from to : Rows) : Type 0 where
+  -- where joining has ended it is that call: each of its numbers, and every byte of its buffer
+  pub one-call : getD joined 7 0 ≡ 1 → length input ≤ 1073741824
+      → whole ≡ callOf joined (firstOf (getD joined 6 0) (output first ∷ output second ∷ []) ++ drop (length (firstOf (getD joined 6 0) (output first ∷ output second ∷ []))) out3)
+  -- and it has ended where the cut stands behind whole rows, and the second part had the room that the first leaves
+  pub ends : InGrammar decls from to (take cut input) (length out1) → length input ≤ 1073741824 → length out3 ≡ first .answer .bytes + length out2
+      → getD joined 7 0 ≡ 1
 
 -- ---- one row by an index
 

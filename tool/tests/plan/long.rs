@@ -17,15 +17,11 @@ fn a_row_of_text_that_is_very_long() {
     let expected = night.in_one_call(Rows::Binary);
     assert_eq!(expected.answer.expect("it is good").rows, 3);
     let plan = Plan::new().threads(2);
-    assert_eq!(night.as_slice(&plan, Rows::Binary), expected);
-    assert_eq!(
-        night.from_reader(&plan.clone().length(night.input.len() as u64), Rows::Binary, Steps::new(&night.input, 1 << 16)),
-        expected
-    );
-    for told in [
-        night.as_slice(&plan.clone().long(), Rows::Binary),
-        night.from_reader(&plan.long(), Rows::Binary, Steps::new(&night.input, 1 << 20)),
-    ] {
+    assert_eq!(night.by_slice(&plan, Rows::Binary), expected);
+    assert_eq!(night.by_reader(&plan.clone().length(night.input.len() as u64), Rows::Binary, Steps::new(&night.input, 1 << 16)), expected);
+    for told in
+        [night.by_slice(&plan.clone().long(), Rows::Binary), night.by_reader(&plan.long(), Rows::Binary, Steps::new(&night.input, 1 << 20))]
+    {
         let refused = told.answer.expect_err("it is not whole");
         assert_eq!((refused.number, refused.row, refused.column, refused.rows, refused.bytes, refused.offset), (10, 1, 1, 1, 2, 19));
         assert_eq!(told.bytes, [0, 7]);
@@ -38,9 +34,9 @@ fn white_space_of_any_length() {
     let night = text("<TR><TD>7</TD></TR>", 2 * LONGEST, "<TR><TD>9</TD></TR>");
     let expected = night.in_one_call(Rows::Binary);
     for plan in [Plan::new().threads(2), Plan::new().threads(2).long()] {
-        assert_eq!(night.as_slice(&plan, Rows::Binary), expected);
+        assert_eq!(night.by_slice(&plan, Rows::Binary), expected);
         let plan = plan.length(night.input.len() as u64);
-        assert_eq!(night.from_reader(&plan, Rows::Binary, Steps::new(&night.input, 1 << 20)), expected);
+        assert_eq!(night.by_reader(&plan, Rows::Binary, Steps::new(&night.input, 1 << 20)), expected);
     }
 }
 
@@ -54,9 +50,9 @@ fn rows_that_are_longer_than_a_part() {
     assert_eq!(expected.answer.map_err(|refused| (refused.number, refused.row)), Err((8, 3)));
     for (threads, part) in [(1, 1), (2, 64), (3, 1 << 20), (2, 1 << 21)] {
         let plan = Plan::new().threads(threads).part(part);
-        assert_eq!(night.as_slice(&plan, Rows::Binary2), expected);
+        assert_eq!(night.by_slice(&plan, Rows::Binary2), expected);
         for plan in [plan.clone().length(night.input.len() as u64), plan.long()] {
-            assert_eq!(night.from_reader(&plan, Rows::Binary2, Steps::new(&night.input, 60_000)), expected);
+            assert_eq!(night.by_reader(&plan, Rows::Binary2, Steps::new(&night.input, 60_000)), expected);
         }
     }
 }
@@ -70,9 +66,9 @@ fn a_broken_row_with_much_behind_it() {
     assert_eq!(expected.answer.map_err(|refused| (refused.number, refused.row)), Err((10, 1)));
     for (threads, part) in [(1, 64), (2, 64), (2, 1 << 16), (2, 1 << 20)] {
         let plan = Plan::new().threads(threads).part(part);
-        assert_eq!(night.as_slice(&plan, Rows::Binary), expected);
+        assert_eq!(night.by_slice(&plan, Rows::Binary), expected);
         for plan in [plan.clone().length(night.input.len() as u64), plan.long()] {
-            assert_eq!(night.from_reader(&plan, Rows::Binary, Steps::new(&night.input, 1 << 16)), expected);
+            assert_eq!(night.by_reader(&plan, Rows::Binary, Steps::new(&night.input, 1 << 16)), expected);
         }
     }
 }
@@ -86,7 +82,7 @@ fn a_row_of_very_many_parts() {
     assert_eq!(expected.answer.map_err(|refused| (refused.number, refused.row)), Err((11, 1)));
     let plan = Plan::new().threads(2).part(1).cuts((0..night.input.len() as u64).step_by(64).collect::<Vec<_>>());
     let begun = std::time::Instant::now();
-    assert_eq!(night.as_slice(&plan, Rows::Binary), expected);
-    assert_eq!(night.from_reader(&plan.long(), Rows::Binary, Steps::new(&night.input, 1 << 16)), expected);
+    assert_eq!(night.by_slice(&plan, Rows::Binary), expected);
+    assert_eq!(night.by_reader(&plan.long(), Rows::Binary, Steps::new(&night.input, 1 << 16)), expected);
     assert!(begun.elapsed().as_secs() < 20, "{:?}", begun.elapsed());
 }

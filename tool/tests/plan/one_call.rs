@@ -94,7 +94,7 @@ impl Night {
     }
 
     /// What a plan says of it as a slice; each piece is whole rows, and says how many they are and where they end.
-    pub fn as_slice(&self, plan: &Plan, to: Rows) -> Told {
+    pub fn by_slice(&self, plan: &Plan, to: Rows) -> Told {
         let mut bytes = Vec::new();
         let (mut rows, mut read) = (0, 0);
         let answer = plan.convert_slice(&self.declarations, self.from, to, &self.input, |piece| {
@@ -109,7 +109,7 @@ impl Night {
     }
 
     /// The same of a reader. At a refusal what is left, and what the reader still has, are the rest of the input.
-    pub fn from_reader(&self, plan: &Plan, to: Rows, mut reader: Steps) -> Told {
+    pub fn by_reader(&self, plan: &Plan, to: Rows, mut reader: Steps) -> Told {
         let (mut bytes, mut left) = (Vec::new(), b"what it held before".to_vec());
         let answer = plan.convert_pieces(&self.declarations, self.from, to, &mut reader, &mut left, |piece| {
             bytes.extend_from_slice(piece.bytes);

@@ -12,7 +12,7 @@ fn rows_with(good: &[u8], row: &[u8], place: usize) -> Vec<u8> {
 
 /// In parts of one to a few rows, from a slice and from a reader.
 fn refused_everywhere(from: Rows, to: Rows, good: &[u8], row: &[u8], number: u64) {
-    for place in 0..12 {
+    for place in [0, 1, 5, 10, 11] {
         let night = Night::new(TEXT, from, rows_with(good, row, place));
         let expected = night.in_one_call(to);
         let refused = expected.answer.expect_err("a refusal");
@@ -21,9 +21,9 @@ fn refused_everywhere(from: Rows, to: Rows, good: &[u8], row: &[u8], number: u64
             for part in [1, good.len(), 3 * good.len() + 1, 1 << 20] {
                 let plan = Plan::new().threads(threads).part(part);
                 let told = format!("{threads} threads, parts of {part}, refused at {place}: {}", row.escape_ascii());
-                assert_eq!(night.as_slice(&plan, to), expected, "{told}");
+                assert_eq!(night.by_slice(&plan, to), expected, "{told}");
                 for plan in [plan.clone(), plan.clone().length(night.input.len() as u64), plan.long()] {
-                    assert_eq!(night.from_reader(&plan, to, Steps::new(&night.input, 70)), expected, "{told}");
+                    assert_eq!(night.by_reader(&plan, to, Steps::new(&night.input, 70)), expected, "{told}");
                 }
             }
         }
@@ -73,8 +73,8 @@ fn an_input_that_ends_in_a_row() {
             let expected = night.in_one_call(Rows::Binary2);
             for (threads, part) in [(1, 1), (2, 1), (2, row.len()), (3, 4 * row.len() - 1), (2, 1 << 20)] {
                 let plan = Plan::new().threads(threads).part(part);
-                assert_eq!(night.as_slice(&plan, Rows::Binary2), expected, "{from}, {cut}, {threads}, {part}");
-                let told = night.from_reader(&plan.long(), Rows::Binary2, Steps::new(&night.input, 1));
+                assert_eq!(night.by_slice(&plan, Rows::Binary2), expected, "{from}, {cut}, {threads}, {part}");
+                let told = night.by_reader(&plan.long(), Rows::Binary2, Steps::new(&night.input, 1));
                 assert_eq!(told, expected, "{from}, {cut}, {threads}, {part}");
             }
         }
@@ -91,10 +91,10 @@ fn declarations_are_judged_before_a_byte_is_read() {
             let expected = night.in_one_call(Rows::Binary);
             assert_eq!(expected.answer.map_err(|refused| (refused.number, refused.column)), Err((number, column)));
             for plan in [Plan::new(), Plan::new().length(2), Plan::new().length(u64::MAX), Plan::new().long()] {
-                assert_eq!(night.as_slice(&plan, Rows::Binary), expected);
+                assert_eq!(night.by_slice(&plan, Rows::Binary), expected);
                 let mut reader = Steps::new(&night.input, 1);
                 reader.fails_at = Some(0);
-                assert_eq!(night.from_reader(&plan, Rows::Binary, reader), expected);
+                assert_eq!(night.by_reader(&plan, Rows::Binary, reader), expected);
             }
         }
     }
