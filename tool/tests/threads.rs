@@ -332,16 +332,18 @@ fn with_long_rows_come_out_of_a_pipe_while_others_come_in() {
     }
 }
 
-/// Runs a program until its output has some bytes, sends a signal to the thread that was started last, and says which signal ended it.
+/// Runs a program until its output has some bytes, sends a signal to the thread that was started last, and says whether there was more than one
+/// and no more than were asked for, and whether that signal ended it.
 const SIGNALLED: &str = "
 import ctypes, glob, os, signal, subprocess, sys, time
 run = subprocess.Popen(sys.argv[1:])
+asked = int(sys.argv[-1])
 written = lambda: sum(os.path.getsize(part) for part in glob.glob('out.*.part'))
 while written() < 1 << 20:
     time.sleep(0.001)
 threads = sorted(int(name) for name in os.listdir('/proc/%d/task' % run.pid))
 ctypes.CDLL(None).tgkill(run.pid, threads[-1], signal.SIGTERM)
-print(len(threads) > 1, -run.wait() == signal.SIGTERM)
+print((len(threads) > 1) == (asked > 1), len(threads) <= asked + 1, -run.wait() == signal.SIGTERM)
 ";
 
 #[test]
@@ -349,11 +351,11 @@ fn a_signal_to_any_thread_ends_the_run_and_leaves_nothing() {
     let scratch = scratch("threads_signal");
     zeros(&scratch, 1 << 30);
     scratch.put("out", b"yesterday");
-    for threads in ["2", "8"] {
+    for threads in ["1", "2", "8"] {
         let mut python = Command::new("python3");
         python.args(["-c", SIGNALLED, PROGRAM]).args("convert --fields longs --from binary --to tabledata zeros -o out".split(' '));
         let said = Said::of(python.args(["--threads", threads]).current_dir(&scratch.0).output().expect("python3 runs"));
-        assert_eq!(said, Said::good(b"True True\n"));
+        assert_eq!(said, Said::good(b"True True True\n"), "{threads} threads");
         assert_eq!((scratch.get("out"), scratch.parts()), (b"yesterday".to_vec(), vec![]));
     }
 }
