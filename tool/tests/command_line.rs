@@ -409,7 +409,7 @@ fn an_input_over_its_size_writes_nothing() {
     let nothing = "no row was read and nothing is written; 'sailmortar explain 6' says more";
     let line = "the input is over 1,073,741,824 bytes (1 GiB)";
     // The rows themselves may be of any length; an index of them, and base64, may not.
-    let hint: &[&str] = &["hint: --long takes rows of any length, and goes through them as they are read"];
+    let hint: &[&str] = &["hint: --long takes an input of any length, and goes through it as it is read"];
     let runs = [
         ("convert --fields fields --from binary --to tabledata long -o out", "refusal 6", hint),
         ("check --fields fields --from binary long", "refusal 6", hint),

@@ -91,7 +91,7 @@ impl<'a> Source<'a> {
     /// What is said of rows that are over their size (6).
     pub fn too_long(&self) -> End {
         let mut report = report::too_long(&self.input.name, "");
-        report.hint(Some("--long takes rows of any length, and goes through them as they are read"));
+        report.hint(Some("--long takes an input of any length, and goes through it as it is read"));
         End::Refused(report)
     }
 

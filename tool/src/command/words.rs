@@ -94,7 +94,7 @@ sailmortar convert --fields FILE --from KIND --to KIND [INPUT] [-o OUTPUT]
   -o, --output FILE  write a new file, moved to this name when it is done
   --rest FILE        at a refusal, write everything from the refused row on
   --threads N        go through the rows on N threads, not on all cores
-  --long             take rows of any length, which is else 1 GiB at most
+  --long             take an INPUT of any length, and not 1 GiB at most
   -v, --verbose      say rows and bytes when all is accepted, too
   --json             say how it ended as an object, on one line
   -h, --help         this text
@@ -114,7 +114,7 @@ sailmortar check --fields FILE --from KIND [--to KIND] [INPUT]
   --to KIND          also whether each row has a form in this kind
   --base64-in        INPUT is base64, as a STREAM element has it
   --threads N        go through the rows on N threads, not on all cores
-  --long             take rows of any length, which is else 1 GiB at most
+  --long             take an INPUT of any length, and not 1 GiB at most
   --json             say how it ended as an object, on one line
   -h, --help         this text
 
@@ -308,8 +308,8 @@ fn in_sizes_and_base64(number: u64) -> &'static str {
             "\
 Declarations may have 65536 bytes, an input of rows or of a base64 step
 1073741824 (1 GiB); the message says which was over. With --long, convert and
-check take rows of any length. Or cut the rows into several inputs at row ends
-and convert each: a row's output depends on no other row."
+check take rows without such a limit. Or cut the rows into several inputs at
+row ends and convert each: a row's output depends on no other row."
         }
         7 => {
             "\
