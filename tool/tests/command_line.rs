@@ -4,7 +4,7 @@ mod shell;
 
 use std::fs::{self, File};
 use std::io::{Read, Write};
-use std::process::Command;
+use std::process::{Command, Stdio};
 use std::thread;
 use std::time::Duration;
 
@@ -131,6 +131,26 @@ fn wrong_usage_is_said_in_a_line() {
         (format!("{all} -vv"), "--verbose is given twice"),
         (format!("{all} -vx"), "unknown option '-vx' for convert"),
         (format!("{all} --verbose=yes"), "--verbose takes no value"),
+        (format!("{all} --threads 0"), "--threads takes a number of threads, from 1 on, not '0'"),
+        (format!("{all} --threads two"), "--threads takes a number of threads, from 1 on, not 'two'"),
+        (format!("{all} --threads -1"), "--threads takes a number of threads, from 1 on, not '-1'"),
+        (format!("{all} --threads=+2"), "--threads takes a number of threads, from 1 on, not '+2'"),
+        (format!("{all} --threads 99999999999999999999"), "--threads takes a number of threads, from 1 on, not '99999999999999999999'"),
+        (format!("{all} --threads="), "--threads needs a value"),
+        (format!("{all} --threads 2 --threads 3"), "--threads is given twice"),
+        (format!("{all} --long=yes"), "--long takes no value"),
+        (
+            format!("{all} --long --base64-in"),
+            "--long does not go with --base64-in: base64 is decoded whole first, 1 GiB at most; leave --long out, \
+             or decode before this command, as in 'base64 -d INPUT | sailmortar convert --long ..'",
+        ),
+        (
+            "check --fields fields --from binary --base64-in --long".into(),
+            "--long does not go with --base64-in: base64 is decoded whole first, 1 GiB at most; leave --long out, \
+             or decode before this command, as in 'base64 -d INPUT | sailmortar check --long ..'",
+        ),
+        ("index --fields fields --from binary --threads 2 night.binary".into(), "unknown option '--threads' for index"),
+        ("compare --fields fields --from binary --long night.binary night.binary".into(), "unknown option '--long' for compare"),
         (format!("{all} --rest -"), "the rows and the rest cannot both go to standard output"),
         (format!("{all} night.binary --rest night.binary"), "--rest wants a file of its own, and night.binary has another use"),
         (format!("{all} night.binary --rest fields"), "--rest wants a file of its own, and fields has another use"),
@@ -182,9 +202,23 @@ fn help_fits_a_screen() {
 const OPTIONS: [(&str, &[&str]); 7] = [
     (
         "convert",
-        &["--fields", "--from", "--to", "--base64-in", "--base64-out", "--wrap", "--output", "--rest", "--verbose", "--json", "--help"],
+        &[
+            "--fields",
+            "--from",
+            "--to",
+            "--base64-in",
+            "--base64-out",
+            "--wrap",
+            "--output",
+            "--rest",
+            "--threads",
+            "--long",
+            "--verbose",
+            "--json",
+            "--help",
+        ],
     ),
-    ("check", &["--fields", "--from", "--to", "--base64-in", "--json", "--help"]),
+    ("check", &["--fields", "--from", "--to", "--base64-in", "--threads", "--long", "--json", "--help"]),
     ("compare", &["--fields", "--from", "--and", "--base64-in", "--base64-and", "--limit", "--quiet", "--verbose", "--json", "--help"]),
     ("index", &["--fields", "--from", "--output", "--verbose", "--json", "--help"]),
     ("row", &["--fields", "--from", "--index", "--output", "--verbose", "--json", "--help"]),
@@ -374,14 +408,21 @@ fn an_input_over_its_size_writes_nothing() {
     File::create(scratch.path("long")).and_then(|file| file.set_len((1 << 30) + 1)).expect("a long file");
     let nothing = "no row was read and nothing is written; 'sailmortar explain 6' says more";
     let line = "the input is over 1,073,741,824 bytes (1 GiB)";
+    // The rows themselves may be of any length; an index of them, and base64, may not.
+    let hint: &[&str] = &["hint: --long takes an input of any length, and goes through it as it is read"];
     let runs = [
-        ("convert --fields fields --from binary --to tabledata long -o out", "refusal 6"),
-        ("convert --fields fields --from binary --to tabledata --base64-in long -o out", "refusal 6 in the base64 step"),
-        ("base64 encode long -o out", "refusal 6"),
-        ("base64 decode long -o out", "refusal 6 in the base64 step"),
+        ("convert --fields fields --from binary --to tabledata long -o out", "refusal 6", hint),
+        ("check --fields fields --from binary long", "refusal 6", hint),
+        ("convert --fields fields --from binary --to tabledata --base64-in long -o out", "refusal 6 in the base64 step", &[]),
+        ("check --fields fields --from binary --base64-in long", "refusal 6 in the base64 step", &[]),
+        ("index --fields fields --from binary long -o out", "refusal 6", &[]),
+        ("base64 encode long -o out", "refusal 6", &[]),
+        ("base64 decode long -o out", "refusal 6 in the base64 step", &[]),
     ];
-    for (words, refusal) in runs {
-        assert_eq!(scratch.run(words), Said::refused(b"", &[&format!("long: {refusal}: {line}"), nothing]), "{words}");
+    for (words, refusal, hint) in runs {
+        let first = format!("long: {refusal}: {line}");
+        let lines = [&[&*first, nothing], hint].concat();
+        assert_eq!(scratch.run(words), Said::refused(b"", &lines), "{words}");
         assert!(!scratch.has("out") && scratch.parts().is_empty());
     }
 }
@@ -469,6 +510,8 @@ fn files_that_are_not_there_are_named() {
         (format!("{words} --fields folder night.binary -o out"), "folder: Is a directory"),
         (format!("{words} --fields fields nowhere -o out"), "nowhere: No such file or directory"),
         (format!("{words} --fields fields folder -o out"), "folder: Is a directory"),
+        (format!("{words} --fields fields --long folder -o out"), "folder: Is a directory"),
+        ("check --fields fields --from binary --long folder".into(), "folder: Is a directory"),
         (format!("{words} --fields fields night.binary/x -o out"), "night.binary/x: Not a directory"),
         (format!("{words} --fields fields night.binary -o nowhere/out"), "nowhere/out: No such file or directory"),
         (format!("{words} --fields fields night.binary -o folder"), "folder: Is a directory"),
@@ -538,14 +581,21 @@ sys.exit(run.wait())
 fn progress_is_shown_at_a_terminal_and_wiped() {
     let scratch = Scratch::new("progress");
     scratch.put("int", b"<FIELD datatype='int' name='n'/>");
-    let mut python = Command::new("python3");
-    python.env("TERM", "xterm").args(["-c", SLOW, PROGRAM]).args(["convert", "--fields", "int", "--from", "binary", "--to", "binary2"]);
-    let output = python.current_dir(&scratch.0).output().expect("python3 runs");
-    let said = String::from_utf8(output.stdout).expect("text");
-    let (drawn, message) = said.rsplit_once("\r\x1b[K").expect("it is wiped");
-    assert!(drawn.contains("\r\x1b[Ksailmortar: 10 MB read"), "{said:?}");
-    assert!(message.starts_with("sailmortar: standard input: refusal 8 at row 3932160, column 0 (n): "), "{said:?}");
-    assert_eq!(output.status.code(), Some(1));
+    // Both at once, since each waits for seconds.
+    let runs = [("--verbose", "10 MB read"), ("--long", " MB converted, ")].map(|(option, words)| {
+        let mut python = Command::new("python3");
+        python.env("TERM", "xterm").args(["-c", SLOW, PROGRAM]).args("convert --fields int --from binary --to binary2".split(' '));
+        let python = python.arg(option).current_dir(&scratch.0).stdin(Stdio::null()).stdout(Stdio::piped());
+        (words, python.spawn().expect("python3 runs"))
+    });
+    for (words, run) in runs {
+        let output = run.wait_with_output().expect("python3 ends");
+        let said = String::from_utf8(output.stdout).expect("text");
+        let (drawn, message) = said.rsplit_once("\r\x1b[K").expect("it is wiped");
+        assert!(drawn.contains("\r\x1b[Ksailmortar: ") && drawn.contains(words), "{said:?}");
+        assert!(message.starts_with("sailmortar: standard input: refusal 8 at row 3932160, column 0 (n): "), "{said:?}");
+        assert_eq!(output.status.code(), Some(1));
+    }
 }
 
 #[test]

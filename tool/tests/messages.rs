@@ -31,6 +31,8 @@ mod shown;
 mod tabledata;
 #[path = "../src/command/text.rs"]
 mod text;
+#[path = "../src/command/window.rs"]
+mod window;
 
 mod messages {
     mod base64;

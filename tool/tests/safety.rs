@@ -283,13 +283,41 @@ fn out_of_memory_is_said_and_leaves_nothing() {
     out_of_memory(
         "memory",
         &[
-            "\"$PROGRAM\" convert --fields byte --from binary --to binary2 long -o out",
             "cat long | \"$PROGRAM\" convert --fields byte --from binary --to binary2 -o out",
-            "\"$PROGRAM\" convert --fields byte --from binary --to binary2 --base64-out long -o out",
-            "\"$PROGRAM\" check --fields byte --from binary long > /dev/null",
+            "cat long | \"$PROGRAM\" convert --fields byte --from binary --to binary2 --base64-out -o out",
+            "cat long | \"$PROGRAM\" check --fields byte --from binary > /dev/null",
             "\"$PROGRAM\" index --fields byte --from binary long -o out",
         ],
     );
+}
+
+/// What is converted as it is read takes less memory than its input, on fewer threads where there is no room for them.
+#[test]
+fn out_of_memory_is_said_of_rows_that_are_converted_as_they_are_read() {
+    let scratch = Scratch::new("memory_as_read");
+    scratch.put("byte", b"<FIELD datatype='unsignedByte' arraysize='4096'/>");
+    let runs = (1_000..).step_by(500).find(|limit| with_memory(&scratch, *limit, "\"$PROGRAM\" --version").status == 0);
+    let least = runs.expect("a program takes some memory");
+    let lines = [
+        "\"$PROGRAM\" convert --fields byte --from binary --to binary2 long -o out",
+        "\"$PROGRAM\" convert --fields byte --from binary --to tabledata long -o out --threads 8",
+        "\"$PROGRAM\" convert --fields byte --from binary --to binary2 --base64-out long -o out",
+        "cat long | \"$PROGRAM\" convert --fields byte --from binary --to binary2 --long -o out",
+        "\"$PROGRAM\" check --fields byte --from binary long > /dev/null",
+    ];
+    for line in lines {
+        File::create(scratch.path("long")).and_then(|file| file.set_len(8 << 20)).expect("a long file");
+        scratch.put("out", b"yesterday");
+        assert_eq!(with_memory(&scratch, least, line), Said::trouble("out of memory"), "{line}");
+        assert_eq!(scratch.get("out"), b"yesterday", "{line}");
+        for limit in (least..500_000).step_by(50_000).chain((least..30_000).step_by(3_000)) {
+            let said = with_memory(&scratch, limit, line);
+            assert!(said.status == 0 || said == Said::trouble("out of memory"), "{line} with {limit}: {said:?}");
+            assert_eq!(scratch.parts(), [""; 0], "{line} with {limit}");
+        }
+        File::create(scratch.path("long")).and_then(|file| file.set_len(64 << 20)).expect("a long file");
+        assert_eq!(with_memory(&scratch, 60_000, line).status, 0, "{line}");
+    }
 }
 
 #[test]
@@ -366,7 +394,7 @@ fn send(signal: &str, process: &str) {
 /// Runs a program with the signals' own actions: a shell that started the tests in the background has it ignore some of them.
 const UNTRAPPED: &str = "
 import os, signal, sys
-for name in ('HUP', 'INT', 'QUIT', 'USR1', 'USR2', 'ALRM', 'TERM', 'XCPU'):
+for name in ('HUP', 'INT', 'QUIT', 'ABRT', 'USR1', 'USR2', 'ALRM', 'TERM', 'XCPU'):
     signal.signal(getattr(signal, 'SIG' + name), signal.SIG_DFL)
 os.execv(sys.argv[1], sys.argv[1:])
 ";
@@ -382,7 +410,8 @@ const TO_OUT: &str = "convert --fields fields --from binary --to tabledata -o ou
 #[test]
 fn a_signal_ends_the_run_and_leaves_nothing() {
     let scratch = Scratch::new("signals");
-    for (signal, number) in [("INT", 2), ("TERM", 15), ("HUP", 1), ("QUIT", 3), ("USR1", 10), ("USR2", 12), ("ALRM", 14), ("XCPU", 24)] {
+    let signals = [("INT", 2), ("TERM", 15), ("HUP", 1), ("QUIT", 3), ("ABRT", 6), ("USR1", 10), ("USR2", 12), ("ALRM", 14), ("XCPU", 24)];
+    for (signal, number) in signals {
         scratch.put("out", b"yesterday");
         let before = scratch.names();
         let mut child = waiting(&scratch, untrapped(&format!("{TO_OUT} --rest rest")), 2);

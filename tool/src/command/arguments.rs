@@ -2,6 +2,7 @@
 
 use std::ffi::{OsStr, OsString};
 use std::fmt;
+use std::num::NonZeroUsize;
 use std::ops::RangeInclusive;
 use std::os::unix::ffi::{OsStrExt, OsStringExt};
 use std::path::PathBuf;
@@ -78,9 +79,19 @@ pub struct Table {
     pub base64_in: bool,
 }
 
+/// How rows are gone through.
+#[derive(Clone, Copy)]
+pub struct Working {
+    /// On how many threads, where that was said.
+    pub threads: Option<NonZeroUsize>,
+    /// Whether an input may be of any length, and is converted as it is read.
+    pub long: bool,
+}
+
 pub struct Conversion {
     pub table: Table,
     pub to: Rows,
+    pub working: Working,
     pub base64_out: bool,
     pub wrap: usize,
     pub files: Files,
@@ -90,6 +101,7 @@ pub struct Conversion {
 pub struct Checking {
     pub table: Table,
     pub to: Option<Rows>,
+    pub working: Working,
     pub input: Place,
 }
 
@@ -151,6 +163,8 @@ const OUTPUT: Known = Known { long: "output", letter: Some(b'o'), valued: true }
 const VERBOSE: Known = Known { long: "verbose", letter: Some(b'v'), valued: false };
 const QUIET: Known = Known { long: "quiet", letter: Some(b'q'), valued: false };
 const JSON: Known = plain("json");
+const THREADS: Known = valued("threads");
+const LONG: Known = plain("long");
 
 /// Whether the words ask for `--json`, for the case that something is wrong with the rest of them.
 pub fn asks_for_json(words: &[OsString]) -> bool {
@@ -196,9 +210,9 @@ fn request_of(topic: Topic, words: impl Iterator<Item = OsString>) -> Result<Req
         Topic::All | Topic::Explain => vec![],
         Topic::Convert => {
             let files = [valued("fields"), valued("from"), valued("to"), plain("base64-in"), plain("base64-out")];
-            files.into_iter().chain([valued("wrap"), valued("rest"), OUTPUT, VERBOSE, JSON]).collect()
+            files.into_iter().chain([valued("wrap"), valued("rest"), OUTPUT, THREADS, LONG, VERBOSE, JSON]).collect()
         }
-        Topic::Check => vec![valued("fields"), valued("from"), valued("to"), plain("base64-in"), JSON],
+        Topic::Check => vec![valued("fields"), valued("from"), valued("to"), plain("base64-in"), THREADS, LONG, JSON],
         Topic::Compare => {
             let inputs = [valued("fields"), valued("from"), valued("and"), plain("base64-in"), plain("base64-and")];
             inputs.into_iter().chain([valued("limit"), QUIET, VERBOSE, JSON]).collect()
@@ -285,6 +299,25 @@ impl Words {
         let letters = number(&word);
         letters.map(Some).ok_or_else(|| format!("--wrap takes a number of letters, not '{}'", shown(&word)).into())
     }
+
+    /// How the rows of a table are gone through.
+    fn working(&mut self, topic: Topic, table: &Table) -> Result<Working, Usage> {
+        let threads = self.take("threads").map(|word| {
+            number(&word).ok_or_else(|| Usage(format!("--threads takes a number of threads, from 1 on, not '{}'", shown(&word))))
+        });
+        let working = Working { threads: threads.transpose()?, long: self.take("long").is_some() };
+        match working.long && table.base64_in {
+            true => Err(no_long_base64(topic)),
+            false => Ok(working),
+        }
+    }
+}
+
+/// Base64 is a step of its own, with a limit of its own.
+fn no_long_base64(topic: Topic) -> Usage {
+    let command = format!("base64 -d INPUT | sailmortar {} --long ..", topic.name());
+    let words = "--long does not go with --base64-in: base64 is decoded whole first, 1 GiB at most";
+    Usage(format!("{words}; leave --long out, or decode before this command, as in '{command}'"))
 }
 
 /// The number that a word of digits alone stands for.
@@ -381,8 +414,10 @@ fn conversion(mut words: Words) -> Result<Command, Usage> {
     let [fields, from, to] = needed(Topic::Convert, &mut words, [("fields", "FILE"), ("from", "KIND"), ("to", "KIND")])?;
     let files = words.files(operands.into_iter())?;
     let wrap = words.wrap()?;
+    let table = table(&mut words, fields, &from, &files.input)?;
     let conversion = Conversion {
-        table: table(&mut words, fields, &from, &files.input)?,
+        working: words.working(Topic::Convert, &table)?,
+        table,
         to: kind("--to", &to)?,
         base64_out: words.take("base64-out").is_some(),
         wrap: wrap.unwrap_or(0),
@@ -404,7 +439,8 @@ fn checking(mut words: Words) -> Result<Command, Usage> {
     let [fields, from] = needed(Topic::Check, &mut words, [("fields", "FILE"), ("from", "KIND")])?;
     let input = Words::input(operands.into_iter())?;
     let to = words.take("to").map(|to| kind("--to", &to)).transpose()?;
-    Ok(Command::Check(Checking { table: table(&mut words, fields, &from, &input)?, to, input }))
+    let table = table(&mut words, fields, &from, &input)?;
+    Ok(Command::Check(Checking { working: words.working(Topic::Check, &table)?, table, to, input }))
 }
 
 fn comparing(mut words: Words, telling: Telling) -> Result<Command, Usage> {

@@ -22,7 +22,7 @@ pub fn content_bytes(kind: Kind, elements: usize) -> usize {
 }
 
 pub fn standing<'a>(stream: &Stream<'a>, refused: &Refused) -> Option<Standing<'a>> {
-    let row = stream.input.get(refused.offset..)?;
+    let row = stream.window.from(refused.offset)?;
     let flags = flag_bytes(stream.columns, stream.from);
     if is_in_flags(stream.columns.len(), row, flags, refused) {
         return Some(in_flags(stream.columns.len(), &row[..flags.min(row.len())], refused));
@@ -31,14 +31,14 @@ pub fn standing<'a>(stream: &Stream<'a>, refused: &Refused) -> Option<Standing<'
     let cells = stream.columns.get(..column)?.iter().try_fold(row.get(flags..)?, after_cell)?;
     let cell = Cell::at(stream.columns.get(column)?, cells);
     let (words, shown) = cell.words(stream, refused.number);
-    Some(Standing { place: Place::Cell, byte: stream.input.len() - cells.len(), words, shown, fault: None })
+    Some(Standing { place: Place::Cell, byte: stream.window.place_of(cells), words, shown, fault: None })
 }
 
 /// Where the row begins that has so many whole rows between it and `start`, which is a row's.
 pub fn row_start(stream: &Stream, start: usize, rows: u64) -> usize {
     (0..rows).fold(start, |start, _| {
-        let left = stream.input.get(start..).and_then(|row| after_row(stream.columns, stream.from, row));
-        left.map_or(start, |left| stream.input.len() - left.len())
+        let left = stream.window.from(start).and_then(|row| after_row(stream.columns, stream.from, row));
+        left.map_or(start, |left| stream.window.place_of(left))
     })
 }
 

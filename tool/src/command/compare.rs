@@ -13,6 +13,7 @@ use crate::output::Output;
 use crate::progress::Progress;
 use crate::report::{self, shown, Report, Stream, Value};
 use crate::shown::counted;
+use crate::window::Window;
 use crate::{json, side_by_side, End};
 
 /// Bytes of lines that are held before they are written.
@@ -45,8 +46,8 @@ fn judge(comparing: &Comparing, telling: Telling) -> Result<Report, End> {
     };
     let pair = Pair {
         fields: &fields,
-        first: stream(&first, &fields, &comparing.first.table, Rows::Binary2, &rows),
-        second: Stream { is_second: true, ..stream(&second, &fields, &comparing.second.table, Rows::Binary2, &others) },
+        first: stream(&first, &fields, &comparing.first.table, Rows::Binary2, Window::whole(&rows)),
+        second: Stream { is_second: true, ..stream(&second, &fields, &comparing.second.table, Rows::Binary2, Window::whole(&others)) },
     };
     let compared = pair.compare()?;
     match refused {
@@ -94,7 +95,7 @@ fn open_output(inputs: &[&Input]) -> Result<Output, Trouble> {
     }
 }
 
-/// Two inputs that were read.
+/// Two inputs that were read, each whole.
 struct Pair<'a> {
     fields: &'a Fields,
     first: Stream<'a>,
@@ -109,11 +110,11 @@ impl Pair<'_> {
     /// The counts, or the refusal of the one or the other.
     fn compare(&self) -> Result<Comparison, End> {
         let Pair { fields, first, second } = self;
-        let (bytes, mut progress) = (first.input.len() + second.input.len(), Progress::new());
+        let (bytes, mut progress) = (first.window.bytes.len() + second.window.bytes.len(), Progress::new());
         if bytes >= LONG {
             progress.announce(|| format!("comparing {} MB", bytes / 1_000_000));
         }
-        sailmortar::compare(&fields.decls, first.from, first.input, second.from, second.input, &mut [])
+        sailmortar::compare(&fields.decls, first.from, first.window.bytes, second.from, second.window.bytes, &mut [])
             .map_err(|refused| self.refused(&refused))
     }
 
@@ -125,7 +126,7 @@ impl Pair<'_> {
         }
         // Converting is refused there, too, and tells where the row begins.
         let decls = &self.fields.decls;
-        let refused = match sailmortar::convert_pieces(decls, stream.from, Rows::Binary2, stream.input, ROOM, |_| Ok(())) {
+        let refused = match sailmortar::convert_pieces(decls, stream.from, Rows::Binary2, stream.window.bytes, ROOM, |_| Ok(())) {
             Err(Error::Refused(located)) => located,
             _ => *refused,
         };
@@ -140,7 +141,7 @@ impl Pair<'_> {
     /// How many rows both inputs have: all that the first has beyond nothing, but for those that it has beyond the second.
     fn rows_of_both(&self, compared: &Comparison) -> Result<u64, End> {
         let Pair { fields, first, .. } = self;
-        let beside_nothing = sailmortar::compare(&fields.decls, first.from, first.input, first.from, &[], &mut []);
+        let beside_nothing = sailmortar::compare(&fields.decls, first.from, first.window.bytes, first.from, &[], &mut []);
         beside_nothing.map(|all| all.first_beyond - compared.first_beyond).map_err(|refused| self.refused(&refused))
     }
 

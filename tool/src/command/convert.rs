@@ -2,15 +2,16 @@
 
 use std::io::{self, Write};
 
-use sailmortar::{Base64Writer, Column, Done, Error, Piece, Refused, Rows, ROOM};
+use sailmortar::{Base64Writer, Column, Done, Error, Refused, Rows};
 
 use crate::arguments::{Checking, Conversion, Place, Table, Telling, Usage};
-use crate::base64::{not_to_a_terminal, read_rows};
+use crate::base64::not_to_a_terminal;
 use crate::files::{Identity, Input, Trouble};
 use crate::output::Output;
-use crate::progress::Progress;
 use crate::report::{self, shown, Report, Stream, Value};
 use crate::shown::counted;
+use crate::source::Source;
+use crate::window::Window;
 use crate::{say, End};
 
 /// Declarations that are good.
@@ -45,30 +46,22 @@ pub fn convert(conversion: &Conversion) -> Result<Report, End> {
     let fields = Fields::read(&conversion.table.fields)?;
     let mut input = fields.open_rows(&conversion.files.input)?;
     let mut outputs = Outputs::open(conversion, &[fields.identity, input.identity()])?;
-    let rows = read_rows(&mut input, conversion.table.base64_in)?;
-    match convert_into(&mut outputs.output, conversion, &fields.decls, &rows) {
-        Ok(done) => outputs.finish(&input, &done),
-        Err(Error::Refused(refused)) if refused.number == 6 => Err(End::Refused(report::too_long(&input.name, ""))),
+    let mut source = Source::open(&mut input, &conversion.table, conversion.working)?;
+    match convert_into(&mut outputs.output, conversion, &fields.decls, &mut source) {
+        Ok(done) => outputs.finish(&source, &done),
+        Err(Error::Refused(refused)) if refused.number == 6 => Err(source.too_long()),
         Err(Error::Refused(refused)) => {
-            let stands = outputs.stop(&rows, &refused);
-            let stream = stream(&input, &fields, &conversion.table, conversion.to, &rows);
+            let stands = outputs.stop(&mut source, &refused);
+            let stream = stream(source.input, &fields, &conversion.table, conversion.to, source.window(&refused));
             Err(refused_row(&stream, &refused, stands))
         }
-        Err(Error::System(cause)) => Err(outputs.output.trouble(cause).into()),
+        Err(Error::System(cause)) => Err(source.trouble(cause, &outputs.output).into()),
         Err(other) => Err(outputs.output.trouble(io::Error::other(other)).into()),
     }
 }
 
-pub fn stream<'a>(input: &'a Input, fields: &'a Fields, table: &Table, to: Rows, rows: &'a [u8]) -> Stream<'a> {
-    Stream {
-        input_name: &input.name,
-        columns: &fields.columns,
-        from: table.from,
-        to,
-        decoded: table.base64_in,
-        is_second: false,
-        input: rows,
-    }
+pub fn stream<'a>(input: &'a Input, fields: &'a Fields, table: &Table, to: Rows, window: Window<'a>) -> Stream<'a> {
+    Stream { input_name: &input.name, columns: &fields.columns, from: table.from, to, decoded: table.base64_in, is_second: false, window }
 }
 
 /// The words and facts of a refused row, and of what stands before it, or could not be kept.
@@ -145,17 +138,17 @@ impl Outputs {
     }
 
     /// All rows are good. That a night is replaced by nothing at all is said even where no one asked.
-    fn finish(mut self, input: &Input, done: &Done) -> Result<Report, End> {
-        let is_urgent = input.read == 0 && self.output.replaces_something();
+    fn finish(mut self, source: &Source, done: &Done) -> Result<Report, End> {
+        let is_urgent = source.read() == 0 && self.output.replaces_something();
         self.output.finish()?;
-        Ok(Report { is_urgent, ..done_well(input, input.read as u64, done.rows, &self.output) })
+        Ok(Report { is_urgent, ..done_well(source.input, source.read(), done.rows, &self.output) })
     }
 
     /// A row is refused: keeps what stands before it, and answers what became of that. The rest is written first: only where it stands
     /// whole is the output moved.
-    fn stop(&mut self, input: &[u8], refused: &Refused) -> Result<Stands, Trouble> {
+    fn stop(&mut self, source: &mut Source, refused: &Refused) -> Result<Stands, Trouble> {
         if let Some(rest) = &mut self.rest {
-            rest.write_all(&input[refused.offset..]).map_err(|cause| rest.trouble(cause))?;
+            source.write_rest(refused, rest)?;
             rest.sync()?;
         }
         let mut stands = self.keep_rows(refused)?;
@@ -191,14 +184,8 @@ pub fn rows_before(rows: u64) -> String {
     format!("the {} before it {}", counted(rows, "row", "rows"), if rows == 1 { "is" } else { "are" })
 }
 
-fn convert_into(output: &mut Output, conversion: &Conversion, decls: &[u8], input: &[u8]) -> Result<Done, Error> {
-    let mut progress = Progress::new();
-    let mut write = |target: &mut dyn Write| {
-        sailmortar::convert_pieces(decls, conversion.table.from, conversion.to, input, ROOM, |piece| {
-            progress.tick(|| how_far(&piece, input, "converted"));
-            target.write_all(piece.bytes)
-        })
-    };
+fn convert_into(output: &mut Output, conversion: &Conversion, decls: &[u8], source: &mut Source) -> Result<Done, Error> {
+    let mut write = |target: &mut dyn Write| source.convert(decls, conversion.to, "converted", |piece| target.write_all(piece.bytes));
     if !conversion.base64_out {
         return write(output);
     }
@@ -211,45 +198,35 @@ fn convert_into(output: &mut Output, conversion: &Conversion, decls: &[u8], inpu
     converted
 }
 
-fn how_far(piece: &Piece, input: &[u8], done: &str) -> String {
-    format!("{}% {done}, {} rows", piece.read as u64 * 100 / input.len().max(1) as u64, piece.rows)
-}
-
 pub fn check(checking: &Checking, telling: Telling) -> Result<Report, End> {
     let fields = Fields::read(&checking.table.fields)?;
     let mut input = fields.open_rows(&checking.input)?;
-    let rows = read_rows(&mut input, checking.table.base64_in)?;
+    let mut source = Source::open(&mut input, &checking.table, checking.working)?;
     // BINARY2 has a form for whatever a cell shows, so that only reading can refuse.
     let to = checking.to.unwrap_or(Rows::Binary2);
-    let mut progress = Progress::new();
-    let checked = sailmortar::convert_pieces(&fields.decls, checking.table.from, to, &rows, ROOM, |piece| {
-        progress.tick(|| how_far(&piece, &rows, "checked"));
-        Ok(())
-    });
-    drop(progress);
-    match checked {
-        Ok(done) => good(&input, done.rows, fields.columns.len(), telling),
-        Err(Error::Refused(refused)) if refused.number == 6 => Err(End::Refused(report::too_long(&input.name, ""))),
+    match source.convert(&fields.decls, to, "checked", |_| Ok(())) {
+        Ok(done) => good(&source, done.rows, fields.columns.len(), telling),
+        Err(Error::Refused(refused)) if refused.number == 6 => Err(source.too_long()),
         Err(Error::Refused(refused)) => {
             let words = match refused.rows {
                 0 => "no row stands before it".to_string(),
                 rows => format!("{} good", rows_before(rows)),
             };
-            let stream = stream(&input, &fields, &checking.table, to, &rows);
+            let stream = stream(source.input, &fields, &checking.table, to, source.window(&refused));
             Err(refused_row(&stream, &refused, Ok(Stands { words, facts: vec![] })))
         }
-        Err(Error::System(cause)) => Err(Trouble::with(&input.name)(cause).into()),
-        Err(other) => Err(Trouble::with(&input.name)(io::Error::other(other)).into()),
+        Err(Error::System(cause)) => Err(Trouble::with(&source.input.name)(cause).into()),
+        Err(other) => Err(Trouble::with(&source.input.name)(io::Error::other(other)).into()),
     }
 }
 
-fn good(input: &Input, count: u64, columns: usize, telling: Telling) -> Result<Report, End> {
-    let (rows, bytes) = (counted(count, "row", "rows"), counted(input.read as u64, "byte", "bytes"));
-    let line = format!("{}: {rows}, {bytes}, {}", shown(&input.name), counted(columns as u64, "column", "columns"));
+fn good(source: &Source, count: u64, columns: usize, telling: Telling) -> Result<Report, End> {
+    let (rows, bytes) = (counted(count, "row", "rows"), counted(source.read(), "byte", "bytes"));
+    let line = format!("{}: {rows}, {bytes}, {}", shown(&source.input.name), counted(columns as u64, "column", "columns"));
     if !telling.json {
         return say(&(line + "\n"));
     }
-    let numbers = [("rows", count), ("read", input.read as u64), ("columns", columns as u64)];
+    let numbers = [("rows", count), ("read", source.read()), ("columns", columns as u64)];
     let facts = numbers.into_iter().map(|(name, number)| (name, Value::Number(number))).collect();
     Ok(Report { lines: vec![line], facts, is_urgent: false })
 }

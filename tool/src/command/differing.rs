@@ -59,7 +59,7 @@ pub struct Differing<'a> {
 }
 
 impl<'a> Differing<'a> {
-    /// At the start of both inputs, whose rows were all read well before.
+    /// At the start of both inputs, which are seen whole, and whose rows were all read well before.
     pub fn new(decls: &'a [u8], streams: [&Stream<'a>; 2]) -> Differing<'a> {
         let [first, second] = streams.map(|stream| Side::new(decls, stream));
         Differing { decls, columns: streams[0].columns, first, second, before: 0, rows: 0, places: Vec::new() }
@@ -114,7 +114,7 @@ struct Side<'a> {
 
 impl<'a> Side<'a> {
     fn new(decls: &'a [u8], stream: &Stream<'a>) -> Side<'a> {
-        let (from, rest) = (stream.from, stream.input);
+        let (from, rest) = (stream.from, stream.window.bytes);
         Side { decls, from, rest, room: Vec::new(), rows: 0, start: 0, end: 0, looked_at: 0, row: 0, row_start: 0 }
     }
 

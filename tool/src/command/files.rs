@@ -137,11 +137,16 @@ impl Input {
     }
 
     /// How much of a plain file is still to be read; 0 of anything else, whose length is not known.
-    fn bytes_left(&self) -> u64 {
+    pub fn bytes_left(&self) -> u64 {
         match self.file.metadata() {
-            Ok(metadata) if metadata.is_file() => metadata.len().saturating_sub((&self.file).stream_position().unwrap_or(0)),
+            Ok(metadata) if metadata.is_file() => metadata.len().saturating_sub(self.position()),
             _ => 0,
         }
+    }
+
+    /// How far it has been read, by whoever had it before, too.
+    pub fn position(&self) -> u64 {
+        (&self.file).stream_position().unwrap_or(0)
     }
 }
 

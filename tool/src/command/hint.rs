@@ -11,6 +11,10 @@ const FIRST_ROWS: u64 = 10;
 /// Bytes by which an input is told.
 const START: usize = 64;
 
+/// A tag or a reference that is cut has fewer bytes.
+const CUT: usize = 16;
+
+const LONG_ROW: &str = "with --long a row of TABLEDATA is judged by its first 64 MiB, and this one goes on behind them";
 const ROWS_ALONE: &str = "the rows alone are wanted: take out the tags around them";
 
 /// Tags that stand where a row or a cell should, and what to do about them.
@@ -29,6 +33,7 @@ const TAGS: &[(&str, &str)] = &[
 /// A hint for a refused row; `fault` is what stands where a tag or a reference of TABLEDATA should.
 pub fn of_row(stream: &Stream, refused: &Refused, fault: Option<&[u8]>) -> Option<String> {
     let hint = match (stream.from, fault) {
+        (Rows::TableData, Some(fault)) if stream.window.goes_on && fault.len() < CUT => Some(LONG_ROW),
         (Rows::TableData, Some(fault)) => instead_of_a_tag(stream, fault),
         (Rows::TableData, None) => None,
         _ => of_bytes(stream, refused),
@@ -42,7 +47,7 @@ fn for_a_second(hint: &str) -> String {
 }
 
 fn instead_of_a_tag(stream: &Stream, fault: &[u8]) -> Option<&'static str> {
-    let is_first = without_space(stream.input).len() == fault.len();
+    let is_first = stream.window.place == 0 && without_space(stream.window.bytes).len() == fault.len();
     match fault {
         [b'<', ..] => of_a_tag(fault),
         _ if is_first => of_text(fault).or_else(|| of_other_rows(fault)),
@@ -104,14 +109,14 @@ fn is_base64(text: &[u8]) -> bool {
 
 /// A hint for rows of bytes that cannot be read.
 fn of_bytes(stream: &Stream, refused: &Refused) -> Option<&'static str> {
-    let text = without_space(stream.input);
+    let text = without_space(stream.window.start);
     let starts = |tag: &str| text.starts_with(tag.as_bytes());
     match refused.number {
         14.. => None,
         _ if starts("<?xml") || starts("<VOTABLE") => Some("this is a whole document: the bytes of its stream alone are wanted"),
         _ if starts("<TR>") || starts("<tr>") || starts("<TABLEDATA>") => Some("this looks like TABLEDATA: is --from right?"),
         _ if is_base64_of(stream, refused) => Some("this looks like base64: is --base64-in missing?"),
-        _ => of_packed(stream.input),
+        _ => of_packed(stream.window.start),
     }
 }
 
@@ -119,7 +124,7 @@ fn of_bytes(stream: &Stream, refused: &Refused) -> Option<&'static str> {
 fn is_base64_of(stream: &Stream, refused: &Refused) -> bool {
     let is_text = stream.columns.iter().all(|column| column.kind == Kind::Char);
     let is_told = refused.row < FIRST_ROWS && (!is_text || refused.number == 9);
-    is_told && !stream.decoded && is_base64(stream.input)
+    is_told && !stream.decoded && is_base64(stream.window.start)
 }
 
 /// A hint for a text that is no base64.

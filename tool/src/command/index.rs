@@ -11,6 +11,7 @@ use crate::files::Trouble;
 use crate::output::Output;
 use crate::report::{self, shown, Report};
 use crate::shown::counted;
+use crate::window::Window;
 use crate::End;
 
 pub fn index(indexing: &Indexing) -> Result<Report, End> {
@@ -33,7 +34,7 @@ pub fn index(indexing: &Indexing) -> Result<Report, End> {
             let stands = keep(&index, &mut output);
             refused.bytes = output.written;
             // Reading alone refuses here, whatever the rows may go to later.
-            Err(refused_row(&stream(&input, &fields, table, Rows::Binary2, &rows), &refused, stands))
+            Err(refused_row(&stream(&input, &fields, table, Rows::Binary2, Window::whole(&rows)), &refused, stands))
         }
         Err(Stopped { error: Error::System(cause), .. }) => Err(Trouble::with(&input.name)(cause).into()),
         Err(Stopped { error, .. }) => Err(Trouble::with(&input.name)(io::Error::other(error)).into()),

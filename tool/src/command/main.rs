@@ -24,10 +24,12 @@ mod report;
 mod row;
 mod shown;
 mod side_by_side;
+mod source;
 #[allow(unsafe_code)]
 mod system;
 mod tabledata;
 mod text;
+mod window;
 mod words;
 
 use std::io::{self, Write};

@@ -6,6 +6,7 @@ use sailmortar::{Column, Indexed, Misfit, Refused, Rows, DECLARATIONS_LIMIT, INP
 
 use crate::cell::{self, Place};
 use crate::text::{line, without_space};
+use crate::window::Window;
 use crate::{element, hint, letters, shown};
 
 /// What is said of how a run ended.
@@ -87,7 +88,8 @@ pub struct Stream<'a> {
     pub decoded: bool,
     /// Whether it is the second of two inputs, whose options have names of their own.
     pub is_second: bool,
-    pub input: &'a [u8],
+    /// What is seen of the input.
+    pub window: Window<'a>,
 }
 
 /// A refusal of a row (8 to 16, and 18); `stands` says what is written.
@@ -166,7 +168,7 @@ impl Report {
         self.lines.push(format!("no row was read and nothing is written; 'sailmortar explain {number}' says more"));
     }
 
-    fn hint(&mut self, hint: Option<&str>) {
+    pub fn hint(&mut self, hint: Option<&str>) {
         if let Some(hint) = hint {
             self.text("hint", hint);
             self.lines.push(format!("hint: {hint}"));
@@ -239,15 +241,11 @@ impl Report {
         let cell = standing.map_or(start, |standing| standing.byte.max(start));
         self.number("offset", start as u64);
         self.number("byte", cell as u64);
-        let (start_line, cell_line) = match stream.from {
-            Rows::TableData => {
-                let start_line = line(stream.input, start);
-                let cell_line = start_line + line(&stream.input[start..], cell - start) - 1;
-                self.number("line", cell_line);
-                (format!("in line {start_line}, "), format!("in line {cell_line}, "))
-            }
-            _ => Default::default(),
-        };
+        let lines = stream.window.line(start).zip(stream.window.line(cell)).filter(|_| stream.from == Rows::TableData);
+        let (start_line, cell_line) = lines.map_or_else(Default::default, |(start_line, cell_line)| {
+            self.number("line", cell_line);
+            (format!("in line {start_line}, "), format!("in line {cell_line}, "))
+        });
         let of = if stream.decoded { " of the decoded stream" } else { "" };
         match standing.map(|standing| standing.place) {
             Some(Place::Cell | Place::End) => {
@@ -260,9 +258,9 @@ impl Report {
 
 /// White space before a row of TABLEDATA counts as part of it; the reader looks for the tag.
 fn row_start(stream: &Stream, refused: &Refused) -> usize {
-    let rest = stream.input.get(refused.offset..).unwrap_or_default();
+    let rest = stream.window.from(refused.offset).unwrap_or_default();
     match stream.from {
-        Rows::TableData => stream.input.len() - without_space(rest).len(),
-        _ => stream.input.len() - rest.len(),
+        Rows::TableData => stream.window.place_of(without_space(rest)),
+        _ => stream.window.place_of(rest),
     }
 }

@@ -13,6 +13,7 @@ use crate::files::{Input, Trouble};
 use crate::output::Output;
 use crate::report::{self, shown, Report};
 use crate::shown::counted;
+use crate::window::Window;
 use crate::End;
 
 const PAST_THE_END: u64 = 20;
@@ -158,7 +159,7 @@ fn refused_one(
         let check = advice::to_check(&fetching.table, &fetching.stream);
         return refused_with(stands, |words| report::past_the_end(&input.name, rows.of(), &refused, &check, words));
     };
-    let stream = stream(input, fields, &fetching.table, Rows::TableData, bytes);
+    let stream = stream(input, fields, &fetching.table, Rows::TableData, Window::whole(bytes));
     refused.offset = row_start(&stream, start, refused.row % ROWS_PER_START);
     refused_row(&stream, &refused, stands)
 }

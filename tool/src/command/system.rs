@@ -38,8 +38,9 @@ const SIG_SETMASK: c_int = 2;
 const SA_RESTART: c_int = 0x1000_0000;
 const SIGXFSZ: c_int = 25;
 
-/// Those that end a run unless it says otherwise, and are sent by people and by limits: HUP, INT, QUIT, USR1, USR2, ALRM, TERM, XCPU.
-const ENDING: [c_int; 8] = [1, 2, 3, 10, 12, 14, 15, 24];
+/// Those that end a run unless it says otherwise, and are sent by people, by limits, and by a library that finds no memory: HUP, INT, QUIT,
+/// ABRT, USR1, USR2, ALRM, TERM, XCPU.
+const ENDING: [c_int; 9] = [1, 2, 3, 6, 10, 12, 14, 15, 24];
 
 static CLOSED: [AtomicBool; 3] = [AtomicBool::new(false), AtomicBool::new(false), AtomicBool::new(false)];
 
@@ -119,7 +120,8 @@ extern "C" fn remove_and_end(number: c_int) {
     for place in &DOOMED {
         let name = place.load(Ordering::Acquire);
         if !name.is_null() {
-            // SAFETY: a pointer that stands there is a name's until `drop` has taken it away, which cannot go on while this runs.
+            // SAFETY: a pointer that stands there is a name's until `drop` has taken it away, which cannot go on while this runs: not on
+            // this thread, and where there are others, the first one is in a conversion, which drops no name and ends behind all of them.
             unsafe { unlink(name) };
         }
     }

@@ -12,17 +12,17 @@ use crate::text::{after_tag, is_space, tag_or_text, without_space};
 const LINE_END: &[u8] = b"\r\n";
 
 pub fn standing<'a>(stream: &Stream<'a>, refused: &Refused) -> Option<Standing<'a>> {
-    let row = without_space(stream.input.get(refused.offset..)?);
+    let row = without_space(stream.window.from(refused.offset)?);
     let at = |place, here: &'a [u8], said: Said<'a>| {
         let Said { words, shown, fault } = said;
-        Some(Standing { place, byte: stream.input.len() - here.len(), words, shown: plain(shown), fault })
+        Some(Standing { place, byte: stream.window.place_of(here), words, shown: plain(shown), fault })
     };
     let Some(cells) = after_tag(row, "<TR", ">") else {
-        return at(Place::Start, row, instead(row, "<TR>"));
+        return at(Place::Start, row, instead(stream, row, "<TR>"));
     };
     let here = without_space((0..refused.column).try_fold(cells, |cells, _| after_cell(cells))?);
     match stream.columns.get(usize::try_from(refused.column).ok()?) {
-        None => at(Place::End, here, instead(here, "</TR>")),
+        None => at(Place::End, here, instead(stream, here, "</TR>")),
         Some(column) => {
             let said = in_cell(stream, column, here, refused.number);
             at(Place::Cell, here, Said { words: format!("{}{}", label(column), said.words), ..said })
@@ -38,9 +38,13 @@ struct Said<'a> {
 }
 
 /// What stands where something else should.
-fn instead<'a>(text: &'a [u8], wanted: &str) -> Said<'a> {
+fn instead<'a>(stream: &Stream, text: &'a [u8], wanted: &str) -> Said<'a> {
     let shown = tag_or_text(text);
-    let there = if shown.is_empty() { "the input ends".to_string() } else { quoted(shown) };
+    let there = match shown {
+        [] if stream.window.goes_on => "the first 64 MiB of the row end".to_string(),
+        [] => "the input ends".to_string(),
+        shown => quoted(shown),
+    };
     Said { words: format!("{there} where {wanted} should stand"), shown, fault: Some(text) }
 }
 
@@ -62,7 +66,7 @@ fn split_content(inside: &[u8]) -> (&[u8], &[u8]) {
 /// Words that follow the column's kind.
 fn in_cell<'a>(stream: &Stream, column: &Column, cell: &'a [u8], number: u64) -> Said<'a> {
     if number == 10 {
-        let said = broken(cell);
+        let said = broken(stream, cell);
         return Said { words: format!(", {}", said.words), ..said };
     }
     let text = after_tag(cell, "<TD", ">").map_or(&cell[..0], |inside| split_content(inside).0);
@@ -76,15 +80,15 @@ fn in_cell<'a>(stream: &Stream, column: &Column, cell: &'a [u8], number: u64) ->
 }
 
 /// The first tag or reference of a cell that is not as it should be.
-fn broken(cell: &[u8]) -> Said<'_> {
+fn broken<'a>(stream: &Stream, cell: &'a [u8]) -> Said<'a> {
     let Some(inside) = after_tag(cell, "<TD", ">") else {
-        return instead(cell, "<TD>");
+        return instead(stream, cell, "<TD>");
     };
     let (text, rest) = split_content(inside);
     let probe = Probe { number: 10, kind: Kind::Char, from: Rows::TableData, to: Rows::Binary2 };
     match (probe.first(references(text)), after_tag(rest, "</TD", ">")) {
-        (Some((_, reference)), _) => instead(reference, "a reference"),
-        (None, None) => instead(rest, "</TD>"),
+        (Some((_, reference)), _) => instead(stream, reference, "a reference"),
+        (None, None) => instead(stream, rest, "</TD>"),
         (None, Some(_)) => Said { words: quoted(cell), shown: cell, fault: None },
     }
 }

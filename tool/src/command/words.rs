@@ -93,6 +93,8 @@ sailmortar convert --fields FILE --from KIND --to KIND [INPUT] [-o OUTPUT]
   --wrap N           .. in lines of N letters
   -o, --output FILE  write a new file, moved to this name when it is done
   --rest FILE        at a refusal, write everything from the refused row on
+  --threads N        go through the rows on N threads, not on all cores
+  --long             take an INPUT of any length, and not 1 GiB at most
   -v, --verbose      say rows and bytes when all is accepted, too
   --json             say how it ended as an object, on one line
   -h, --help         this text
@@ -100,7 +102,8 @@ sailmortar convert --fields FILE --from KIND --to KIND [INPUT] [-o OUTPUT]
 '-' or no name is standard input or output. At a refusal the good rows before
 it are written; where there is none, OUTPUT is left as it was. OUTPUT may be
 INPUT: at a refusal the good rows then go to a file beside it, and INPUT stays.
-Bytes go to a terminal only with '-o -'.
+Bytes go to a terminal only with '-o -'. A file is converted as it is read, and
+with --long a pipe is, too; without it a pipe is read to its end first.
 ";
 
 const CHECK: &str = "\
@@ -110,6 +113,8 @@ sailmortar check --fields FILE --from KIND [--to KIND] [INPUT]
   --from KIND        what INPUT holds: tabledata, binary or binary2
   --to KIND          also whether each row has a form in this kind
   --base64-in        INPUT is base64, as a STREAM element has it
+  --threads N        go through the rows on N threads, not on all cores
+  --long             take an INPUT of any length, and not 1 GiB at most
   --json             say how it ended as an object, on one line
   -h, --help         this text
 
@@ -302,8 +307,9 @@ fn in_sizes_and_base64(number: u64) -> &'static str {
         6 => {
             "\
 Declarations may have 65536 bytes, an input of rows or of a base64 step
-1073741824 (1 GiB); the message says which was over. Cut the rows into several
-inputs at row ends and convert each: a row's output depends on no other row."
+1073741824 (1 GiB); the message says which was over. With --long, convert and
+check take rows without such a limit. Or cut the rows into several inputs at
+row ends and convert each: a row's output depends on no other row."
         }
         7 => {
             "\

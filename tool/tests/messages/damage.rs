@@ -5,13 +5,14 @@ use std::time::{Duration, Instant};
 
 use sailmortar::{convert_to_vec, declare, Error, Rows};
 
-use super::said::{of_declarations, of_refused, refused, Way};
+use super::said::{of_declarations, of_refused, of_seen, refused, Way};
 use crate::generate::columns::{declarations, some, spelled_declarations};
 use crate::generate::damage::damaged;
 use crate::generate::rows::{spelled, table};
 use crate::generate::Random;
 use crate::model::converter::Rows as ModelRows;
 use crate::report::Report;
+use crate::window::Window;
 
 /// How many times as many random inputs as usual are asked for.
 pub fn times() -> u64 {
@@ -70,6 +71,49 @@ fn damaged_rows_of_all_kinds() {
         numbers.insert(refused.number);
     }
     assert_eq!(numbers.into_iter().collect::<Vec<_>>(), (8..=16).chain([18]).collect::<Vec<_>>());
+}
+
+/// As much as is kept of rows that are converted as they are read: the first bytes, and all from the refused row on.
+fn kept(input: &[u8], place: usize) -> Window<'_> {
+    let line_feeds = input[..place].iter().filter(|byte| **byte == b'\n').count() as u64;
+    Window { start: &input[..input.len().min(100)], bytes: &input[place..], place, line_feeds: Some(line_feeds), goes_on: false }
+}
+
+#[test]
+fn rows_that_are_not_kept_are_not_missed() {
+    let (mut reports, mut hints) = (0, 0);
+    for seed in 0..10_000 * times() {
+        let mut random = Random::new(84_000_000 + seed);
+        let (fields, way, input) = any_rows(&mut random);
+        let input = match random.one_in(4) {
+            true => [random.pick(&OTHER_STARTS), &input].concat(),
+            false => input,
+        };
+        let Some(refused) = refused(&fields, way, &input) else {
+            continue;
+        };
+        let whole = of_refused(&fields, way, &input, &refused);
+        let seen = of_seen(&fields, way, kept(&input, refused.offset), &refused);
+        assert_eq!(seen, whole, "{}", input.escape_ascii());
+        // Where the lines could not be counted everything else is said.
+        let uncounted = of_seen(&fields, way, Window { line_feeds: None, ..kept(&input, refused.offset) }, &refused);
+        let lines: Vec<String> = whole.lines.iter().map(|line| without_lines(line)).collect();
+        assert_eq!(uncounted.lines.iter().map(|line| without_lines(line)).collect::<Vec<_>>(), lines);
+        assert_eq!((uncounted.number_of("line"), uncounted.number_of("byte")), (None, whole.number_of("byte")));
+        reports += usize::from(refused.offset > 0);
+        hints += usize::from(whole.text_of("hint").is_some());
+    }
+    assert!(reports > 1_000 && hints > 100, "{reports} refused behind a good row, {hints} hints");
+}
+
+/// What rows begin with that are of another kind than was said.
+const OTHER_STARTS: [&[u8]; 7] = [b"\n  <TR>", b"<?xml", b"\x1F\x8B\x08", b"AAAHVAAACEY=", b" \n", b"<TABLEDATA>", b"\xEF\xBB\xBF"];
+
+/// A message without the numbers of lines.
+fn without_lines(line: &str) -> String {
+    let mut parts = line.split("in line ");
+    let first = parts.next().unwrap_or_default().to_string();
+    parts.fold(first, |before, part| before + part.split_once(", ").map_or("", |(_, after)| after))
 }
 
 #[test]

@@ -2,7 +2,8 @@
 
 use sailmortar::Rows;
 
-use super::said::{of_base64, of_declarations, of_rows, Way};
+use super::said::{of_base64, of_declarations, of_rows, of_seen, refused, Way};
+use crate::window::Window;
 
 const FIELDS: &str = "<FIELD datatype='short'/><FIELD datatype='boolean'/>";
 const TEXT: Way = Way { from: Rows::TableData, to: Rows::Binary2 };
@@ -63,6 +64,25 @@ fn what_stands_where_rows_of_bytes_should() {
     ];
     for (input, hint) in cases {
         assert_eq!(of_rows(FIELDS, BINARY2, input).hint_of(), hint, "{}", input.escape_ascii());
+    }
+}
+
+/// What --long holds of a row ends in the middle of it, or behind a fault that would be there in any case.
+#[test]
+fn a_row_that_is_cut_is_told_from_one_that_is_broken() {
+    let long = "with --long a row of TABLEDATA is judged by its first 64 MiB, and this one goes on behind them";
+    let cases: [(&[u8], &str, Option<&str>); 5] = [
+        (b"<TR><TD>7   ", "short, the first 64 MiB of the row end where </TD> should stand", Some(long)),
+        (b"<TR><TD>7</TD", "short, '</TD' where </TD> should stand", Some(long)),
+        (b"<TR><TD>7</TD>", "boolean, the first 64 MiB of the row end where <TD> should stand", Some(long)),
+        (b"<TR><TD>7</TD><TD>&#x", "boolean, '&#x' where a reference should stand", Some(long)),
+        (b"<TR><td>7</td><td>T</td>", "short, '<td>' where <TD> should stand", Some(CAPITALS)),
+    ];
+    for (input, words, hint) in cases {
+        let refused = refused(FIELDS.as_bytes(), TEXT, input).expect("it is refused");
+        let report = of_seen(FIELDS.as_bytes(), TEXT, Window { goes_on: true, ..Window::whole(input) }, &refused);
+        assert!(report.lines[0].contains(words), "{}", report.lines[0]);
+        assert_eq!(report.hint_of(), hint, "{}", input.escape_ascii());
     }
 }
 

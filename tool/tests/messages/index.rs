@@ -11,6 +11,7 @@ use crate::generate::rows::{spelled, table};
 use crate::generate::Random;
 use crate::model::{self, converter};
 use crate::report::{self, Report, Stream};
+use crate::window::Window;
 
 const SHORT: &[u8] = b"<FIELD name='sky' datatype='short'/>";
 
@@ -65,16 +66,16 @@ fn a_row_begins_where_the_rows_before_it_end() {
         let before = random.bytes(5);
         let input = [before, spelled(&mut random, &columns, from, &rows)].concat();
         let shown = sailmortar::columns(&text).expect("the fields are good");
-        let night = OsStr::new("night");
+        let (night, window) = (OsStr::new("night"), Window::whole(&input));
         let stream =
-            Stream { input_name: night, columns: &shown, from: way, to: Rows::TableData, decoded: false, is_second: false, input: &input };
+            Stream { input_name: night, columns: &shown, from: way, to: Rows::TableData, decoded: false, is_second: false, window };
         let mut start = 5;
         for row in 0..6 {
             assert_eq!(row_start(&stream, 5, row), start, "seed {seed}, row {row}");
             start = end_of_row(&columns, from, &input, start);
         }
         // A stream that is cut has no row there, and no more is said than is known.
-        assert_eq!(row_start(&Stream { input: &input[..5], ..stream }, 5, 3), 5);
+        assert_eq!(row_start(&Stream { window: Window::whole(&input[..5]), ..stream }, 5, 3), 5);
     }
 }
 
@@ -94,9 +95,8 @@ fn a_row_without_a_form_is_told_as_convert_tells_it() {
     let index = Index::build(fields, Rows::Binary2, &rows).expect("the rows read");
     let mut fetched = index.fetch_into(fields, &rows, 1, &mut [0; 64]).expect_err("a character has no form");
     let columns = sailmortar::columns(fields).expect("the fields are good");
-    let night = OsStr::new("night");
-    let stream =
-        Stream { input_name: night, columns: &columns, from: way.from, to: way.to, decoded: false, is_second: false, input: &rows };
+    let (night, window) = (OsStr::new("night"), Window::whole(&rows));
+    let stream = Stream { input_name: night, columns: &columns, from: way.from, to: way.to, decoded: false, is_second: false, window };
     fetched.offset = row_start(&stream, 0, fetched.row);
     assert_eq!(super::said::of_refused(fields, way, &rows, &fetched).lines, whole.lines);
 }

@@ -8,6 +8,7 @@ use super::said::{of_rows, refused, Way, STANDS};
 use crate::generate::Random;
 use crate::report::{self, Stream, Value};
 use crate::shown::ordinal;
+use crate::window::Window;
 
 const FIELDS: &str = concat!(
     "<FIELD name='sky' datatype='short'><VALUES null='-99'/></FIELD>\n",
@@ -381,7 +382,15 @@ fn places_in_decoded_bytes_are_said_to_be_such() {
     let columns = columns(FIELDS.as_bytes()).expect("the fields are good");
     let refused = refused(FIELDS.as_bytes(), BINARY2, TWO).expect("the second row is cut");
     let (from, to) = (Rows::Binary2, Rows::TableData);
-    let stream = Stream { input_name: OsStr::new("night"), columns: &columns, from, to, decoded: true, is_second: false, input: TWO };
+    let stream = Stream {
+        input_name: OsStr::new("night"),
+        columns: &columns,
+        from,
+        to,
+        decoded: true,
+        is_second: false,
+        window: Window::whole(TWO),
+    };
     let spot = "row 1 begins at byte 8, column 1 at byte 11 of the decoded stream";
     let line = format!("rows and columns count from 0; {spot}; 'sailmortar explain 8' says more");
     assert_eq!(report::row(&stream, &refused, STANDS).lines[2], line);

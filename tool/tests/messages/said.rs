@@ -5,6 +5,7 @@ use std::ffi::OsStr;
 use sailmortar::{base64_decode, convert_to_vec, declare, Error, Refused, Rows};
 
 use crate::report::{self, Report, Stream, Value};
+use crate::window::Window;
 
 /// What the caller of a report says of the rows that stand.
 pub const STANDS: &str = "the rows before it stand";
@@ -31,9 +32,14 @@ pub fn of_rows(fields: &str, way: Way, input: &[u8]) -> Report {
 }
 
 /// What is said of a refusal, be it of these rows or of others.
-pub fn of_refused(fields: &[u8], Way { from, to }: Way, input: &[u8], refused: &Refused) -> Report {
+pub fn of_refused(fields: &[u8], way: Way, input: &[u8], refused: &Refused) -> Report {
+    of_seen(fields, way, Window::whole(input), refused)
+}
+
+/// The same where so much is seen of the rows.
+pub fn of_seen(fields: &[u8], Way { from, to }: Way, window: Window, refused: &Refused) -> Report {
     let columns = sailmortar::columns(fields).expect("the fields are good");
-    let stream = Stream { input_name: OsStr::new("night"), columns: &columns, from, to, decoded: false, is_second: false, input };
+    let stream = Stream { input_name: OsStr::new("night"), columns: &columns, from, to, decoded: false, is_second: false, window };
     report::row(&stream, refused, STANDS)
 }
 
