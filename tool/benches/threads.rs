@@ -13,6 +13,7 @@ mod measure;
 mod table;
 
 use std::num::NonZero;
+use std::process::Command;
 use std::thread::available_parallelism;
 
 use measure::{best_of, form, mega, memory_of, processor, EVERY_KIND, RUNS};
@@ -26,6 +27,9 @@ fn main() {
     let megabytes = std::env::var("SAILMORTAR_BENCH_MB").ok();
     let megabytes: f64 = megabytes.map_or(100.0, |value| value.parse().expect("SAILMORTAR_BENCH_MB: a number of megabytes"));
     let night = table::night((megabytes * 1e6) as usize);
+    if let Ok(way) = std::env::var(WAY) {
+        return memory_of_way(&night, &way);
+    }
     let threads = available_parallelism().map_or(1, NonZero::get);
     println!(
         "A night of {} rows and 20 columns. Processor: {}, {threads} cores; the best of {RUNS} runs or more, which take turns;",
@@ -33,10 +37,9 @@ fn main() {
         processor()
     );
     println!("MB are 10^6 bytes of input.\n");
-    let memory = memory(&night);
     nine_ways(&night, threads);
     sizes(threads);
-    println!("{memory}");
+    memory();
 }
 
 /// Seconds of one call, of a plan on one thread, and of one on all cores.
@@ -98,22 +101,30 @@ fn sizes(threads: usize) {
     println!();
 }
 
-/// What a plan takes for itself on all cores, where its sink throws away what it is handed.
-fn memory(night: &Night) -> String {
-    let mut lines = vec![
-        "| from | to | lent MB (input) | process before MB | peak in the call MB | the plan's own MB |".to_string(),
-        "|---|---|--:|--:|--:|--:|".to_string(),
-    ];
+/// What a plan takes for itself on all cores, where its sink throws away what it is handed: each way in a process of its own, since memory that one has
+/// given back is at hand for the next.
+fn memory() {
+    println!("| from | to | lent MB (input) | process before MB | peak in the call MB | the plan's own MB |");
+    println!("|---|---|--:|--:|--:|--:|");
     for from in EVERY_KIND {
         for to in EVERY_KIND {
-            let input = form(night, from);
-            let figures = memory_of(input.len(), || {
-                let plan = Plan::new().length(input.len() as u64);
-                let done = plan.convert(&night.declarations, from, to, input, std::io::sink());
-                assert_eq!(done.expect("the night is good").rows, night.rows as u64);
-            });
-            lines.push(format!("| {from} | {to} | {figures} |"));
+            let mut process = Command::new(std::env::current_exe().expect("this program"));
+            let output = process.env(WAY, format!("{from} {to}")).output().expect("it runs");
+            println!("| {from} | {to} | {} |", String::from_utf8_lossy(&output.stdout).trim());
         }
     }
-    lines.join("\n")
+}
+
+/// Names a way to a process of its own.
+const WAY: &str = "SAILMORTAR_BENCH_WAY";
+
+fn memory_of_way(night: &Night, way: &str) {
+    let (from, to) = way.split_once(' ').and_then(|(from, to)| Some((Rows::named(from)?, Rows::named(to)?))).expect("a way");
+    let input = form(night, from);
+    let figures = memory_of(input.len(), || {
+        let plan = Plan::new().length(input.len() as u64);
+        let done = plan.convert(&night.declarations, from, to, input, std::io::sink());
+        assert_eq!(done.expect("the night is good").rows, night.rows as u64);
+    });
+    println!("{figures}");
 }
