@@ -58,6 +58,7 @@ pub use index::{Index, Indexed, Stopped, ROWS_PER_START};
 pub use index_file::Misfit;
 pub use indexed_rows::IndexedRows;
 pub use numbers::{meaning, Number, NUMBERS};
+pub use parts::LONGEST_ROW;
 pub use pieces::{convert_pieces, convert_to_vec, Piece};
 pub use plan::Plan;
 pub use proved::{base64_decode, base64_encode, compare, convert, declare, fetch, index};

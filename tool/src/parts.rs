@@ -7,7 +7,7 @@ use crate::cuts::Cuts;
 use crate::indexed_rows::zeros;
 use crate::Error;
 
-/// Without a bound on the input, a row is judged by so many bytes where they do not hold all of it.
+/// Without a bound on the input ([`Plan::long`](crate::Plan::long)), a row is judged by so many bytes where they do not hold all of it.
 pub const LONGEST_ROW: usize = 64 << 20;
 
 /// A reader that gives less than a part in this time is slow: what it gave is converted and written before it is asked for more.

@@ -8,7 +8,7 @@ use std::num::NonZeroUsize;
 use std::os::unix::fs::FileExt;
 use std::thread::available_parallelism;
 
-use sailmortar::{Done, Error, Piece, Plan, Refused, Rows};
+use sailmortar::{Done, Error, Piece, Plan, Refused, Rows, LONGEST_ROW};
 
 use crate::arguments::{Table, Working};
 use crate::base64::read_rows;
@@ -17,7 +17,7 @@ use crate::output::Output;
 use crate::progress::Progress;
 use crate::report;
 use crate::text::count;
-use crate::window::{Window, LONGEST_ROW};
+use crate::window::Window;
 use crate::End;
 
 /// Bytes that are kept of the start of an input that is not kept whole. Hints look at fewer, behind white space.

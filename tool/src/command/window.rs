@@ -2,9 +2,6 @@
 
 use crate::text::count;
 
-/// With `--long` a row is judged by so many bytes where they do not hold all of it.
-pub const LONGEST_ROW: usize = 64 << 20;
-
 #[derive(Clone, Copy)]
 pub struct Window<'a> {
     /// The first bytes of the input, by which hints tell what it is.
