@@ -3,8 +3,8 @@
 //!     cargo bench --bench threads                                  # a night of 100 MB of text, on all cores
 //!     SAILMORTAR_BENCH_MB=20 cargo bench --bench threads           # a shorter one
 //!
-//! One call goes from a slice to room that is there. A plan reads from a slice, which is copied, while it converts, and its sink copies what it is handed
-//! to room that is there. So all three have the same input and leave the same output, and a plan has two copies more to make.
+//! One call goes from a slice to room that is there. A plan reads from a slice, which is copied, while it converts, and its sink copies what it is
+//! handed to room that is there. So all have the same input and leave the same output, and a plan has two copies more to make.
 
 // The other benches use more of what is shared.
 #[allow(dead_code)]

@@ -85,8 +85,8 @@ impl Plan {
 
     /// The input may be of any length: none is refused for its size, and it is converted while it is read.
     ///
-    /// So that memory stays bounded, a row of TABLEDATA that is not whole within 64 MiB is judged by those, and refused (10), though it might end well
-    /// behind them; and where so much white space stands before a refused row, its offset is behind that. All else is as in one call.
+    /// So that memory stays bounded, a row of TABLEDATA that is not whole within 64 MiB is judged by those, and refused (10), though it might end
+    /// well behind them; and where so much white space stands before a refused row, its offset is behind that. All else is as in one call.
     pub fn long(mut self) -> Plan {
         self.long = true;
         self
@@ -105,8 +105,8 @@ impl Plan {
     /// Converts from a reader, and hands the output to `sink` in pieces, whole rows each. An error of `sink` ends the conversion, and is the answer.
     ///
     /// Where a row is refused, or `sink` fails, `left` gets what was read of the input and not converted, from where the rows end that were handed
-    /// on: so it is, with what the reader still has, the rest of the input. Else it is empty. Where the reader fails, that is the answer, whatever rows
-    /// were handed on by then.
+    /// on: so it is, with what the reader still has, the rest of the input. Else it is empty. Where the reader fails, that is the answer, whatever
+    /// rows were handed on by then.
     pub fn convert_pieces(
         &self,
         decls: &[u8],
