@@ -22,9 +22,14 @@ pub fn best(mut run: impl FnMut()) -> f64 {
 }
 
 /// The least times of several that take turns, so that a slow spell of the machine falls on all of them.
-pub fn best_of<const N: usize>(mut turns: [&mut dyn FnMut(); N]) -> [f64; N] {
+pub fn best_of<const N: usize>(turns: [&mut dyn FnMut(); N]) -> [f64; N] {
+    best_of_runs(RUNS, turns)
+}
+
+/// The same of so many runs at least: what needs several cores at once finds them free less often.
+pub fn best_of_runs<const N: usize>(least_runs: usize, mut turns: [&mut dyn FnMut(); N]) -> [f64; N] {
     let (mut least, mut all, mut runs) = ([f64::INFINITY; N], 0.0, 0);
-    while runs < RUNS || all < SECONDS {
+    while runs < least_runs || all < SECONDS {
         for (turn, least) in turns.iter_mut().zip(&mut least) {
             let start = Instant::now();
             turn();

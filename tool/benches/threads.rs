@@ -16,9 +16,12 @@ use std::num::NonZero;
 use std::process::Command;
 use std::thread::available_parallelism;
 
-use measure::{best_of, form, mega, memory_of, processor, EVERY_KIND, RUNS};
+use measure::{best_of_runs, form, mega, memory_of, processor, EVERY_KIND};
 use sailmortar::{Plan, Rows};
 use table::Night;
+
+/// Each figure is the best of at least so many runs.
+const RUNS: usize = 9;
 
 /// Sizes of text, in thousand bytes.
 const SIZES: [usize; 6] = [30, 100, 300, 1_000, 3_000, 10_000];
@@ -46,14 +49,17 @@ fn main() {
 fn seconds(night: &Night, from: Rows, to: Rows) -> [f64; 3] {
     let (input, expected) = (form(night, from), form(night, to));
     let [mut out, mut out_of_one, mut out_of_all] = [(); 3].map(|()| vec![0xff; expected.len()]);
-    let seconds = best_of([
-        &mut || {
-            let done = sailmortar::convert(&night.declarations, from, to, input, &mut out);
-            assert_eq!(done.map(|done| done.rows), Ok(night.rows as u64));
-        },
-        &mut || by_plan(Plan::new().threads(1), night, from, to, &mut out_of_one),
-        &mut || by_plan(Plan::new(), night, from, to, &mut out_of_all),
-    ]);
+    let seconds = best_of_runs(
+        RUNS,
+        [
+            &mut || {
+                let done = sailmortar::convert(&night.declarations, from, to, input, &mut out);
+                assert_eq!(done.map(|done| done.rows), Ok(night.rows as u64));
+            },
+            &mut || by_plan(Plan::new().threads(1), night, from, to, &mut out_of_one),
+            &mut || by_plan(Plan::new(), night, from, to, &mut out_of_all),
+        ],
+    );
     assert!([out, out_of_one, out_of_all].iter().all(|out| out == expected), "{from} to {to}");
     seconds
 }
