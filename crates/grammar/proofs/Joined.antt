@@ -18,7 +18,7 @@ use Rattle.fields.specs.Front.{front}
 use Rattle.grammar.proofs.PartJoined.{gone-on, rows-short, whole-ends}
 use Rattle.grammar.proofs.Pieces.{piece-place}
 use Rattle.grammar.proofs.Staying.{Numbered, followed-nothing, followed-rows, row-within, run-numbered}
-use Rattle.grammar.specs.Parts.{Nothing, OneCall, PartOf, PartsOf, SoFar, answerIn, convertLong, firstOf, no-parts, part-then}
+use Rattle.grammar.specs.Parts.{NothingDone, OneCall, PartOf, PartsOf, SoFar, answerIn, convertLong, firstOf, no-parts, part-then}
 use Rattle.parts.proofs.Laws.{Counted, all-counted, all-used, is-used, join-ended, join-none, join-unused, join-used, joined-final, joined-not-final, last-final, no-end, other-final, parts-more}
 use Rattle.parts.specs.Join.{endedWith, goneOn, isFinal, isUsed, join, mostCount, nothing}
 use Rattle.parts.specs.declared.Joined.{Joined}
@@ -115,10 +115,10 @@ module _ (decls : List ℕ) (from to : Rows) (input : List ℕ) (room size : ℕ
 
   record Refusing (e : Refusal) (j : Joined) (w : List ℕ) : Type 0 where
     either : (j .ended ≡ 0) ⊎ (j .ended ≡ 1)
-    nothing-done : j .ended ≡ 0 → Nothing j w
+    nothing-done : j .ended ≡ 0 → NothingDone j w
     whole : j .ended ≡ 1 → (answerOf (refused e 0 []) ≡ answerIn j) × (w ≡ [])
 
-  stays-refusing : (e : Refusal) (j : Joined) (w : List ℕ) (ws : List (List ℕ)) → j .ended ≡ 0 → Nothing j w
+  stays-refusing : (e : Refusal) (j : Joined) (w : List ℕ) (ws : List (List ℕ)) → j .ended ≡ 0 → NothingDone j w
       → Refusing e j (w ++ firstOf (j .parts - j .parts) ws)
   stays-refusing e j w ws z none =
       rw (first-none (j .parts) ws, append-nil w) (record { either = inl z; nothing-done = λ _. none; whole = λ y. absurd (omega (arith, z, y)) })
@@ -146,7 +146,7 @@ module _ (decls : List ℕ) (from to : Rows) (input : List ℕ) (room size : ℕ
       (part .answers ∙ ap (λ (x : Call). x .answer) c, part .writes ∙ ap output c ∙ output-of (refused e 0 []) (part .buffer))
 
   joined-refusing : (e : Refusal) → declare decls ≡ bad e → AtPlace e → {ps : List Part} {ws : List (List ℕ)} → PartsOf decls from to input ps ws → (j : Joined) (w : List ℕ)
-      → j .ended ≡ 0 → Nothing j w → Refusing e (join size room j ps) (w ++ firstOf (join size room j ps .parts - j .parts) ws)
+      → j .ended ≡ 0 → NothingDone j w → Refusing e (join size room j ps) (w ++ firstOf (join size room j ps .parts - j .parts) ws)
   joined-refusing e d h no-parts j w z none = rw (join-none size room j) (stays-refusing e j w [] z none)
   joined-refusing e d h (part-then {p = p} {w = v} {ps = ps} {ws = ws} part parts) j w z none = go (isUsed room j p) refl
     where
@@ -196,15 +196,15 @@ module _ (decls : List ℕ) (from to : Rows) (input : List ℕ) (room size : ℕ
           record {
             either = u .either;
             so-far = λ y ds c. joined-under ds c parts j w z (one .so-far z ds c) .so-far y;
-            nothing = λ y e c. absurd (bad-good (sym c ∙ d));
+            nothing-done = λ y e c. absurd (bad-good (sym c ∙ d));
             whole = λ y out l. long-good j w cs d out l ∙ is-whole _ _ _ (u .whole y) out;
           }
       go (inl z) (bad e) d (fails h) =
-          let u : Refusing e _ _ = joined-refusing e d h parts j w z (one .nothing z e d) in
+          let u : Refusing e _ _ = joined-refusing e d h parts j w z (one .nothing-done z e d) in
           record {
             either = u .either;
             so-far = λ y cs c. absurd (bad-good (sym d ∙ c));
-            nothing = λ y x c. u .nothing-done y;
+            nothing-done = λ y x c. u .nothing-done y;
             whole = λ y out l. long-bad j w e d out ∙ is-whole _ _ _ (u .whole y .0, nothing-written e _ (u .whole y .1)) out;
           }
 
@@ -219,7 +219,7 @@ module _ (decls : List ℕ) (from to : Rows) (input : List ℕ) (room size : ℕ
       fits = zero-le;
       goes-on = ap (λ (n : ℕ). run from to cs n input) all-room ∙ sym (followed-nothing (run from to cs (room - 0) input));
     };
-    nothing = λ _ e d. record { no-rows = refl; no-bytes = refl; at-the-start = refl; not-written = refl };
+    nothing-done = λ _ e d. record { no-rows = refl; no-bytes = refl; at-the-start = refl; not-written = refl };
     whole = λ y. absurd (omega (arith, y));
   }
     where
@@ -284,7 +284,7 @@ module _ (decls : List ℕ) (from to : Rows) (input : List ℕ) (room size : ℕ
           let place : j .place + p .place ≤ length input = unfold goneOn in on .inside in
           record { place = omega (arith, place, long); rows = omega (arith, rows, long); row = omega (arith, rows, long, row-of p v part); parts = few }
       go (bad e) d =
-          let none = one .nothing z e d in
+          let none = one .nothing-done z e d in
           let told = refused-part e d p v part .0 in
           let row : p .row ≡ 0 = unfold answerOf in ap (λ (a : Answer). a .row) told in
           let rows : p .rows ≡ 0 = unfold answerOf in ap (λ (a : Answer). a .rows) told in
@@ -302,7 +302,7 @@ module _ (decls : List ℕ) (from to : Rows) (input : List ℕ) (room size : ℕ
     where
       go : (r : Result Refusal (List Column)) → declare decls ≡ r → j .bytes ≤ room
       go (good cs) d = one .so-far z cs d .fits
-      go (bad e) d = omega (arith, one .nothing z e d .no-bytes)
+      go (bad e) d = omega (arith, one .nothing-done z e d .no-bytes)
 
   -- THE LAST PART, of all that is left in the room that is left, ends it: with it any cuts, good or silly, give the outcome of one call
   pub last-part-ends : (j : Joined) (w : List ℕ) → OneCall decls from to input room j w → j .ended ≡ 0 → (p : Part) (v : List ℕ) → PartOf decls from to input p v

@@ -59,7 +59,7 @@ pub record SoFar (cs : List Column) (from to : Rows) (input : List ℕ) (room : 
   pub goes-on : run from to cs room input ≡ followedBy (accepted (j .rows) w) (run from to cs (room - j .bytes) (drop (j .place) input))
 
 -- no row is done
-pub record Nothing (j : Joined) (w : List ℕ) : Type 0 where
+pub record NothingDone (j : Joined) (w : List ℕ) : Type 0 where
   pub no-rows : j .rows ≡ 0
   pub no-bytes : j .bytes ≡ 0
   pub at-the-start : j .place ≡ 0
@@ -70,6 +70,6 @@ pub record OneCall (decls : List ℕ) (from to : Rows) (input : List ℕ) (room 
   pub either : (j .ended ≡ 0) ⊎ (j .ended ≡ 1)
   pub so-far : j .ended ≡ 0 → (cs : List Column) → declare decls ≡ good cs → SoFar cs from to input room j w
   -- under declarations that are refused nothing is done
-  pub nothing : j .ended ≡ 0 → (e : Refusal) → declare decls ≡ bad e → Nothing j w
+  pub nothing-done : j .ended ≡ 0 → (e : Refusal) → declare decls ≡ bad e → NothingDone j w
   pub whole : j .ended ≡ 1 → (out : List ℕ) → length out ≡ room
       → convertLong decls from to input out ≡ record { answer = answerIn j; buffer = w ++ drop (length w) out }

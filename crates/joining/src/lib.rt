@@ -6,7 +6,7 @@ ghost use mathlib.Core.Bool.{cond, true};
 ghost use Prim.Native.Nat.{_+_, _≤_};
 ghost use lib.Dec.{eqb, leb};
 ghost use lib.ListN.{length};
-ghost use Rattle.parts.specs.Join.{isCounted, isFinal, isUsed, join, joinedWith, partAt, partsOf};
+ghost use Rattle.parts.specs.Join.{isCounted, isFinal, isUsed, join, joinedWith, firstPart, partsOf};
 
 const MOST_INPUT: u64 = 1_073_741_824;
 
@@ -137,9 +137,9 @@ fn joined_with(length: u64, room: u64, j: Joined, p: Part) -> Joined
 // ---- parts as numbers
 
 // The part at the front.
-fn part_of(s: &[u64]) -> Part
+fn first_part(s: &[u64]) -> Part
     requires { ⌜ 9 ≤ length (now s) ⌝ }
-    ensures { λ r. ⌜ r ≡ partAt (now (s .entry)) ⌝ }
+    ensures { λ r. ⌜ r ≡ firstPart (now (s .entry)) ⌝ }
 {
     Part {
         start: s[0],
@@ -163,7 +163,7 @@ pub fn join(length: u64, room: u64, parts: &[u64], joined: Joined) -> Joined
     let mut i: usize = 0;
     while i < count {
         let at = i * NUMBERS;
-        let p = part_of(&parts[at..]);
+        let p = first_part(&parts[at..]);
         if !is_used(room, j, p) {
             return j;
         }

@@ -9,7 +9,7 @@ use lib.Dec.{eqb, leb}
 use lib.ListN.{drop}
 use lib.Seq.{drop-drop}
 use borrow.Author.Tests.{eq-eqb, eqb-false, eqb-true, le-leb, leb-true, ne-eqb}
-use Rattle.parts.specs.Join.{atItsEnd, endedWith, goneOn, isCounted, isFinal, isUsed, join, joinedWith, mostCount, partAt, partsIn}
+use Rattle.parts.specs.Join.{atItsEnd, endedWith, goneOn, isCounted, isFinal, isUsed, join, joinedWith, mostCount, firstPart, partsIn}
 use Rattle.parts.specs.declared.Joined.{Joined}
 use Rattle.parts.specs.declared.Part.{Part}
 use Rattle.table.proofs.Laws.{and-both}
@@ -127,7 +127,7 @@ module _ (length room : ℕ) (j : Joined) (p : Part) (ps : List Part) where
 
 -- the parts from the i-th on are that one and those behind it
 pub parts-next : (count i : ℕ) (s : List ℕ) → i < count
-    → partsIn (count - i) (drop (i * 9) s) ≡ partAt (drop (i * 9) s) ∷ partsIn (count - (i + 1)) (drop ((i + 1) * 9) s)
+    → partsIn (count - i) (drop (i * 9) s) ≡ firstPart (drop (i * 9) s) ∷ partsIn (count - (i + 1)) (drop ((i + 1) * 9) s)
 unfolding partsIn
 parts-next count i s h =
     let left : count - i ≡ suc (count - (i + 1)) = omega (arith, h) in
@@ -152,7 +152,7 @@ module _ (length room : ℕ) (first j : Joined) (count i : ℕ) (s : List ℕ)
   pub joined-all : count ≤ i → join length room first (partsIn count s) ≡ j
   joined-all h = so-far ∙ ap (join length room j) (parts-end count i (drop (i * 9) s) h) ∙ join-none length room j
 
-  module _ (inside : i < count) (p : Part) (it : p ≡ partAt (drop (i * 9) s)) where
+  module _ (inside : i < count) (p : Part) (it : p ≡ firstPart (drop (i * 9) s)) where
     next : join length room first (partsIn count s) ≡ join length room j (p ∷ partsIn (count - (i + 1)) (drop ((i + 1) * 9) s))
     next = so-far ∙ ap (join length room j) (parts-next count i s inside ∙ ap (λ (q : Part). q ∷ partsIn (count - (i + 1)) (drop ((i + 1) * 9) s)) (sym it))
 

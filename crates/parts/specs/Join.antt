@@ -78,8 +78,8 @@ nothing = record { number = 0; row = 0; column = 0; rows = 0; bytes = 0; place =
 
 -- ---- parts as numbers, nine for each
 
-unfoldable pub partAt : List ℕ → Part
-partAt s = record {
+unfoldable pub firstPart : List ℕ → Part
+firstPart s = record {
   start = getD s 0 0;
   length = getD s 1 0;
   room = getD s 2 0;
@@ -93,7 +93,7 @@ partAt s = record {
 
 unfoldable pub partsIn : ℕ → List ℕ → List Part
 partsIn zero s = []
-partsIn (suc n) s = partAt s ∷ partsIn n (drop 9 s)
+partsIn (suc n) s = firstPart s ∷ partsIn n (drop 9 s)
 
 -- numbers behind the last whole nine are not looked at
 unfoldable pub partsOf : List ℕ → List Part

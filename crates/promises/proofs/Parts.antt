@@ -15,7 +15,7 @@ use Rattle.grammar.proofs.Joined.{accepted-place, joined-parts, joins-on, last-
 use Rattle.grammar.specs.Exact.{InGrammar}
 use Rattle.grammar.specs.Parts.{OneCall, PartOf, answerIn, firstOf, no-parts, part-then}
 use Rattle.parts.proofs.Laws.{join-ended, join-none, join-used, joined-final, joined-not-final}
-use Rattle.parts.specs.Join.{endedWith, goneOn, isFinal, isUsed, join, joinedWith, mostCount, nothing, partAt, partsIn, partsOf}
+use Rattle.parts.specs.Join.{endedWith, goneOn, isFinal, isUsed, join, joinedWith, mostCount, nothing, firstPart, partsIn, partsOf}
 use Rattle.parts.specs.declared.Joined.{Joined}
 use Rattle.parts.specs.declared.Part.{Part}
 use Rattle.promises.proofs.Laws.{Faces, is-convert}
@@ -47,7 +47,7 @@ partOf start size room answer = record {
 
 joined-numbers : (size room : ℕ) (a b c : ℕ) (first : List ℕ) (d e f : ℕ) (second : List ℕ)
     → joinFace size room (partNumbers a b c first ++ partNumbers d e f second) zeros ≡ joinedNumbers (join size room nothing (partOf a b c first ∷ partOf d e f second ∷ []))
-unfolding joinFace joinedOf partsOf partsIn partAt nothing
+unfolding joinFace joinedOf partsOf partsIn firstPart nothing
 joined-numbers size room a b c first d e f second = refl
 
 -- a call of the face on a part, as the definitions speak of one

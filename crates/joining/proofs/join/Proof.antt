@@ -8,7 +8,7 @@ use borrow.Author.Needs.{needs}
 use borrow.Author.Tests.{not-false, not-true}
 use borrow.Rule.Slice.PartAt.{part-to-end}
 use Rattle.parts.proofs.Laws.{is-used, joined-all, joined-no-further, joined-one-more, parts-first}
-use Rattle.parts.specs.Join.{join, partAt, partsIn, partsOf}
+use Rattle.parts.specs.Join.{join, firstPart, partsIn, partsOf}
 use Rattle.joining.proofs.join.Statement.{statement}
 use Rattle.joining.proofs.join.Tie as tie
 
@@ -23,11 +23,11 @@ loop-holds : tie.Need-loop-holds Inv-loop μ-loop
 loop-holds c = (omega arith, ap (join _ _ _) (parts-first _ _))
 
 -- the part that is looked at
-the-part : (c : tie.After-part-of Inv-loop μ-loop)
-    → c .part-of .result ≡ partAt (drop (c .before .before .before .loop .i * 9) (now (c .before .before .before .before .before .args .parts)))
+the-part : (c : tie.After-first-part Inv-loop μ-loop)
+    → c .first-part .result ≡ firstPart (drop (c .before .before .before .loop .i * 9) (now (c .before .before .before .before .before .args .parts)))
 the-part c =
     let l = c .before .before .before in
-    c .part-of .ensures ∙ ap partAt (part-to-end (now (l .before .before .args .parts)) (l .loop .i * 9))
+    c .first-part .ensures ∙ ap firstPart (part-to-end (now (l .before .before .args .parts)) (l .loop .i * 9))
 
 returns : tie.Need-returns Inv-loop μ-loop
 unfolding partsOf

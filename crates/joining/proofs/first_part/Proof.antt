@@ -1,16 +1,16 @@
--- joining::part_of: nine numbers in their order.
+-- joining::first_part: nine numbers in their order.
 use mathlib.Core.Path.{refl}
 use borrow.Author.Needs.{needs}
-use Rattle.parts.specs.Join.{partAt}
-use Rattle.joining.proofs.part_of.Statement.{statement}
-use Rattle.joining.proofs.part_of.Tie as tie
+use Rattle.parts.specs.Join.{firstPart}
+use Rattle.joining.proofs.first_part.Statement.{statement}
+use Rattle.joining.proofs.first_part.Tie as tie
 
 returns : tie.Need-returns
-unfolding partAt
+unfolding firstPart
 returns c = refl
 
-pub part-of-spec : {M : Type 1} → statement M
-part-of-spec =
+pub first-part-spec : {M : Type 1} → statement M
+first-part-spec =
     tie.close
     (tie.spec
     (λ c. search needs)
