@@ -69,8 +69,8 @@ impl Plan {
         self
     }
 
-    /// Cuts the input at such places, where rows begin, instead of guessing; behind the last of them it guesses. Places that are wrong cost
-    /// time, and change nothing.
+    /// Cuts the input at such places, where rows begin, instead of guessing, as [`Index::starts`](crate::Index::starts) has them; behind the last of
+    /// them it guesses. Places that are wrong cost time, and change nothing.
     pub fn cuts(mut self, places: impl Into<Vec<u64>>) -> Plan {
         self.cuts = places.into();
         self.cuts.sort_unstable();

@@ -2,7 +2,7 @@
 
 use super::one_call::{seeds, ways, Night, Steps};
 use crate::generate::Random;
-use sailmortar::{Plan, Rows};
+use sailmortar::{Index, Plan, Rows};
 
 const THREADS: [usize; 4] = [1, 2, 3, 8];
 
@@ -143,6 +143,17 @@ fn parts_end_where_they_are_said_to() {
     let plan = Plan::new().threads(3).part(45).cuts((0..100).step_by(10).map(|place| 2 * place).collect::<Vec<u64>>());
     assert_eq!(ends_of_pieces(&plan, &night), [40, 80, 120, 160, 200]);
     assert_eq!(ends_of_pieces(&plan.part(1).cuts([150, 70, 4]), &night)[..3], [4, 70, 150]);
+}
+
+/// An index tells where every 64th row begins.
+#[test]
+fn an_index_tells_where_to_cut() {
+    let night = Night::new("<FIELD datatype='char' arraysize='*'/>", Rows::Binary, b"\0\0\0\x01a".repeat(1_000));
+    let index = Index::build(&night.declarations, night.from, &night.input).expect("it is good");
+    let starts: Vec<u64> = index.starts().iter().map(|start| u64::from(*start)).collect();
+    let ends = ends_of_pieces(&Plan::new().threads(2).part(400).cuts(starts), &night);
+    let expected: Vec<usize> = (1..16).map(|starts| starts * 64 * 5).chain([5_000]).collect();
+    assert_eq!(ends, expected);
 }
 
 /// Where a part that begins at `start` is to end by guess: with the last row that is whole in so many bytes, or in twice as many.
