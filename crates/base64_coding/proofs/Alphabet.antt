@@ -1,48 +1,54 @@
--- The code's tests on a byte against the definitions: computed over all bytes, or by the ranges that they decide.
+-- Letters and their values: the table's rule, by one computed test over the whole table; what a value says of a character; and the letters of
+-- values, by the ranges that the code decides.
 use Prim.Native.Nat.{_+_, _-_, _<_, _≤_, ℕ}
 use native.Mathlib.Omega.{arith}
-use mathlib.Core.Bool.{cond, false}
+use mathlib.Core.Bool.{false, true}
+use mathlib.Core.List.{List}
 use mathlib.Core.Path.{_∙_, _≡_, ap, refl, sym}
 use lib.Dec.{eqb}
+use lib.ListN.{getD}
 use borrow.Author.Tests.{eqb-true, le-ltb, lt-ltb}
 use Rattle.base64.proofs.Laws.{LetterOf, Only, letter-not-pad, letter-not-white, only, sextet-7, sextet-is}
 use Rattle.base64.specs.Base64.{isPad, letter, sextet}
-use Rattle.base64_coding.specs.Contracts.{letterValue, valueOr64}
-use Rattle.table.proofs.Laws.{each-below, holds-at}
-use Rattle.table.specs.Bytes.{between, isWhite}
-use Rattle.table.specs.Outcome.{at}
+use Rattle.base64_coding.specs.Contracts.{TableIs, letterValue, valueOrNone}
+use Rattle.table.proofs.Laws.{allBelow, each-below, holds-at}
+use Rattle.table.specs.Bytes.{isWhite}
 use Rattle.table.specs.Result.{Holds, Result, bad, good, holds}
 
--- the value of a byte, as the code finds it: range after range, the last that it stands in
-abbrev pub ranges : ℕ → ℕ
-ranges c =
-    cond (between 47 47 c) (c - 47 + 63)
-    (cond (between 43 43 c) (c - 43 + 62)
-    (cond (between 48 57 c) (c - 48 + 52) (cond (between 97 122 c) (c - 97 + 26) (cond (between 65 90 c) (c - 65 + 0) 64))))
+-- ---- the table
 
-pub value-ranges : (c : ℕ) → c < 256 → ranges c ≡ letterValue c
-unfolding letterValue sextet between
-value-ranges c h = eqb-true _ _ (each-below (λ (b : ℕ). eqb (ranges b) (letterValue b)) 256 refl c h)
+-- THE TABLE'S RULE, at each entry, from one test over the whole table
+pub table-is : (values : List ℕ) → allBelow (λ (c : ℕ). eqb (getD values c 0) (letterValue c)) 128 ≡ true → TableIs values
+unfolding TableIs
+table-is values h c k = eqb-true _ _ (each-below (λ (b : ℕ). eqb (getD values b 0) (letterValue b)) 128 h c k)
 
 -- ---- a byte's value says whether it is a letter
 
 abbrev Said : ℕ → Result ℕ ℕ → Type 0
-Said c r = (valueOr64 r < 64 → r ≡ good (valueOr64 r)) × (64 ≤ valueOr64 r → r ≡ bad 7)
+Said c r = (valueOrNone r ≤ 16777216) × (valueOrNone r < 16777216 → valueOrNone r < 64) × (valueOrNone r < 64 → r ≡ good (valueOrNone r)) × (64 ≤ valueOrNone r → r ≡ bad 7)
 
 said : (c : ℕ) → Said c (sextet c)
 said c = go (sextet c) (sextet-is c) (sextet-7 c)
   where
     go : (r : Result ℕ ℕ) → Holds (LetterOf c) r → Only 7 r → Said c r
-    go (good v) (holds h) o = (λ _. refl, λ k. let l = h .small in absurd (omega arith))
-    go (bad n) h only = (λ k. absurd (omega arith), λ _. refl)
+    go (good v) (holds h) o = (let l = h .small in omega arith, λ _. h .small, λ _. refl, λ k. let l = h .small in absurd (omega arith))
+    go (bad n) h only = (omega arith, λ k. absurd (omega arith), λ k. absurd (omega arith), λ _. refl)
+
+pub none-or-small : (c : ℕ) → letterValue c < 16777216 → letterValue c < 64
+unfolding letterValue
+none-or-small c = said c .1
+
+pub value-most : (c v : ℕ) → v ≡ letterValue c → v ≤ 16777216
+unfolding letterValue
+value-most c v e = let h = said c .0 in omega arith
 
 pub is-letter : (c v : ℕ) → v ≡ letterValue c → v < 64 → sextet c ≡ good v
 unfolding letterValue
-is-letter c v e h = said c .0 (omega arith) ∙ ap good (sym e)
+is-letter c v e h = said c .2 (omega arith) ∙ ap good (sym e)
 
 pub no-letter : (c v : ℕ) → v ≡ letterValue c → 64 ≤ v → sextet c ≡ bad 7
 unfolding letterValue
-no-letter c v e h = said c .1 (omega arith)
+no-letter c v e h = said c .3 (omega arith)
 
 -- a letter is neither white space nor `=`
 module _ (c : ℕ) (h : letterValue c < 64) where

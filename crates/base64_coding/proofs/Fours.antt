@@ -38,6 +38,24 @@ skipped-all (c ∷ s) e = go (isWhite c) e (skipped-all s)
     go true e h = h e
     go false e h = let z : _≡_ {A = ℕ} 0 1 = cc in absurd (omega arith)
 
+pub dense-keep : (c : ℕ) (s : List ℕ) → isWhite c ≡ false → dense (c ∷ s) ≡ c ∷ dense s
+unfolding dense
+dense-keep c s h = rw h
+
+-- white space in front gives nothing
+dense-skip : (s : List ℕ) → dense s ≡ dense (skipWhite s)
+unfolding skipWhite dense
+dense-skip [] = refl
+dense-skip (c ∷ s) = go (isWhite c) refl (dense-skip s)
+  where
+    go : (w : Bool) → isWhite c ≡ w → dense s ≡ dense (skipWhite s) → cond w (dense s) (c ∷ dense s) ≡ dense (cond w (skipWhite s) (c ∷ s))
+    go true e h = h
+    go false e h = sym (dense-keep c s e)
+
+pub white-skipped : (s : List ℕ) (i from : ℕ) → Skipped s i from → decode (drop i s) ≡ decode (drop from s)
+unfolding decode
+white-skipped s i from p = ap fours (dense-skip (drop i s) ∙ ap dense (p .rest))
+
 -- the next byte stands where white space ends
 module _ (s : List ℕ) (from i : ℕ) (p : Skipped s from i) where
   pub next-there : i < length s → NextIs s from (Byte (getD s i 0) (i + 1))

@@ -1,6 +1,7 @@
 pub mod Alphabet
 pub mod Fours
-pub mod Blocks
+pub mod High
+pub mod Plain
 pub mod Turns
 pub mod Coding
 pub mod Calls

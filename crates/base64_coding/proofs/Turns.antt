@@ -1,5 +1,5 @@
 -- One turn of the two passes: bytes in front of those that the rest gives, counted and stored.
-use Prim.Native.Nat.{_+_, _<_, _≤_, ℕ}
+use Prim.Native.Nat.{_*_, _+_, _-_, _/_, _<_, _≤_, ℕ}
 use native.Mathlib.Nat.{add-zero, zero-add}
 use native.Mathlib.Omega.{arith}
 use mathlib.Core.List.{List, [], _++_, _∷_}
@@ -7,8 +7,9 @@ use mathlib.Core.Path.{_∙_, _≡_, ap, ap₂, refl, subst, sym}
 use lib.ListN.{drop, length, length-append, take}
 use lib.Seq.{length-take-le, sets, sets-eq}
 use Rattle.base64.specs.Base64.{decode}
-use Rattle.base64_coding.proofs.Blocks.{length-sextets}
-use Rattle.base64_coding.specs.Contracts.{FitsAt, FourIs, Sixteen, before, bufferWith, bytesOfSextets, decodedSize}
+use Rattle.base64_coding.proofs.High.{decoded-low}
+use Rattle.base64_coding.proofs.Plain.{FourLetters, Stored, fours-count, fours-length, fours-more}
+use Rattle.base64_coding.specs.Contracts.{FitsAt, FourIs, LettersTo, Low, before, bufferWith, decodedSize, foursBytes}
 use Rattle.base64_coding.specs.declared.decoding.Four.{Four}
 use Rattle.base64_coding.specs.declared.decoding.Four.the-variants.{Bad, Bytes}
 use Rattle.base64_coding.specs.declared.decoding.DecodedSize.{DecodedSize}
@@ -76,17 +77,30 @@ gave s i r k x y z j f e =
 pub refused : (s : List ℕ) (i : ℕ) (r : Four) → FourIs s i r → r ≡ Bad → decode (drop i s) ≡ bad 7
 refused s i r f e = subst (FourIs s i) e f .rest
 
--- the two kinds of turns: sixteen letters, or the careful way
-module _ {s : List ℕ} {i : ℕ} {values : List ℕ} (b : Sixteen s i values) (l : length values ≡ 16) (n : ℕ) where
-  pub sixteen-size : (whole : DecodedSize) → whole ≡ decodedSize n (decode (drop i s)) → whole ≡ decodedSize (n + 12) (decode (drop (i + 16) s))
-  sixteen-size = size-turn n 12 (bytesOfSextets values) _ _ (b .rest) (length-sextets values 4 l)
+-- the two kinds of turns: a run of letters, or the careful way
+module _ {s : List ℕ} {from to : ℕ} (l : LettersTo s from to) (n : ℕ) where
+  long : length (foursBytes s from (l .count)) ≡ (to - from) / 4 * 3
+  long = let e = fours-length s from (l .count) in let k = fours-count s from to l in omega arith
 
-  pub sixteen-fits : (m : ℕ) → FitsAt n (decode (drop i s)) m → (n + 12 ≤ m) × FitsAt (n + 12) (decode (drop (i + 16) s)) m
-  sixteen-fits = fits-turn n 12 (bytesOfSextets values) _ _ (b .rest) (length-sextets values 4 l)
+  pub fours-size : (whole : DecodedSize) → whole ≡ decodedSize n (decode (drop from s)) → whole ≡ decodedSize (n + (to - from) / 4 * 3) (decode (drop to s))
+  fours-size = size-turn n ((to - from) / 4 * 3) (foursBytes s from (l .count)) _ _ (l .rest) long
 
-  pub sixteen-buffer : (m : ℕ) (out new whole : List ℕ) → FitsAt n (decode (drop i s)) m → new ≡ sets out n (bytesOfSextets values)
-      → bufferWith out n (decode (drop i s)) ≡ whole → bufferWith new (n + 12) (decode (drop (i + 16) s)) ≡ whole
-  sixteen-buffer = buffer-turn n 12 (bytesOfSextets values) _ _ (b .rest) (length-sextets values 4 l)
+  pub fours-fits : (m : ℕ) → FitsAt n (decode (drop from s)) m → (n + (to - from) / 4 * 3 ≤ m) × FitsAt (n + (to - from) / 4 * 3) (decode (drop to s)) m
+  fours-fits = fits-turn n ((to - from) / 4 * 3) (foursBytes s from (l .count)) _ _ (l .rest) long
+
+  pub fours-buffer : (m : ℕ) (out new whole : List ℕ) → FitsAt n (decode (drop from s)) m → new ≡ sets out n (foursBytes s from ((to - from) / 4))
+      → bufferWith out n (decode (drop from s)) ≡ whole → bufferWith new (n + (to - from) / 4 * 3) (decode (drop to s)) ≡ whole
+  fours-buffer m out new whole f e =
+      buffer-turn n ((to - from) / 4 * 3) (foursBytes s from (l .count)) _ _ (l .rest) long m out new whole f
+      (e ∙ ap (λ (g : ℕ). sets out n (foursBytes s from g)) (sym (fours-count s from to l)))
+
+-- there is room for one four more
+pub stored-room : (s out : List ℕ) (from n i o m : ℕ) (buffer : List ℕ) → Stored s out from n i o buffer → FitsAt n (decode (drop from s)) m
+    → i + 4 ≤ length s → FourLetters s i → o + 3 ≤ m
+stored-room s out from n i o m buffer t fits h f =
+    let l = fours-more s from i (t .letters) h f in
+    let room = fours-fits l n m fits .0 in
+    let p = t .place in let far = t .letters .far in omega arith
 
 module _ {s : List ℕ} {i k x y z j : ℕ} (g : Gave s i k x y z j) (n : ℕ) where
   pub gave-size : (whole : DecodedSize) → whole ≡ decodedSize n (decode (drop i s)) → whole ≡ decodedSize (n + k) (decode (drop j s))
@@ -113,3 +127,15 @@ buffer-end out n r e = ap (bufferWith out n) e
 pub unfit : (s : List ℕ) (i : ℕ) (r : Four) (n m : ℕ) → FourIs s i r → r ≡ Bad → FitsAt n (decode (drop i s)) m → ⊥
 unfolding FitsAt
 unfit s i r n m f e h = subst (λ (q : Result ℕ (List ℕ)). FitsAt n q m) (refused s i r f e) h
+
+no-bytes : (n m k : ℕ) → FitsAt n (bad k) m → ⊥
+unfolding FitsAt
+no-bytes n m k f = f
+
+-- and one that has bytes has no character from 128 on
+pub fits-low : (s : List ℕ) (n m : ℕ) → FitsAt n (decode s) m → Low s
+fits-low s n m = go (decode s) refl
+  where
+    go : (r : Result ℕ (List ℕ)) → decode s ≡ r → FitsAt n r m → Low s
+    go (good b) e f = decoded-low s b e
+    go (bad k) e f = absurd (no-bytes n m k f)

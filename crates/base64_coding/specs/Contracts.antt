@@ -1,9 +1,10 @@
 -- What the functions of this crate promise each other, in terms of `decode` and `encode`: views of their answers.
-use Prim.Native.Nat.{_%_, _*_, _+_, _/_, _<_, _≤_, ℕ}
-use mathlib.Core.Bool.{Bool, false, true}
-use mathlib.Core.List.{List, [], _++_, _∷_, map}
+use Prim.Native.Nat.{_%_, _*_, _+_, _/_, _<_, _≤_, suc, zero, ℕ}
+use mathlib.Core.Bool.{cond}
+use mathlib.Core.List.{List, [], _++_, _∷_}
 use mathlib.Core.Path.{_≡_}
-use lib.ListN.{drop, length, take}
+use lib.Dec.{ltb}
+use lib.ListN.{drop, getD, length, take}
 use lib.Seq.{sets}
 use Rattle.base64.specs.Base64.{decode, dense, letter, sextet}
 use Rattle.base64_coding.specs.declared.decoding.Four.{Four}
@@ -19,13 +20,30 @@ use Rattle.table.specs.Result.{Result, _>>=_, bad, good}
 
 -- ---- letters
 
-abbrev pub valueOr64 : Result ℕ ℕ → ℕ
-valueOr64 (good v) = v
-valueOr64 (bad e) = 64
+-- in place of a value where there is no letter: over every number that four letters make
+abbrev pub none : ℕ
+none = 16777216
 
--- a letter's value, and 64 for any other byte
+abbrev pub valueOrNone : Result ℕ ℕ → ℕ
+valueOrNone (good v) = v
+valueOrNone (bad e) = none
+
+-- a letter's value, and none for any other byte
 unfoldable pub letterValue : ℕ → ℕ
-letterValue c = valueOr64 (sextet c)
+letterValue c = valueOrNone (sextet c)
+
+-- "Look each character up in a table of 128 entries": what is lent is that table
+unfoldable pub TableIs : List ℕ → Type 0
+TableIs values = (c : ℕ) → c < 128 → getD values c 0 ≡ letterValue c
+
+-- characters below 128, which alone are places of the table
+abbrev pub Low : List ℕ → Type 0
+Low s = All (λ (c : ℕ). c < 128) s
+
+-- the highest of a number and some bytes
+unfoldable pub highestFrom : ℕ → List ℕ → ℕ
+highestFrom most [] = most
+highestFrom most (c ∷ s) = highestFrom (cond (ltb most c) c most) s
 
 -- ---- one character after the other
 
@@ -69,34 +87,33 @@ pub record FourIs (s : List ℕ) (i : ℕ) (r : Four) : Type 0 where
   pub rest : decode (drop i s) ≡ given s r
   pub places : FourWithin s i r
 
--- ---- sixteen letters
+-- ---- runs of letters, four at a time
 
--- values four at a time, as bytes
-unfoldable pub bytesOfSextets : List ℕ → List ℕ
-bytesOfSextets [] = []
-bytesOfSextets (w ∷ []) = []
-bytesOfSextets (w ∷ x ∷ []) = []
-bytesOfSextets (w ∷ x ∷ y ∷ []) = []
-bytesOfSextets (w ∷ x ∷ y ∷ z ∷ v) = (w * 4 + x / 16) ∷ (x % 16 * 16 + y / 4) ∷ (y % 4 * 64 + z) ∷ bytesOfSextets v
+abbrev pub valueAt : List ℕ → ℕ → ℕ
+valueAt s i = letterValue (getD s i 0)
 
--- the characters' values, none over the most
-pub record ValuesAre (part values : List ℕ) (most : ℕ) : Type 0 where
-  pub each : values ≡ map letterValue part
-  pub bounded : All (λ (v : ℕ). v ≤ most) values
+abbrev pub fourSum : List ℕ → ℕ → ℕ
+fourSum s i = valueAt s i + valueAt s (i + 1) + valueAt s (i + 2) + valueAt s (i + 3)
 
--- the next sixteen characters are letters, with these values
-pub record Sixteen (s : List ℕ) (i : ℕ) (values : List ℕ) : Type 0 where
-  pub rest : decode (drop i s) ≡ before (bytesOfSextets values) (decode (drop (i + 16) s))
-  pub small : All (λ (v : ℕ). v < 64) values
-  pub place : i + 16 ≤ length s
+-- four values as the digits of one number
+abbrev pub fourNumber : List ℕ → ℕ → ℕ
+fourNumber s i = ((valueAt s i * 64 + valueAt s (i + 1)) * 64 + valueAt s (i + 2)) * 64 + valueAt s (i + 3)
 
-abbrev pub SixteenIf : Bool → List ℕ → ℕ → List ℕ → Type 0
-SixteenIf true s i values = Sixteen s i values
-SixteenIf false s i values = Unit {0}
+-- its three bytes
+abbrev pub numberBytes : ℕ → List ℕ
+numberBytes n = n / 65536 ∷ n / 256 % 256 ∷ n % 256 ∷ []
 
-pub record PlainIs (r : Bool) (s : List ℕ) (i : ℕ) (values : List ℕ) : Type 0 where
-  pub long : length values ≡ 16
-  pub letters : SixteenIf r s i values
+-- the bytes of so many fours
+unfoldable pub foursBytes : List ℕ → ℕ → ℕ → List ℕ
+foursBytes s from zero = []
+foursBytes s from (suc g) = foursBytes s from g ++ numberBytes (fourNumber s (from + 4 * g))
+
+-- from one place to the other stand fours of letters: their bytes, and then what the rest gives
+pub record LettersTo (s : List ℕ) (from to : ℕ) : Type 0 where
+  pub count : ℕ
+  pub far : to ≡ from + 4 * count
+  pub within : to ≤ length s
+  pub rest : decode (drop from s) ≡ before (foursBytes s from count) (decode (drop to s))
 
 -- ---- a whole text
 

@@ -1,16 +1,15 @@
 // A text is decoded in two passes, since a refusal writes nothing: one says how many bytes there will be, the other writes them. Each
-// takes sixteen letters at once where no other byte stands among them, and else the next four characters the careful way.
+// takes runs of letters, four at a time, as they stand from one white space to the next, and what is no such four the careful way.
+use crate::letters::highest;
+use crate::letters::letter_value;
 use text::skip_white;
-ghost use Prim.Native.Nat.{_+_, _-_, _<_, _≤_, ℕ};
-ghost use mathlib.Core.Bool.{cond};
+ghost use Prim.Native.Nat.{_+_, _-_, _/_, _<_, _≤_};
 ghost use mathlib.Core.List.{[], _∷_};
 ghost use mathlib.Core.Path.{_≡_};
-ghost use lib.ListN.{length, take};
+ghost use lib.ListN.{drop, length, take};
 ghost use lib.Seq.{sets};
 ghost use Rattle.base64.specs.Base64.{decode, oneByte, threeBytes, twoBytes};
-ghost use Rattle.base64_coding.specs.Contracts.{FitsAt, FourIs, NextIs, PlainIs, ValuesAre, bufferWith, bytesOfSextets, decodedSize, fourOf, letterValue};
-ghost use Rattle.table.specs.All.{All};
-ghost use Rattle.table.specs.Bytes.{between};
+ghost use Rattle.base64_coding.specs.Contracts.{FitsAt, FourIs, LettersTo, Low, NextIs, TableIs, bufferWith, decodedSize, fourNumber, fourOf, fourSum, numberBytes, foursBytes};
 
 // The next byte that is no white space, and the place after it.
 enum Next {
@@ -31,33 +30,6 @@ pub enum DecodedSize {
     Good(usize),
 }
 
-// ---- letters
-
-// Where `c` stands in a range, counted from `first`; `other` where it does not stand in it. These are made selects, not branches.
-fn ranged(c: u8, low: u8, high: u8, first: u8, other: u8) -> u8
-    requires { ⌜ high + first ≤ 255 ⌝ }
-    ensures { λ r. ⌜ r ≡ cond (between low high c) (c - low + first) other ⌝ }
-{
-    if c < low {
-        return other;
-    }
-    if high < c {
-        return other;
-    }
-    c - low + first
-}
-
-// A letter's value, and 64 for any other byte.
-fn letter_value(c: u8) -> u8
-    ensures { λ r. ⌜ r ≡ letterValue c ⌝ }
-{
-    let upper = ranged(c, b'A', b'Z', 0, 64);
-    let lower = ranged(c, b'a', b'z', 26, upper);
-    let digit = ranged(c, b'0', b'9', 52, lower);
-    let plus = ranged(c, b'+', b'+', 62, digit);
-    ranged(c, b'/', b'/', 63, plus)
-}
-
 // ---- the careful way
 
 fn next_byte(s: &[u8], from: usize) -> Next
@@ -71,11 +43,12 @@ fn next_byte(s: &[u8], from: usize) -> Next
     Next::End
 }
 
-fn one_byte(a: u8, b: u8, next: usize) -> Four
+fn one_byte(a: u8, b: u8, next: usize, values: &[u32; 128]) -> Four
+    requires { ⌜ (a < 128) × (b < 128) × TableIs (now values) ⌝ }
     ensures { λ r. ⌜ r ≡ fourOf next (oneByte a b) ⌝ }
 {
-    let w = letter_value(a);
-    let x = letter_value(b);
+    let w = letter_value(a, values);
+    let x = letter_value(b, values);
     if 64 <= w {
         return Four::Bad;
     }
@@ -85,15 +58,16 @@ fn one_byte(a: u8, b: u8, next: usize) -> Four
     if x % 16 != 0 {
         return Four::Bad;
     }
-    Four::Bytes(1, w * 4 + x / 16, 0, 0, next)
+    Four::Bytes(1, (w * 4 + x / 16) as u8, 0, 0, next)
 }
 
-fn two_bytes(a: u8, b: u8, c: u8, next: usize) -> Four
+fn two_bytes(a: u8, b: u8, c: u8, next: usize, values: &[u32; 128]) -> Four
+    requires { ⌜ (a < 128) × (b < 128) × (c < 128) × TableIs (now values) ⌝ }
     ensures { λ r. ⌜ r ≡ fourOf next (twoBytes a b c) ⌝ }
 {
-    let w = letter_value(a);
-    let x = letter_value(b);
-    let y = letter_value(c);
+    let w = letter_value(a, values);
+    let x = letter_value(b, values);
+    let y = letter_value(c, values);
     if 64 <= w {
         return Four::Bad;
     }
@@ -106,16 +80,23 @@ fn two_bytes(a: u8, b: u8, c: u8, next: usize) -> Four
     if y % 4 != 0 {
         return Four::Bad;
     }
-    Four::Bytes(2, w * 4 + x / 16, x % 16 * 16 + y / 4, 0, next)
+    Four::Bytes(
+        2,
+        (w * 4 + x / 16) as u8,
+        (x % 16 * 16 + y / 4) as u8,
+        0,
+        next,
+    )
 }
 
-fn three_bytes(a: u8, b: u8, c: u8, d: u8, next: usize) -> Four
+fn three_bytes(a: u8, b: u8, c: u8, d: u8, next: usize, values: &[u32; 128]) -> Four
+    requires { ⌜ (a < 128) × (b < 128) × (c < 128) × (d < 128) × TableIs (now values) ⌝ }
     ensures { λ r. ⌜ r ≡ fourOf next (threeBytes a b c d) ⌝ }
 {
-    let w = letter_value(a);
-    let x = letter_value(b);
-    let y = letter_value(c);
-    let z = letter_value(d);
+    let w = letter_value(a, values);
+    let x = letter_value(b, values);
+    let y = letter_value(c, values);
+    let z = letter_value(d, values);
     if 64 <= w {
         return Four::Bad;
     }
@@ -128,12 +109,18 @@ fn three_bytes(a: u8, b: u8, c: u8, d: u8, next: usize) -> Four
     if 64 <= z {
         return Four::Bad;
     }
-    Four::Bytes(3, w * 4 + x / 16, x % 16 * 16 + y / 4, y % 4 * 64 + z, next)
+    Four::Bytes(
+        3,
+        (w * 4 + x / 16) as u8,
+        (x % 16 * 16 + y / 4) as u8,
+        (y % 4 * 64 + z) as u8,
+        next,
+    )
 }
 
 // What the next four characters give, with white space among them skipped; nothing at the end of the text.
-fn next_four(s: &[u8], i: usize) -> Four
-    requires { ⌜ i ≤ length (now s) ⌝ }
+fn next_four(s: &[u8], i: usize, values: &[u32; 128]) -> Four
+    requires { ⌜ (i ≤ length (now s)) × Low (now s) × TableIs (now values) ⌝ }
     ensures { λ r. ⌜ FourIs (now (s .entry)) i r ⌝ }
 {
     let Next::Byte(a, ja) = next_byte(s, i) else {
@@ -149,47 +136,15 @@ fn next_four(s: &[u8], i: usize) -> Four
         return Four::Bad;
     };
     if d != b'=' {
-        return three_bytes(a, b, c, d, jd);
+        return three_bytes(a, b, c, d, jd, values);
     }
     let Next::End = next_byte(s, jd) else {
         return Four::Bad;
     };
     if c != b'=' {
-        return two_bytes(a, b, c, jd);
+        return two_bytes(a, b, c, jd, values);
     }
-    one_byte(a, b, jd)
-}
-
-// ---- sixteen letters at once
-
-// Puts the values of sixteen characters into `t` and hands back the largest. No branch leaves the loop, so it is done by vectors.
-fn values(part: &[u8], t: &mut [u8; 16]) -> u8
-    requires { ⌜ (length (now part) ≡ 16) × (length (now t) ≡ 16) ⌝ }
-    ensures { λ r. ⌜ ValuesAre (now (part .entry)) (now (t .exit)) r ⌝ }
-{
-    let mut most = 0;
-    let mut k = 0;
-    while k < 16 {
-        let v = letter_value(part[k]);
-        t[k] = v;
-        if most < v {
-            most = v;
-        }
-        k += 1;
-    }
-    most
-}
-
-// Whether the next sixteen characters are letters; then their values are in `t`.
-fn plain(s: &[u8], i: usize, t: &mut [u8; 16]) -> bool
-    requires { ⌜ (i ≤ length (now s)) × (length (now t) ≡ 16) ⌝ }
-    ensures { λ r. ⌜ PlainIs r (now (s .entry)) i (now (t .exit)) ⌝ }
-{
-    if s.len() - i < 16 {
-        return false;
-    }
-    let end = i + 16;
-    values(&s[i..end], t) < 64
+    one_byte(a, b, jd, values)
 }
 
 fn put3(out: &mut [u8], n: usize, x: u8, y: u8, z: u8)
@@ -220,39 +175,98 @@ fn put_some(out: &mut [u8], n: usize, count: usize, x: u8, y: u8, z: u8)
     out[n + 1] = y;
 }
 
-// Writes the twelve bytes of sixteen values.
-fn put_sextets(t: &[u8; 16], out: &mut [u8], n: usize)
-    requires { ⌜ (length (now t) ≡ 16) × All (λ (v : ℕ). v < 64) (now t) × (n + 12 ≤ length (now out)) ⌝ }
-    ensures { λ _. ⌜ now (out .exit) ≡ sets (now (out .entry)) n (bytesOfSextets (now (t .entry))) ⌝ }
+// ---- runs of letters
+
+// The sum of four characters' values: below 256 exactly where all four are letters.
+fn four_sum(s: &[u8], i: usize, values: &[u32; 128]) -> u32
+    requires { ⌜ (i + 4 ≤ length (now s)) × Low (now s) × TableIs (now values) ⌝ }
+    ensures { λ r. ⌜ r ≡ fourSum (now (s .entry)) i ⌝ }
 {
-    let mut k = 0;
+    letter_value(s[i], values)
+        + letter_value(s[i + 1], values)
+        + letter_value(s[i + 2], values)
+        + letter_value(s[i + 3], values)
+}
+
+// Four characters' values as the digits of one number: below 16,777,216 exactly where all four are letters.
+fn four_number(s: &[u8], i: usize, values: &[u32; 128]) -> u64
+    requires { ⌜ (i + 4 ≤ length (now s)) × Low (now s) × TableIs (now values) ⌝ }
+    ensures { λ r. ⌜ r ≡ fourNumber (now (s .entry)) i ⌝ }
+{
+    let w = letter_value(s[i], values) as u64;
+    let x = letter_value(s[i + 1], values) as u64;
+    let y = letter_value(s[i + 2], values) as u64;
+    let z = letter_value(s[i + 3], values) as u64;
+    ((w * 64 + x) * 64 + y) * 64 + z
+}
+
+// The three bytes of such a number.
+fn put_number(out: &mut [u8], n: usize, number: u64)
+    requires { ⌜ (n + 3 ≤ length (now out)) × (number < 16777216) ⌝ }
+    ensures { λ _. ⌜ now (out .exit) ≡ sets (now (out .entry)) n (numberBytes number) ⌝ }
+{
+    put3(
+        out,
+        n,
+        (number / 65536) as u8,
+        (number / 256 % 256) as u8,
+        (number % 256) as u8,
+    );
+}
+
+// The place behind the fours of letters that stand from a place on.
+fn fours_end(s: &[u8], from: usize, values: &[u32; 128]) -> usize
+    requires { ⌜ (from ≤ length (now s)) × Low (now s) × TableIs (now values) ⌝ }
+    ensures { λ r. ⌜ LettersTo (now (s .entry)) from r ⌝ }
+{
+    let mut i = from;
+    while 4 <= s.len() - i {
+        if 256 <= four_sum(s, i, values) {
+            return i;
+        }
+        i += 4;
+    }
+    i
+}
+
+// Writes their bytes, and gives the same place.
+fn write_fours(s: &[u8], from: usize, values: &[u32; 128], out: &mut [u8], n: usize) -> usize
+    requires { ⌜ (from ≤ length (now s)) × Low (now s) × TableIs (now values) × FitsAt n (decode (drop from (now s))) (length (now out)) ⌝ }
+    ensures place { λ r. ⌜ LettersTo (now (s .entry)) from r ⌝ }
+    ensures buffer { λ r. ⌜ now (out .exit) ≡ sets (now (out .entry)) n (foursBytes (now (s .entry)) from ((r - from) / 4)) ⌝ }
+{
+    let mut i = from;
     let mut o = n;
-    while k < 16 {
-        let w = t[k];
-        let x = t[k + 1];
-        let y = t[k + 2];
-        let z = t[k + 3];
-        put3(out, o, w * 4 + x / 16, x % 16 * 16 + y / 4, y % 4 * 64 + z);
-        k += 4;
+    while 4 <= s.len() - i {
+        let number = four_number(s, i, values);
+        if 16777216 <= number {
+            return i;
+        }
+        put_number(out, o, number);
+        i += 4;
         o += 3;
     }
+    i
 }
 
 // ---- a whole text
 
-// The first pass: how many bytes the text gives, or its refusal.
-pub fn decoded_size(s: &[u8]) -> DecodedSize
+// The first pass: how many bytes the text gives, or its refusal. Characters from 128 on are no letters, and nothing else that may stand there.
+pub fn decoded_size(s: &[u8], values: &[u32; 128]) -> DecodedSize
+    requires { ⌜ TableIs (now values) ⌝ }
     ensures { λ r. ⌜ r ≡ decodedSize 0 (decode (now (s .entry))) ⌝ }
 {
-    let mut t = [0u8; 16];
+    if 128 <= highest(s) {
+        return DecodedSize::Refused(7);
+    }
     let mut i = 0;
     let mut n = 0;
     loop {
-        if plain(s, i, &mut t) {
-            i += 16;
-            n += 12;
-        } else {
-            let Four::Bytes(count, _, _, _, next) = next_four(s, i) else {
+        let from = skip_white(s, i);
+        i = fours_end(s, from, values);
+        n += (i - from) / 4 * 3;
+        if i == from {
+            let Four::Bytes(count, _, _, _, next) = next_four(s, i, values) else {
                 return DecodedSize::Refused(7);
             };
             i = next;
@@ -265,20 +279,18 @@ pub fn decoded_size(s: &[u8]) -> DecodedSize
 }
 
 // The second pass: writes the bytes of a text that gives some, for which there is room.
-pub fn write_bytes(s: &[u8], out: &mut [u8])
-    requires { ⌜ FitsAt 0 (decode (now s)) (length (now out)) ⌝ }
+pub fn write_bytes(s: &[u8], values: &[u32; 128], out: &mut [u8])
+    requires { ⌜ TableIs (now values) × FitsAt 0 (decode (now s)) (length (now out)) ⌝ }
     ensures { λ _. ⌜ now (out .exit) ≡ bufferWith (now (out .entry)) 0 (decode (now (s .entry))) ⌝ }
 {
-    let mut t = [0u8; 16];
     let mut i = 0;
     let mut n = 0;
     loop {
-        if plain(s, i, &mut t) {
-            put_sextets(&t, out, n);
-            i += 16;
-            n += 12;
-        } else {
-            let Four::Bytes(count, x, y, z, next) = next_four(s, i) else {
+        let from = skip_white(s, i);
+        i = write_fours(s, from, values, out, n);
+        n += (i - from) / 4 * 3;
+        if i == from {
+            let Four::Bytes(count, x, y, z, next) = next_four(s, i, values) else {
                 return;
             };
             put_some(out, n, count, x, y, z);

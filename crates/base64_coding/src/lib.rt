@@ -1,6 +1,7 @@
 // Base64: the two calls, decoding and encoding, a step of its own over bytes.
 mod decoding;
 mod encoding;
+mod letters;
 
 use decoding::DecodedSize;
 use table::Answer;
@@ -43,13 +44,14 @@ pub fn decode(input: &[u8], out: &mut [u8]) -> Answer
     if MOST_INPUT < input.len() {
         return refusal(6);
     }
-    match decoding::decoded_size(input) {
+    let values = letters::letter_table();
+    match decoding::decoded_size(input, &values) {
         DecodedSize::Refused(number) => refusal(number),
         DecodedSize::Good(n) => {
             if out.len() < n {
                 return refusal(17);
             }
-            decoding::write_bytes(input, out);
+            decoding::write_bytes(input, &values, out);
             acceptance(n)
         }
     }

@@ -38,4 +38,5 @@ returns-4 c = rw (
 pub one-byte-spec : {M : Type 1} → statement M
 one-byte-spec =
     tie.close
-    (tie.spec (λ c κs. search needs) (λ c κs. search needs) returns returns-2 returns-3 (λ c. search needs) (λ c. search needs) returns-4)
+    (tie.spec (λ c κs. search needs) (λ c κs. search needs) returns returns-2 returns-3 (λ c. search needs) (λ c. search needs)
+    (λ c. search needs) returns-4)
