@@ -8,37 +8,50 @@
 //! The plain converter is compiled as cargo bench compiles everything here (opt-level 3, any x86-64). The last of the
 //! three lines above makes it faster on most machines, and nothing else: the proved archive is the same in all three.
 //! Unlike Sailmortar the plain one trusts its input and its room, so the ratio is also the price of every check.
+//!
+//! Beside an earlier version, whose build proves it and makes its shared library, and which takes turns with this one:
+//!
+//!     git worktree add ../before COMMIT && (cd ../before && cargo build)
+//!     SAILMORTAR_BENCH_BEFORE=../before/target/library/libsailmortar.so.0 cargo bench --bench night
+//!     git worktree remove ../before
 
+mod base64;
+mod before;
 mod measure;
 mod plain;
 // The other benches have nights of other rows, or with fewer columns.
 #[allow(dead_code)]
 mod table;
 
+use before::Versions;
 use measure::{best, best_of, form, mega, memory_of, processor, EVERY_KIND, RUNS};
 use sailmortar::Rows;
-use std::process::{Command, Stdio};
 use table::Night;
 
 fn main() {
     let megabytes = std::env::var("SAILMORTAR_BENCH_MB").ok();
     let megabytes: f64 = megabytes.map_or(100.0, |value| value.parse().expect("SAILMORTAR_BENCH_MB: a number of megabytes"));
     let size = (megabytes * 1e6) as usize;
+    let versions = Versions::of_environment();
+    let versions = versions.as_ref();
     let night = table::night(size);
-    heading(&night);
+    heading(&night, versions);
     // First, while the stack has not been used yet; it is told last.
     let memory = memory(&night);
-    nine_ways(&night);
+    nine_ways(&night, versions);
     line_ends(&table::night(size / 10));
-    base64(&night);
+    base64::tables(&night.binary2, versions);
     growth(&night, size);
     println!("{memory}");
 }
 
-fn heading(night: &Night) {
+fn heading(night: &Night, versions: Option<&Versions>) {
     let [text, binary, binary2] = [&night.text, &night.binary, &night.binary2].map(|rows| mega(rows.len()));
     println!("A night of {} rows and 20 columns: TABLEDATA {text:.1} MB, BINARY {binary:.1} MB, BINARY2 {binary2:.1} MB.", night.rows);
     println!("Processor: {}; one thread; the best of {RUNS} runs or more; MB are 10^6 bytes of input.\n", processor());
+    if let Some(Versions { now, before }) = versions {
+        println!("Sailmortar, where a version before stands beside it: {}; before: {}.\n", now.file.display(), before.file.display());
+    }
 }
 
 fn plainly(rows: Rows) -> plain::Rows {
@@ -50,33 +63,43 @@ fn plainly(rows: Rows) -> plain::Rows {
     }
 }
 
-fn nine_ways(night: &Night) {
-    println!("| from | to | MB | Sailmortar MB/s | plain MB/s | Sailmortar / plain | Sailmortar, thousand rows/s |");
-    println!("|---|---|--:|--:|--:|--:|--:|");
+fn nine_ways(night: &Night, versions: Option<&Versions>) {
+    let [names, rules] = before::columns(versions);
+    println!("| from | to | MB | Sailmortar MB/s | plain MB/s | Sailmortar / plain | Sailmortar, thousand rows/s |{names}");
+    println!("|---|---|--:|--:|--:|--:|--:|{rules}");
     for from in EVERY_KIND {
         for to in EVERY_KIND {
             let size = mega(form(night, from).len());
-            let [ours, plain] = convert_both(night, from, to);
+            let [ours, plain, before] = convert_in_turn(night, from, to, versions);
             let (speed, plain_speed, ratio) = (size / ours, size / plain, plain / ours);
-            let rows = night.rows as f64 / ours / 1e3;
-            println!("| {} | {} | {size:.1} | {speed:.0} | {plain_speed:.0} | {ratio:.2} | {rows:.0} |", from.name(), to.name());
+            let (rows, beside_before) = (night.rows as f64 / ours / 1e3, before::figures(versions, size, [ours, before]));
+            println!("| {from} | {to} | {size:.1} | {speed:.0} | {plain_speed:.0} | {ratio:.2} | {rows:.0} |{beside_before}");
         }
     }
     println!();
 }
 
-/// Seconds of Sailmortar and of the plain converter for one way; what both have written is looked at.
-fn convert_both(night: &Night, from: Rows, to: Rows) -> [f64; 2] {
+/// Seconds of Sailmortar, of the plain converter and of the version before for one way; what each has written is looked at.
+fn convert_in_turn(night: &Night, from: Rows, to: Rows, versions: Option<&Versions>) -> [f64; 3] {
     let (input, expected) = (form(night, from), form(night, to));
     let columns = plain::columns(std::str::from_utf8(&night.declarations).expect("ASCII"));
-    let (mut out, mut plain_out) = (vec![0xff; expected.len()], vec![0xff; expected.len()]);
-    let seconds = best_of([&mut || convert(night, from, to, &mut out), &mut || {
+    let mut outputs = [(); 3].map(|()| vec![0xff; expected.len()]);
+    let [out, plain_out, before_out] = &mut outputs;
+    let whole = (night.rows, expected.len());
+    let seconds = best_of([
+        &mut || match versions {
+            Some(versions) => assert_eq!(versions.now.convert(&night.declarations, from, to, input, out), Some(whole)),
+            None => convert(night, from, to, out),
+        },
         // Sound here: the night is valid, and the room is that of its other form.
-        let (rows, bytes) = unsafe { plain::convert(&columns, plainly(from), plainly(to), input, &mut plain_out) };
-        assert_eq!((rows, bytes), (night.rows, expected.len()));
-    }]);
-    assert!(out == expected, "Sailmortar from {} to {}", from.name(), to.name());
-    assert!(plain_out == expected, "plain from {} to {}", from.name(), to.name());
+        &mut || assert_eq!(unsafe { plain::convert(&columns, plainly(from), plainly(to), input, plain_out) }, whole),
+        &mut || {
+            if let Some(versions) = versions {
+                assert_eq!(versions.before.convert(&night.declarations, from, to, input, before_out), Some(whole));
+            }
+        },
+    ]);
+    before::assert_written(versions, &outputs, expected, &format!("{from} to {to}"));
     seconds
 }
 
@@ -109,52 +132,6 @@ fn line_ends(night: &Night) {
     }
     assert!(outputs.windows(2).all(|pair| pair[0] == pair[1]), "a line end of 13 10 is read as a 10 is");
     println!();
-}
-
-fn base64(night: &Night) {
-    println!("| base64 of BINARY2 | MB | Sailmortar MB/s | plain MB/s | Sailmortar / plain | coreutils MB/s |");
-    println!("|---|--:|--:|--:|--:|--:|");
-    let bytes = &night.binary2;
-    let mut letters = vec![0; bytes.len().div_ceil(3) * 4];
-    let mut plain_letters = letters.clone();
-    let seconds = best_of([&mut || assert!(sailmortar::base64_encode(bytes, &mut letters).is_ok()), &mut || {
-        assert_eq!(plain::base64_encode(bytes, &mut plain_letters), bytes.len().div_ceil(3) * 4)
-    }]);
-    assert!(letters == plain_letters, "the two encodings");
-    base64_line("encode", bytes, seconds, &["-w0"]);
-    base64_decoding("decode, one line", &letters, bytes);
-    let lines: Vec<u8> = letters.chunks(76).flat_map(|line| [line, b"\n"].concat()).collect();
-    base64_decoding("decode, lines of 76", &lines, bytes);
-    println!();
-}
-
-fn base64_decoding(what: &str, letters: &[u8], bytes: &[u8]) {
-    let mut out = vec![0; bytes.len()];
-    let mut plain_out = out.clone();
-    let seconds = best_of([&mut || assert!(sailmortar::base64_decode(letters, &mut out).is_ok()), &mut || {
-        assert_eq!(plain::base64_decode(letters, &mut plain_out), Some(bytes.len()))
-    }]);
-    assert!(out == bytes && plain_out == bytes, "{what}");
-    base64_line(what, letters, seconds, &["-d"]);
-}
-
-fn base64_line(what: &str, input: &[u8], [ours, plain]: [f64; 2], arguments: &[&str]) {
-    let size = mega(input.len());
-    let coreutils = coreutils(arguments, input).map_or("not here".to_string(), |seconds| format!("{:.0}", size / seconds));
-    println!("| {what} | {size:.1} | {:.0} | {:.0} | {:.2} | {coreutils} |", size / ours, size / plain, plain / ours);
-}
-
-/// Seconds of coreutils' base64 on a file, to nowhere; nothing where there is no such program.
-fn coreutils(arguments: &[&str], input: &[u8]) -> Option<f64> {
-    let path = std::env::temp_dir().join(format!("sailmortar-bench-{}", std::process::id()));
-    std::fs::write(&path, input).ok()?;
-    let mut done = true;
-    let seconds = best(|| {
-        let status = Command::new("base64").args(arguments).arg(&path).stdout(Stdio::null()).status();
-        done &= status.is_ok_and(|status| status.success());
-    });
-    let _ = std::fs::remove_file(&path);
-    done.then_some(seconds)
 }
 
 /// The same two ways on a hundredth, a tenth and all of the size: in a straight line the last column stays the same.
