@@ -1,5 +1,6 @@
 // A text is decoded in two passes, since a refusal writes nothing: one says how many bytes there will be, the other writes them. Each
 // takes runs of letters, four at a time, as they stand from one white space to the next, and what is no such four the careful way.
+use crate::letters::NONE;
 use crate::letters::highest;
 use crate::letters::letter_value;
 use text::skip_white;
@@ -9,7 +10,7 @@ ghost use mathlib.Core.Path.{_≡_};
 ghost use lib.ListN.{drop, length, take};
 ghost use lib.Seq.{sets};
 ghost use Rattle.base64.specs.Base64.{decode, oneByte, threeBytes, twoBytes};
-ghost use Rattle.base64_coding.specs.Contracts.{FitsAt, FourIs, LettersTo, Low, NextIs, TableIs, bufferWith, decodedSize, fourNumber, fourOf, fourSum, numberBytes, foursBytes};
+ghost use Rattle.base64_coding.specs.Contracts.{FitsAt, FourIs, LettersTo, Low, NextIs, TableIs, bufferWith, decodedSize, fourNumber, fourOf, fourSum, foursBytes, none, numberBytes};
 
 // The next byte that is no white space, and the place after it.
 enum Next {
@@ -188,7 +189,7 @@ fn four_sum(s: &[u8], i: usize, values: &[u32; 128]) -> u32
         + letter_value(s[i + 3], values)
 }
 
-// Four characters' values as the digits of one number: below 16,777,216 exactly where all four are letters.
+// Four characters' values as the digits of one number: below `NONE` exactly where all four are letters.
 fn four_number(s: &[u8], i: usize, values: &[u32; 128]) -> u64
     requires { ⌜ (i + 4 ≤ length (now s)) × Low (now s) × TableIs (now values) ⌝ }
     ensures { λ r. ⌜ r ≡ fourNumber (now (s .entry)) i ⌝ }
@@ -202,7 +203,7 @@ fn four_number(s: &[u8], i: usize, values: &[u32; 128]) -> u64
 
 // The three bytes of such a number.
 fn put_number(out: &mut [u8], n: usize, number: u64)
-    requires { ⌜ (n + 3 ≤ length (now out)) × (number < 16777216) ⌝ }
+    requires { ⌜ (n + 3 ≤ length (now out)) × (number < none) ⌝ }
     ensures { λ _. ⌜ now (out .exit) ≡ sets (now (out .entry)) n (numberBytes number) ⌝ }
 {
     put3(
@@ -239,7 +240,7 @@ fn write_fours(s: &[u8], from: usize, values: &[u32; 128], out: &mut [u8], n: us
     let mut o = n;
     while 4 <= s.len() - i {
         let number = four_number(s, i, values);
-        if 16777216 <= number {
+        if (NONE as u64) <= number {
             return i;
         }
         put_number(out, o, number);
@@ -251,7 +252,8 @@ fn write_fours(s: &[u8], from: usize, values: &[u32; 128], out: &mut [u8], n: us
 
 // ---- a whole text
 
-// The first pass: how many bytes the text gives, or its refusal. Characters from 128 on are no letters, and nothing else that may stand there.
+// The first pass: how many bytes the text gives, or its refusal. Characters from 128 on are no letters, nor anything else that may stand in
+// a text; all others have a place in the table.
 pub fn decoded_size(s: &[u8], values: &[u32; 128]) -> DecodedSize
     requires { ⌜ TableIs (now values) ⌝ }
     ensures { λ r. ⌜ r ≡ decodedSize 0 (decode (now (s .entry))) ⌝ }

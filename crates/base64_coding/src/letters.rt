@@ -3,8 +3,9 @@ ghost use Prim.Native.Nat.{_<_};
 ghost use mathlib.Core.Path.{_≡_};
 ghost use Rattle.base64_coding.specs.Contracts.{TableIs, highestFrom, letterValue};
 
-// In place of a value where there is no letter: over every number that four letters make, so that one test tells whether all four are letters.
-const NONE: u32 = 16_777_216;
+// In place of a value where there is no letter: over every number that four letters make, so that one test tells whether all four are
+// letters.
+pub const NONE: u32 = 16_777_216;
 
 // `=` is no letter either.
 const PAD: u32 = NONE;

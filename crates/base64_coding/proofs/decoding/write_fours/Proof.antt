@@ -70,6 +70,7 @@ write-fours-spec =
     loop-holds
     (λ c. search needs)
     four-number-requires
+    (λ c. search needs)
     same-length
     returns
     put-number-requires
