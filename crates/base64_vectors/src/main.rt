@@ -142,6 +142,14 @@ fn no_letters() {
     decode(b"Zm9vYmFyZm9vYmF*Zm9vYmFyZm9vYmFy", 40);
 }
 
+// The table's last place has no letter, and from 128 on there is none: 7, also behind good lines and where the last seven bits are a letter's.
+fn beside_the_table() {
+    decode(b"Zm9\x7f", 8);
+    decode(b"Zm9\x80", 8);
+    decode(b"\xdam9v", 8);
+    decode(b"Zm9vYmFyZm9vYmFyZm9vYmFyZm9vYmFy\n\x80", 40);
+}
+
 // A byte too little room is 17, after 7; just enough is none.
 fn decode_room() {
     decode(b"Zm9v", 2);
@@ -182,6 +190,7 @@ fn main() {
     pads();
     cut();
     no_letters();
+    beside_the_table();
     decode_room();
     encode_room();
     long();
