@@ -24,10 +24,10 @@ low-at [] k a h = absurd (omega arith)
 low-at (c ∷ s) zero a h = a .0
 low-at (c ∷ s) (suc k) a h = low-at s k (a .1) (omega arith)
 
-dense-is-low : (s : List ℕ) → Low s → Low (dense s)
+low-dense : (s : List ℕ) → Low s → Low (dense s)
 unfolding dense
-dense-is-low [] h = tt
-dense-is-low (c ∷ s) h = go (isWhite c) (dense-is-low s (h .1))
+low-dense [] h = tt
+low-dense (c ∷ s) h = go (isWhite c) (low-dense s (h .1))
   where
     go : (w : Bool) → Low (dense s) → Low (cond w (dense s) (c ∷ dense s))
     go true more = more
@@ -36,7 +36,7 @@ dense-is-low (c ∷ s) h = go (isWhite c) (dense-is-low s (h .1))
 -- the next four characters, white space aside
 pub four-low : (s : List ℕ) (i a b c d j : ℕ) → Low s → Run s i (a ∷ b ∷ c ∷ d ∷ []) j → (a < 128) × (b < 128) × (c < 128) × (d < 128)
 four-low s i a b c d j h u =
-    let low = subst Low (u .rest) (dense-is-low (drop i s) (all-drop _ i s h)) in
+    let low = subst Low (u .rest) (low-dense (drop i s) (all-drop _ i s h)) in
     (low .0, low .1 .0, low .1 .1 .0, low .1 .1 .1 .0)
 
 -- ---- what decodes

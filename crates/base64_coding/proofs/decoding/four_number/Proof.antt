@@ -1,5 +1,5 @@
 -- `base64_coding::decoding::four_number` meets its contract: four values, each at most what stands for none.
-use Prim.Native.Nat.{_+_}
+use Prim.Native.Nat.{_+_, _≤_}
 use borrow.Author.Needs.{needs}
 use denote.Ref.{now}
 use native.Mathlib.Omega.{arith}
@@ -24,53 +24,34 @@ letter-value-requires-4 c κs =
     let third = c .before .before in let start = third .before .before .before .before .before .before in
     (low-at (now (start .args .s)) (start .args .i + 3) (start .pre .1) (omega arith), start .pre .2)
 
+-- no value is over what stands for none
+values : (c : tie.After-letter-value4) → let third = c .before .before in let second = third .before .before in
+    (second .before .before .letter-value .result ≤ 16777216) × (second .letter-value2 .result ≤ 16777216) × (third .letter-value3 .result ≤ 16777216) × (c .letter-value4 .result ≤ 16777216)
+values c =
+    let third = c .before .before in let second = third .before .before in (
+      value-most _ _ (second .before .before .letter-value .ensures),
+      value-most _ _ (second .letter-value2 .ensures),
+      value-most _ _ (third .letter-value3 .ensures),
+      value-most _ _ (c .letter-value4 .ensures),
+    )
+
 mul-result : tie.Need-mul-result
-mul-result c =
-    let w = value-most _ _ (c .before .before .before .before .before .before .letter-value .ensures) in
-    let x = value-most _ _ (c .before .before .before .before .letter-value2 .ensures) in
-    let y = value-most _ _ (c .before .before .letter-value3 .ensures) in
-    let z = value-most _ _ (c .letter-value4 .ensures) in
-    omega arith
+mul-result c = let most = values c in omega arith
 
 add-result : tie.Need-add-result
-add-result c =
-    let w = value-most _ _ (c .before .before .before .before .before .before .letter-value .ensures) in
-    let x = value-most _ _ (c .before .before .before .before .letter-value2 .ensures) in
-    let y = value-most _ _ (c .before .before .letter-value3 .ensures) in
-    let z = value-most _ _ (c .letter-value4 .ensures) in
-    omega arith
+add-result c = let most = values c in omega arith
 
 mul-result-2 : tie.Need-mul-result-2
-mul-result-2 c =
-    let w = value-most _ _ (c .before .before .before .before .before .before .letter-value .ensures) in
-    let x = value-most _ _ (c .before .before .before .before .letter-value2 .ensures) in
-    let y = value-most _ _ (c .before .before .letter-value3 .ensures) in
-    let z = value-most _ _ (c .letter-value4 .ensures) in
-    omega arith
+mul-result-2 c = let most = values c in omega arith
 
 add-result-2 : tie.Need-add-result-2
-add-result-2 c =
-    let w = value-most _ _ (c .before .before .before .before .before .before .letter-value .ensures) in
-    let x = value-most _ _ (c .before .before .before .before .letter-value2 .ensures) in
-    let y = value-most _ _ (c .before .before .letter-value3 .ensures) in
-    let z = value-most _ _ (c .letter-value4 .ensures) in
-    omega arith
+add-result-2 c = let most = values c in omega arith
 
 mul-result-3 : tie.Need-mul-result-3
-mul-result-3 c =
-    let w = value-most _ _ (c .before .before .before .before .before .before .letter-value .ensures) in
-    let x = value-most _ _ (c .before .before .before .before .letter-value2 .ensures) in
-    let y = value-most _ _ (c .before .before .letter-value3 .ensures) in
-    let z = value-most _ _ (c .letter-value4 .ensures) in
-    omega arith
+mul-result-3 c = let most = values c in omega arith
 
 add-result-3 : tie.Need-add-result-3
-add-result-3 c =
-    let w = value-most _ _ (c .before .before .before .before .before .before .letter-value .ensures) in
-    let x = value-most _ _ (c .before .before .before .before .letter-value2 .ensures) in
-    let y = value-most _ _ (c .before .before .letter-value3 .ensures) in
-    let z = value-most _ _ (c .letter-value4 .ensures) in
-    omega arith
+add-result-3 c = let most = values c in omega arith
 
 returns : tie.Need-returns
 returns c = omega arith

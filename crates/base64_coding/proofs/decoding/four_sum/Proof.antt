@@ -26,23 +26,23 @@ letter-value-requires-4 c κs =
 
 add-result : tie.Need-add-result
 add-result c =
-    let v1 = value-most _ _ (c .before .before .letter-value .ensures) in
-    let v2 = value-most _ _ (c .letter-value2 .ensures) in
+    let first = value-most _ _ (c .before .before .letter-value .ensures) in
+    let second = value-most _ _ (c .letter-value2 .ensures) in
     omega arith
 
 add-result-2 : tie.Need-add-result-2
 add-result-2 c =
-    let v1 = value-most _ _ (c .before .before .before .before .letter-value .ensures) in
-    let v2 = value-most _ _ (c .before .before .letter-value2 .ensures) in
-    let v3 = value-most _ _ (c .letter-value3 .ensures) in
+    let first = value-most _ _ (c .before .before .before .before .letter-value .ensures) in
+    let second = value-most _ _ (c .before .before .letter-value2 .ensures) in
+    let third = value-most _ _ (c .letter-value3 .ensures) in
     omega arith
 
 add-result-3 : tie.Need-add-result-3
 add-result-3 c =
-    let v1 = value-most _ _ (c .before .before .before .before .before .before .letter-value .ensures) in
-    let v2 = value-most _ _ (c .before .before .before .before .letter-value2 .ensures) in
-    let v3 = value-most _ _ (c .before .before .letter-value3 .ensures) in
-    let v4 = value-most _ _ (c .letter-value4 .ensures) in
+    let first = value-most _ _ (c .before .before .before .before .before .before .letter-value .ensures) in
+    let second = value-most _ _ (c .before .before .before .before .letter-value2 .ensures) in
+    let third = value-most _ _ (c .before .before .letter-value3 .ensures) in
+    let fourth = value-most _ _ (c .letter-value4 .ensures) in
     omega arith
 
 returns : tie.Need-returns
