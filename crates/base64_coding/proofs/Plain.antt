@@ -4,13 +4,14 @@ use Prim.Native.Nat.{_%_, _*_, _+_, _-_, _/_, _<_, _≤_, suc, zero, ℕ}
 use native.Mathlib.Numerals.{towards-suc}
 use native.Mathlib.Omega.{arith}
 use mathlib.Core.List.{List, [], _++_, _∷_, append-assoc}
-use mathlib.Core.Path.{_∙_, _≡_, ap, ap₂, refl, sym}
+use mathlib.Core.Path.{_∙_, _≡_, ap, ap₂, refl, subst, sym}
 use lib.ListN.{drop, getD, length, length-append}
 use lib.Seq.{drop-cons, sets}
-use Rattle.base64_coding.proofs.Alphabet.{black, is-letter, no-pad, none-or-small}
+use Rattle.base64_coding.proofs.Alphabet.{black, is-letter, no-pad, none-or-small, value-most}
 use Rattle.base64_coding.proofs.Fours.{dense-keep, fours-plain}
 use Rattle.base64.specs.Base64.{decode, dense, fours, threeBytes}
-use Rattle.base64_coding.specs.Contracts.{LettersTo, before, fourNumber, fourSum, letterValue, numberBytes, foursBytes, valueAt}
+use Rattle.base64_coding.specs.Contracts.{Bounded, LettersTo, before, fourNumber, fourSum, foursBytes, letterValue, numberBytes, valueAt, valuesAt}
+use Rattle.base64_coding.specs.declared.decoding.Values.{Values}
 use Rattle.table.proofs.Wrote.{sets-append}
 use Rattle.table.specs.Result.{Result, bad, good}
 
@@ -32,17 +33,23 @@ pub record FourLetters (s : List ℕ) (i : ℕ) : Type 0 where
   pub third : valueAt s (i + 2) < 64
   pub fourth : valueAt s (i + 3) < 64
 
+pub bounded : (s : List ℕ) (i : ℕ) (v : Values) → v ≡ valuesAt s i → Bounded v
+unfolding valuesAt
+bounded s i v e = subst Bounded (sym e) (value-most _ _ refl, value-most _ _ refl, value-most _ _ refl, value-most _ _ refl)
+
 module _ (s : List ℕ) (i : ℕ) where
-  pub by-sum : fourSum s i < 256 → FourLetters s i
-  by-sum h = record {
+  pub by-sum : (sum : ℕ) → sum ≡ fourSum (valuesAt s i) → sum < 256 → FourLetters s i
+  unfolding valuesAt
+  by-sum sum e h = record {
     first = none-or-small _ (omega arith);
     second = none-or-small _ (omega arith);
     third = none-or-small _ (omega arith);
     fourth = none-or-small _ (omega arith);
   }
 
-  pub by-number : fourNumber s i < 16777216 → FourLetters s i
-  by-number h = record {
+  pub by-number : (number : ℕ) → number ≡ fourNumber (valuesAt s i) → number < 16777216 → FourLetters s i
+  unfolding valuesAt
+  by-number number e h = record {
     first = none-or-small _ (omega arith);
     second = none-or-small _ (omega arith);
     third = none-or-small _ (omega arith);
@@ -84,8 +91,8 @@ next4 s i h =
     ∙ ap (_∷_ (getD s (suc (suc i)) 0)) (drop-cons s (suc (suc (suc i))) 0 (omega arith)))))
 
 -- four letters give the bytes of their number, and then what the rest gives
-four-step : (s : List ℕ) (i : ℕ) → i + 4 ≤ length s → FourLetters s i → decode (drop i s) ≡ before (numberBytes (fourNumber s i)) (decode (drop (i + 4) s))
-unfolding decode
+four-step : (s : List ℕ) (i : ℕ) → i + 4 ≤ length s → FourLetters s i → decode (drop i s) ≡ before (numberBytes (fourNumber (valuesAt s i))) (decode (drop (i + 4) s))
+unfolding decode valuesAt
 four-step s i h f =
     ap (λ (l : List ℕ). fours (dense l)) (next4 s i h)
     ∙ four-first _ _ _ _ (drop (i + 4) s) (f .first) (f .second) (f .third) (f .fourth)
@@ -98,7 +105,7 @@ pub fours-length : (s : List ℕ) (from count : ℕ) → length (foursBytes s fr
 unfolding foursBytes
 fours-length s from zero = refl
 fours-length s from (suc g) =
-    let l = fours-length s from g in let e = length-append (foursBytes s from g) (numberBytes (fourNumber s (from + 4 * g))) in omega arith
+    let l = fours-length s from g in let e = length-append (foursBytes s from g) (numberBytes (fourNumber (valuesAt s (from + 4 * g)))) in omega arith
 
 pub fours-none : (s : List ℕ) (from : ℕ) → from ≤ length s → LettersTo s from from
 unfolding foursBytes
@@ -111,8 +118,8 @@ fours-more s from i l h f = record {
   far = let e = l .far in omega arith;
   within = h;
   rest =
-      l .rest ∙ ap (before (foursBytes s from (l .count))) (four-step s i h f) ∙ before-append (foursBytes s from (l .count)) (numberBytes (fourNumber s i)) (decode (drop (i + 4) s))
-      ∙ ap (λ (j : ℕ). before (foursBytes s from (l .count) ++ numberBytes (fourNumber s j)) (decode (drop (i + 4) s))) (l .far);
+      l .rest ∙ ap (before (foursBytes s from (l .count))) (four-step s i h f) ∙ before-append (foursBytes s from (l .count)) (numberBytes (fourNumber (valuesAt s i))) (decode (drop (i + 4) s))
+      ∙ ap (λ (j : ℕ). before (foursBytes s from (l .count) ++ numberBytes (fourNumber (valuesAt s j))) (decode (drop (i + 4) s))) (l .far);
 }
 
 -- how many fours there are
@@ -131,7 +138,7 @@ unfolding foursBytes fours-none
 stored-none s out from n h = record { letters = fours-none s from h; place = omega arith; bytes = refl }
 
 pub stored-more : (s out : List ℕ) (from n i o next : ℕ) (buffer new : List ℕ) → Stored s out from n i o buffer → i + 4 ≤ length s → FourLetters s i → next ≡ o + 3
-    → new ≡ sets buffer o (numberBytes (fourNumber s i)) → Stored s out from n (i + 4) next new
+    → new ≡ sets buffer o (numberBytes (fourNumber (valuesAt s i))) → Stored s out from n (i + 4) next new
 unfolding foursBytes fours-more
 stored-more s out from n i o next buffer new t h f k e =
     let g = t .letters .count in
@@ -139,9 +146,9 @@ stored-more s out from n i o next buffer new t h f k e =
       letters = fours-more s from i (t .letters) h f;
       place = let p = t .place in omega arith;
       bytes =
-          e ∙ ap₂ (λ (b : List ℕ) (j : ℕ). sets b j (numberBytes (fourNumber s i))) (t .bytes) (t .place ∙ ap (_+_ n) (sym (fours-length s from g)))
-          ∙ ap (λ (j : ℕ). sets (sets out n (foursBytes s from g)) (n + length (foursBytes s from g)) (numberBytes (fourNumber s j))) (t .letters .far)
-          ∙ sets-append (foursBytes s from g) (numberBytes (fourNumber s (from + 4 * g))) out n;
+          e ∙ ap₂ (λ (b : List ℕ) (j : ℕ). sets b j (numberBytes (fourNumber (valuesAt s i)))) (t .bytes) (t .place ∙ ap (_+_ n) (sym (fours-length s from g)))
+          ∙ ap (λ (j : ℕ). sets (sets out n (foursBytes s from g)) (n + length (foursBytes s from g)) (numberBytes (fourNumber (valuesAt s j)))) (t .letters .far)
+          ∙ sets-append (foursBytes s from g) (numberBytes (fourNumber (valuesAt s (from + 4 * g)))) out n;
     }
 
 pub stored-all : (s out : List ℕ) (from n i o : ℕ) (buffer : List ℕ) → Stored s out from n i o buffer → buffer ≡ sets out n (foursBytes s from ((i - from) / 4))

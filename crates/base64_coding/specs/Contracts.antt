@@ -12,6 +12,7 @@ use Rattle.base64_coding.specs.declared.decoding.Four.the-variants as fo
 use Rattle.base64_coding.specs.declared.encoding.Letters.{Letters}
 use Rattle.base64_coding.specs.declared.decoding.Next.{Next}
 use Rattle.base64_coding.specs.declared.decoding.Next.the-variants as next
+use Rattle.base64_coding.specs.declared.decoding.Values.{Values}
 use Rattle.base64_coding.specs.declared.decoding.DecodedSize.{DecodedSize}
 use Rattle.base64_coding.specs.declared.decoding.DecodedSize.the-variants as size
 use Rattle.table.specs.All.{All}
@@ -92,12 +93,18 @@ pub record FourIs (s : List ℕ) (i : ℕ) (r : Four) : Type 0 where
 abbrev pub valueAt : List ℕ → ℕ → ℕ
 valueAt s i = letterValue (getD s i 0)
 
-abbrev pub fourSum : List ℕ → ℕ → ℕ
-fourSum s i = valueAt s i + valueAt s (i + 1) + valueAt s (i + 2) + valueAt s (i + 3)
+unfoldable pub valuesAt : List ℕ → ℕ → Values
+valuesAt s i = record { w = valueAt s i; x = valueAt s (i + 1); y = valueAt s (i + 2); z = valueAt s (i + 3) }
+
+abbrev pub Bounded : Values → Type 0
+Bounded v = (v .w ≤ none) × (v .x ≤ none) × (v .y ≤ none) × (v .z ≤ none)
+
+abbrev pub fourSum : Values → ℕ
+fourSum v = v .w + v .x + v .y + v .z
 
 -- four values as the digits of one number
-abbrev pub fourNumber : List ℕ → ℕ → ℕ
-fourNumber s i = ((valueAt s i * 64 + valueAt s (i + 1)) * 64 + valueAt s (i + 2)) * 64 + valueAt s (i + 3)
+abbrev pub fourNumber : Values → ℕ
+fourNumber v = ((v .w * 64 + v .x) * 64 + v .y) * 64 + v .z
 
 -- its three bytes
 abbrev pub numberBytes : ℕ → List ℕ
@@ -106,7 +113,7 @@ numberBytes n = n / 65536 ∷ n / 256 % 256 ∷ n % 256 ∷ []
 -- the bytes of so many fours
 unfoldable pub foursBytes : List ℕ → ℕ → ℕ → List ℕ
 foursBytes s from zero = []
-foursBytes s from (suc g) = foursBytes s from g ++ numberBytes (fourNumber s (from + 4 * g))
+foursBytes s from (suc g) = foursBytes s from g ++ numberBytes (fourNumber (valuesAt s (from + 4 * g)))
 
 -- from one place to the other stand fours of letters: their bytes, and then what the rest gives
 pub record LettersTo (s : List ℕ) (from to : ℕ) : Type 0 where

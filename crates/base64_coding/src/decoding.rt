@@ -10,7 +10,7 @@ ghost use mathlib.Core.Path.{_≡_};
 ghost use lib.ListN.{drop, length, take};
 ghost use lib.Seq.{sets};
 ghost use Rattle.base64.specs.Base64.{decode, oneByte, threeBytes, twoBytes};
-ghost use Rattle.base64_coding.specs.Contracts.{FitsAt, FourIs, LettersTo, Low, NextIs, TableIs, bufferWith, decodedSize, fourNumber, fourOf, fourSum, foursBytes, none, numberBytes};
+ghost use Rattle.base64_coding.specs.Contracts.{Bounded, FitsAt, FourIs, LettersTo, Low, NextIs, TableIs, bufferWith, decodedSize, fourNumber, fourOf, fourSum, foursBytes, none, numberBytes, valuesAt};
 
 // The next byte that is no white space, and the place after it.
 enum Next {
@@ -23,6 +23,14 @@ enum Next {
 enum Four {
     Bad,
     Bytes(usize, u8, u8, u8, usize),
+}
+
+// Four values.
+struct Values {
+    w: u32,
+    x: u32,
+    y: u32,
+    z: u32,
 }
 
 // How many bytes a text gives, or the number that it is refused with.
@@ -178,27 +186,33 @@ fn put_some(out: &mut [u8], n: usize, count: usize, x: u8, y: u8, z: u8)
 
 // ---- runs of letters
 
-// The sum of four characters' values: below 256 exactly where all four are letters.
-fn four_sum(s: &[u8], i: usize, values: &[u32; 128]) -> u32
+// The values of four characters.
+fn four_values(s: &[u8], i: usize, values: &[u32; 128]) -> Values
     requires { ⌜ (i + 4 ≤ length (now s)) × Low (now s) × TableIs (now values) ⌝ }
-    ensures { λ r. ⌜ r ≡ fourSum (now (s .entry)) i ⌝ }
+    ensures { λ r. ⌜ r ≡ valuesAt (now (s .entry)) i ⌝ }
 {
-    letter_value(s[i], values)
-        + letter_value(s[i + 1], values)
-        + letter_value(s[i + 2], values)
-        + letter_value(s[i + 3], values)
+    Values {
+        w: letter_value(s[i], values),
+        x: letter_value(s[i + 1], values),
+        y: letter_value(s[i + 2], values),
+        z: letter_value(s[i + 3], values),
+    }
 }
 
-// Four characters' values as the digits of one number: below `NONE` exactly where all four are letters.
-fn four_number(s: &[u8], i: usize, values: &[u32; 128]) -> u64
-    requires { ⌜ (i + 4 ≤ length (now s)) × Low (now s) × TableIs (now values) ⌝ }
-    ensures { λ r. ⌜ r ≡ fourNumber (now (s .entry)) i ⌝ }
+// Their sum: below 256 exactly where all four are letters.
+fn four_sum(v: Values) -> u32
+    requires { ⌜ Bounded v ⌝ }
+    ensures { λ r. ⌜ r ≡ fourSum v ⌝ }
 {
-    let w = letter_value(s[i], values) as u64;
-    let x = letter_value(s[i + 1], values) as u64;
-    let y = letter_value(s[i + 2], values) as u64;
-    let z = letter_value(s[i + 3], values) as u64;
-    ((w * 64 + x) * 64 + y) * 64 + z
+    v.w + v.x + v.y + v.z
+}
+
+// The number that they are the digits of: below `NONE` exactly where all four are letters.
+fn four_number(v: Values) -> u64
+    requires { ⌜ Bounded v ⌝ }
+    ensures { λ r. ⌜ r ≡ fourNumber v ⌝ }
+{
+    (((v.w as u64) * 64 + (v.x as u64)) * 64 + (v.y as u64)) * 64 + (v.z as u64)
 }
 
 // The three bytes of such a number.
@@ -222,7 +236,7 @@ fn fours_end(s: &[u8], from: usize, values: &[u32; 128]) -> usize
 {
     let mut i = from;
     while 4 <= s.len() - i {
-        if 256 <= four_sum(s, i, values) {
+        if 256 <= four_sum(four_values(s, i, values)) {
             return i;
         }
         i += 4;
@@ -239,7 +253,7 @@ fn write_fours(s: &[u8], from: usize, values: &[u32; 128], out: &mut [u8], n: us
     let mut i = from;
     let mut o = n;
     while 4 <= s.len() - i {
-        let number = four_number(s, i, values);
+        let number = four_number(four_values(s, i, values));
         if (NONE as u64) <= number {
             return i;
         }
