@@ -85,7 +85,7 @@ low-highest most (c ∷ s) h a = low-highest (cond (ltb most c) c most) s (go (l
     go true = a .0
     go false = h
 
--- "characters from 128 on are no letters", nor anything else that may stand in a text
+-- a character from 128 on is no letter, nor anything else that may stand in a text
 pub high-refused : (s : List ℕ) → 128 ≤ highestFrom 0 s → decode s ≡ bad 7
 high-refused s h = go (decode s) refl (decode-only s)
   where

@@ -11,7 +11,7 @@ use Rattle.base64_coding.proofs.Alphabet.{black, is-letter, no-pad, non
 use Rattle.base64_coding.proofs.Fours.{dense-keep, fours-plain}
 use Rattle.base64.specs.Base64.{decode, dense, fours, threeBytes}
 use Rattle.base64_coding.specs.Contracts.{Bounded, LettersTo, before, fourNumber, fourSum, foursBytes, letterValue, numberBytes, valueAt, valuesAt}
-use Rattle.base64_coding.specs.declared.decoding.Values.{Values}
+use Rattle.base64_coding.specs.declared.decoding.FourValues.{FourValues}
 use Rattle.table.proofs.Wrote.{sets-append}
 use Rattle.table.specs.Result.{Result, bad, good}
 
@@ -33,7 +33,7 @@ pub record FourLetters (s : List ℕ) (i : ℕ) : Type 0 where
   pub third : valueAt s (i + 2) < 64
   pub fourth : valueAt s (i + 3) < 64
 
-pub bounded : (s : List ℕ) (i : ℕ) (v : Values) → v ≡ valuesAt s i → Bounded v
+pub bounded : (s : List ℕ) (i : ℕ) (v : FourValues) → v ≡ valuesAt s i → Bounded v
 unfolding valuesAt
 bounded s i v e = subst Bounded (sym e) (value-most _ _ refl, value-most _ _ refl, value-most _ _ refl, value-most _ _ refl)
 

@@ -12,7 +12,7 @@ use Rattle.base64_coding.specs.declared.decoding.Four.the-variants as fo
 use Rattle.base64_coding.specs.declared.encoding.Letters.{Letters}
 use Rattle.base64_coding.specs.declared.decoding.Next.{Next}
 use Rattle.base64_coding.specs.declared.decoding.Next.the-variants as next
-use Rattle.base64_coding.specs.declared.decoding.Values.{Values}
+use Rattle.base64_coding.specs.declared.decoding.FourValues.{FourValues}
 use Rattle.base64_coding.specs.declared.decoding.DecodedSize.{DecodedSize}
 use Rattle.base64_coding.specs.declared.decoding.DecodedSize.the-variants as size
 use Rattle.table.specs.All.{All}
@@ -93,17 +93,19 @@ pub record FourIs (s : List ℕ) (i : ℕ) (r : Four) : Type 0 where
 abbrev pub valueAt : List ℕ → ℕ → ℕ
 valueAt s i = letterValue (getD s i 0)
 
-unfoldable pub valuesAt : List ℕ → ℕ → Values
+-- four of them from a place on
+unfoldable pub valuesAt : List ℕ → ℕ → FourValues
 valuesAt s i = record { w = valueAt s i; x = valueAt s (i + 1); y = valueAt s (i + 2); z = valueAt s (i + 3) }
 
-abbrev pub Bounded : Values → Type 0
+-- none is over what stands for no letter
+abbrev pub Bounded : FourValues → Type 0
 Bounded v = (v .w ≤ none) × (v .x ≤ none) × (v .y ≤ none) × (v .z ≤ none)
 
-abbrev pub fourSum : Values → ℕ
+abbrev pub fourSum : FourValues → ℕ
 fourSum v = v .w + v .x + v .y + v .z
 
 -- four values as the digits of one number
-abbrev pub fourNumber : Values → ℕ
+abbrev pub fourNumber : FourValues → ℕ
 fourNumber v = ((v .w * 64 + v .x) * 64 + v .y) * 64 + v .z
 
 -- its three bytes

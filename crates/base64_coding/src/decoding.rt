@@ -25,8 +25,8 @@ enum Four {
     Bytes(usize, u8, u8, u8, usize),
 }
 
-// Four values.
-struct Values {
+// The values of four characters.
+struct FourValues {
     w: u32,
     x: u32,
     y: u32,
@@ -186,12 +186,12 @@ fn put_some(out: &mut [u8], n: usize, count: usize, x: u8, y: u8, z: u8)
 
 // ---- runs of letters
 
-// The values of four characters.
-fn four_values(s: &[u8], i: usize, values: &[u32; 128]) -> Values
+// Four characters looked up.
+fn four_values(s: &[u8], i: usize, values: &[u32; 128]) -> FourValues
     requires { ⌜ (i + 4 ≤ length (now s)) × Low (now s) × TableIs (now values) ⌝ }
     ensures { λ r. ⌜ r ≡ valuesAt (now (s .entry)) i ⌝ }
 {
-    Values {
+    FourValues {
         w: letter_value(s[i], values),
         x: letter_value(s[i + 1], values),
         y: letter_value(s[i + 2], values),
@@ -200,7 +200,7 @@ fn four_values(s: &[u8], i: usize, values: &[u32; 128]) -> Values
 }
 
 // Their sum: below 256 exactly where all four are letters.
-fn four_sum(v: Values) -> u32
+fn four_sum(v: FourValues) -> u32
     requires { ⌜ Bounded v ⌝ }
     ensures { λ r. ⌜ r ≡ fourSum v ⌝ }
 {
@@ -208,7 +208,7 @@ fn four_sum(v: Values) -> u32
 }
 
 // The number that they are the digits of: below `NONE` exactly where all four are letters.
-fn four_number(v: Values) -> u64
+fn four_number(v: FourValues) -> u64
     requires { ⌜ Bounded v ⌝ }
     ensures { λ r. ⌜ r ≡ fourNumber v ⌝ }
 {
