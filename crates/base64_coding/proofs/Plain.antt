@@ -38,23 +38,16 @@ unfolding valuesAt
 bounded s i v e = subst Bounded (sym e) (value-most _ _ refl, value-most _ _ refl, value-most _ _ refl, value-most _ _ refl)
 
 module _ (s : List ℕ) (i : ℕ) where
+  all-letters : valueAt s i < 16777216 → valueAt s (i + 1) < 16777216 → valueAt s (i + 2) < 16777216 → valueAt s (i + 3) < 16777216 → FourLetters s i
+  all-letters a b c d = record { first = none-or-small _ a; second = none-or-small _ b; third = none-or-small _ c; fourth = none-or-small _ d }
+
   pub by-sum : (sum : ℕ) → sum ≡ fourSum (valuesAt s i) → sum < 256 → FourLetters s i
   unfolding valuesAt
-  by-sum sum e h = record {
-    first = none-or-small _ (omega arith);
-    second = none-or-small _ (omega arith);
-    third = none-or-small _ (omega arith);
-    fourth = none-or-small _ (omega arith);
-  }
+  by-sum sum e h = all-letters (omega arith) (omega arith) (omega arith) (omega arith)
 
   pub by-number : (number : ℕ) → number ≡ fourNumber (valuesAt s i) → number < 16777216 → FourLetters s i
   unfolding valuesAt
-  by-number number e h = record {
-    first = none-or-small _ (omega arith);
-    second = none-or-small _ (omega arith);
-    third = none-or-small _ (omega arith);
-    fourth = none-or-small _ (omega arith);
-  }
+  by-number number e h = all-letters (omega arith) (omega arith) (omega arith) (omega arith)
 
 -- four values below 64, as three bytes and as one number
 digits : (w x y z : ℕ) → w < 64 → x < 64 → y < 64 → z < 64
