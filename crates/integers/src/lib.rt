@@ -26,7 +26,7 @@ pub fn four_bytes(s: &[u8], at: usize) -> u32
 }
 
 // Two halves, which the compiler makes one load.
-fn eight_bytes(s: &[u8], at: usize) -> u64
+pub fn eight_bytes(s: &[u8], at: usize) -> u64
     requires { ⌜ at + 8 ≤ length (now s) ⌝ }
     ensures { λ r. ⌜ r ≡ ofDigits 256 0 (take 8 (drop at (now (s .entry)))) ⌝ }
 {
@@ -139,7 +139,7 @@ pub fn put_four(out: &mut [u8], at: usize, x: u32) -> usize
     put_two(out, middle, (x % 65536) as u16)
 }
 
-fn put_eight(out: &mut [u8], at: usize, x: u64) -> usize
+pub fn put_eight(out: &mut [u8], at: usize, x: u64) -> usize
     requires { ⌜ at + 8 ≤ length (now out) ⌝ }
     ensures { λ r. ⌜ Wrote (now (out .entry)) at (toDigits 256 8 x) (now (out .exit)) r ⌝ }
 {

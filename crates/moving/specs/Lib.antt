@@ -1,0 +1,3 @@
+pub mod Puts
+pub mod Contents
+pub mod Cells
