@@ -19,7 +19,7 @@ use Rattle.number.specs.Number.{toDigits}
 use Rattle.row_reading.proofs.Parts.{RowRead, read-end}
 use Rattle.row_reading.specs.Contracts.{flagsIn}
 use Rattle.row_writing.proofs.HeldForm.{FewCells, held-form, held-row-more, held-within, heldRow}
-use Rattle.row_writing.proofs.RowForm.{join, nullBits, row-form, start-bytes}
+use Rattle.row_writing.proofs.RowForm.{join, join-assoc, join-end, join-nil, nullBits, nulls-more, row-form, start-bytes, unroll-write}
 use Rattle.row_writing.specs.Contracts.{FewIn, HeldReady, HeldWithin, heldCell, heldNext, mostCellBytes, putForm, rowBytes, rowForm, startBytes}
 use Rattle.row_writing.specs.declared.Holding.{Holding}
 use Rattle.rows.specs.Stream.{writeCell, writeCells, writeEnd, writeRow}
@@ -35,20 +35,6 @@ use Rattle.table.specs.declared.Size.{Size}
 
 -- ---- the bytes of cells one behind the other
 
-join-nil : (w : Result Refusal (List ℕ)) → w ≡ join (good []) w
-join-nil (good b) = refl
-join-nil (bad e) = refl
-
-join-end : (w : Result Refusal (List ℕ)) → join w (good []) ≡ w
-join-end (good b) = ap good (append-nil b)
-join-end (bad e) = refl
-
-join-assoc : (a b c : Result Refusal (List ℕ)) → join a (join b c) ≡ join (join a b) c
-join-assoc (bad e) b c = refl
-join-assoc (good xs) (bad e) c = refl
-join-assoc (good xs) (good ys) (bad e) = refl
-join-assoc (good xs) (good ys) (good zs) = ap good (sym (append-assoc xs ys zs))
-
 -- the length of bytes, or the refusal
 abbrev pub lengthOf : Result Refusal (List ℕ) → Result Refusal ℕ
 lengthOf r = r >>= λ b. good (length b)
@@ -61,10 +47,6 @@ length-join (bad e) v = refl
 length-as : (i : ℕ) (x : Result ℕ (List ℕ)) → refusedAs (at i) (sizeOf x) ≡ lengthOf (refusedAs (at i) x)
 length-as i (good b) = refl
 length-as i (bad n) = refl
-
-nulls-more : (acc : List Cell) (x : Cell) → nullBits acc ++ (flagBit (isNull x) ∷ []) ≡ nullBits (acc ++ (x ∷ []))
-nulls-more [] x = refl
-nulls-more (y ∷ acc) x = ap (λ (l : List ℕ). flagBit (isNull y) ∷ l) (nulls-more acc x)
 
 few-more : (cs : List Column) (xs : List Cell) (c : Column) (more : List Column) (x : Cell) → FewCells cs xs → drop (length xs) cs ≡ c ∷ more → FewIn c x → FewCells cs (xs ++ (x ∷ []))
 few-more [] [] c more x f e g = absurd (omega (arith, ap length e))
@@ -126,11 +108,6 @@ module _ (to : Rows) (cols : List Column) where
     held = refl;
   }
 
-  unroll-write : (c : Column) (i : ℕ) (x : Cell) (xs : List Cell) → drop i cols ≡ c ∷ drop (suc i) cols
-      → writeCells to (drop i cols) (x ∷ xs) i ≡ join (refusedAs (at i) (writeCell to c x)) (writeCells to (drop (suc i) cols) xs (i + 1))
-  unfolding writeCells
-  unroll-write c i x xs e = rw e
-
   pub measured-more : (acc : List Cell) (entry exit : List ℤ) (m q : Measured) (i : ℕ) → RowMeasured to cols acc entry m i
       → (c : Column) → drop i cols ≡ c ∷ drop (suc i) cols → (x : Cell) → Grown to c i m x entry exit q → RowMeasured to cols (acc ++ (x ∷ [])) exit q (i + 1)
   measured-more acc entry exit m q i inv c e x g =
@@ -141,7 +118,7 @@ module _ (to : Rows) (cols : List Column) where
         writes = λ xs.
             ap (λ (l : List Cell). writeCells to cols l 0) (append-assoc acc (x ∷ []) xs)
             ∙ inv .writes (x ∷ xs)
-            ∙ ap (join (inv .w)) (unroll-write c i x xs e)
+            ∙ ap (join (inv .w)) (unroll-write to cols c i x xs e)
             ∙ join-assoc (inv .w) (refusedAs (at i) (writeCell to c x)) (writeCells to (drop (suc i) cols) xs (i + 1))
             ∙ rw dc;
         says =

@@ -1,3 +1,4 @@
 pub mod Puts
 pub mod Contents
 pub mod Cells
+pub mod Rows

@@ -5,7 +5,7 @@ use native.Mathlib.Nat.{add-zero, le-refl}
 use native.Mathlib.Numerals.{add-one}
 use native.Mathlib.Omega.{arith}
 use mathlib.Core.Bool.{Bool}
-use mathlib.Core.List.{List, [], _++_, _∷_, map}
+use mathlib.Core.List.{List, [], _++_, _∷_, append-assoc, append-nil, map}
 use mathlib.Core.Path.{_∙_, _≡_, ap, ap₂, refl, sym}
 use lib.ListN.{drop, drop-of-length-le, length, length-append}
 use lib.Seq.{length-sets, sets}
@@ -31,6 +31,26 @@ use Rattle.tabledata.proofs.Laws.{text-bytes}
 -- the bytes of cells one behind the other, or the first refusal
 abbrev pub join : Result Refusal (List ℕ) → Result Refusal (List ℕ) → Result Refusal (List ℕ)
 join a b = a >>= λ x. b >>= λ y. good (x ++ y)
+
+pub join-nil : (w : Result Refusal (List ℕ)) → w ≡ join (good []) w
+join-nil (good b) = refl
+join-nil (bad e) = refl
+
+pub join-end : (w : Result Refusal (List ℕ)) → join w (good []) ≡ w
+join-end (good b) = ap good (append-nil b)
+join-end (bad e) = refl
+
+pub join-assoc : (a b c : Result Refusal (List ℕ)) → join a (join b c) ≡ join (join a b) c
+join-assoc (bad e) b c = refl
+join-assoc (good xs) (bad e) c = refl
+join-assoc (good xs) (good ys) (bad e) = refl
+join-assoc (good xs) (good ys) (good zs) = ap good (sym (append-assoc xs ys zs))
+
+-- the cells from column i on, where that column is c
+pub unroll-write : (to : Rows) (cols : List Column) (c : Column) (i : ℕ) (x : Cell) (xs : List Cell) → drop i cols ≡ c ∷ drop (suc i) cols
+    → writeCells to (drop i cols) (x ∷ xs) i ≡ join (refusedAs (at i) (writeCell to c x)) (writeCells to (drop (suc i) cols) xs (i + 1))
+unfolding writeCells
+unroll-write to cols c i x xs e = rw e
 
 -- ---- cells that are written
 
@@ -159,6 +179,10 @@ module _ {A : Type 0} (take-next : Column → Bool → List A → Result ℕ (Ce
 -- the flags of cells: 1 for null
 abbrev pub nullBits : List Cell → List ℕ
 nullBits xs = map flagBit (map isNull xs)
+
+pub nulls-more : (acc : List Cell) (x : Cell) → nullBits acc ++ (flagBit (isNull x) ∷ []) ≡ nullBits (acc ++ (x ∷ []))
+nulls-more [] x = refl
+nulls-more (y ∷ acc) x = ap (λ (l : List ℕ). flagBit (isNull y) ∷ l) (nulls-more acc x)
 
 -- ---- the word of the null cells
 

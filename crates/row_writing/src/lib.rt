@@ -60,7 +60,7 @@ pub fn size_cell(to: Rows, column: Column, null: bool, count: usize, scratch: &[
 }
 
 // A cell at a place of the output; the place after it.
-fn write_cell(
+pub fn write_cell(
     to: Rows,
     column: Column,
     null: bool,
@@ -80,7 +80,7 @@ fn write_cell(
     }
 }
 
-fn start_size(to: Rows, count: usize) -> usize
+pub fn start_size(to: Rows, count: usize) -> usize
     requires { ⌜ count ≤ 64 ⌝ }
     ensures { λ r. ⌜ (r ≤ 8) × ((nulls : ℕ) → length (startBytes to count nulls) ≡ r) ⌝ }
 {
@@ -92,7 +92,7 @@ fn start_size(to: Rows, count: usize) -> usize
 }
 
 // What begins a row, at a place of the output; the place after it.
-fn write_start(to: Rows, count: usize, nulls: u64, out: &mut [u8], at: usize) -> usize
+pub fn write_start(to: Rows, count: usize, nulls: u64, out: &mut [u8], at: usize) -> usize
     requires { ⌜ (at + length (startBytes to count nulls) ≤ length (now out)) × (count ≤ 64) ⌝ }
     ensures { λ r. ⌜ Wrote (now (out .entry)) at (startBytes to count nulls) (now (out .exit)) r ⌝ }
 {
@@ -114,7 +114,7 @@ fn end_size(to: Rows) -> usize
 }
 
 // What ends a row.
-fn write_end(to: Rows, out: &mut [u8], at: usize) -> usize
+pub fn write_end(to: Rows, out: &mut [u8], at: usize) -> usize
     requires { ⌜ at + length (writeEnd to) ≤ length (now out) ⌝ }
     ensures { λ r. ⌜ Wrote (now (out .entry)) at (writeEnd to) (now (out .exit)) r ⌝ }
 {

@@ -1,0 +1,433 @@
+-- row_moving::move_rows: rows made in the buffer and copied. Over columns: what is read of the row is what has been read and what is still to come
+-- (RowRead), and its cells stand in the buffer as they are written (RowMoved). Over rows: some rows more are done (MovesRows). A way out gives back
+-- what was done before.
+use Prim.Native.Nat.{_+_, _-_, _<_, _≤_, suc, ℕ}
+use mathlib.Core.Bool.{false}
+use mathlib.Core.List.{List, _++_, _∷_}
+use mathlib.Core.Path.{_∙_, _≡_, ap, refl, subst, sym}
+use lib.ListN.{drop, getD, length, length-append, take}
+use lib.Seq.{length-take-le, sets}
+use denote.Ref.{now}
+use native.Mathlib.Nat.{le-refl}
+use native.Mathlib.Omega.{arith}
+use borrow.Author.Needs.{needs}
+use Rattle.moving.proofs.Rows.{row-done, row-left}
+use Rattle.moving.specs.Cells.{CellMoved, MovesCell}
+use Rattle.moving.specs.Rows.{MovesRows, RowsDone}
+use Rattle.row_moving.proofs.Moving.{RowMoved, moved-more, moved-row, moved-start, start-most}
+use Rattle.row_moving.specs.Contracts.{FramedAs}
+use Rattle.row_reading.proofs.Parts.{RowRead, begun-within, cells-closed, closed-within, listed-bound}
+use Rattle.row_reading.proofs.Parts.{read-end, read-more, read-start, row-begun, row-onward}
+use Rattle.row_reading.specs.Contracts.{cellsEnd, flagsIn}
+use Rattle.row_writing.specs.Contracts.{startBytes}
+use Rattle.rows.specs.Bounds.{Within}
+use Rattle.rows.specs.Stream.{readRow, writeEnd, writeRow}
+use Rattle.table.proofs.ColumnList.{listed-length, listed-next}
+use Rattle.table.proofs.Wrote.{wrote-long}
+use Rattle.table.specs.ColumnList.{listed, noColumn}
+use Rattle.table.specs.Result.{good}
+use Rattle.table.specs.declared.Column.{Column}
+use Rattle.table.specs.declared.Columns.{Columns}
+use Rattle.table.specs.declared.Rows.{Rows}
+use Rattle.row_moving.proofs.move_rows.Statement.{statement}
+use Rattle.row_moving.proofs.move_rows.Tie as tie
+
+abbrev Inv-loop : tie.InvT-loop
+Inv-loop from to s out scratch₀ row₀ cols count first place rows bytes flags body at₀ end₀ nulls₀ i₀ scratch row at end nulls i =
+    (k : RowRead from (listed cols) (flagsIn from count flags) s body at i) × RowMoved to (listed cols) (k .acc) row₀ first row end nulls i × (length scratch ≡ length scratch₀)
+
+abbrev μ-loop : tie.MeasureT-loop
+μ-loop from to s out scratch₀ row₀ cols count first place rows bytes flags body at₀ end₀ nulls₀ i₀ scratch row at end nulls i = count - i
+
+abbrev Inv-rows : tie.InvT-rows
+Inv-rows from to s out₀ scratch₀ row₀ cols count first place₀ rows₀ bytes₀ out scratch row place rows bytes =
+    MovesRows from to (listed cols) s out₀ place₀ rows₀ bytes₀ out place rows bytes × (length scratch ≡ length scratch₀) × (length row ≡ length row₀)
+
+abbrev μ-rows : tie.MeasureT-rows
+μ-rows from to s out₀ scratch₀ row₀ cols count first place₀ rows₀ bytes₀ out scratch row place rows bytes = length s - place
+
+-- ---- the places on the way, and what is known there
+
+-- at the loop over rows
+abbrev AtRows : Type 0
+AtRows = tie.At-rows Inv-loop μ-loop Inv-rows μ-rows
+
+-- before the loop over columns
+abbrev Begun : Type 0
+Begun = tie.After-known-told2 Inv-loop μ-loop Inv-rows μ-rows
+
+-- in the loop over columns
+abbrev Turning : Type 0
+Turning = tie.In-loop Inv-loop μ-loop Inv-rows μ-rows
+
+-- behind it
+abbrev MovedAll : Type 0
+MovedAll = tie.After-loop Inv-loop μ-loop Inv-rows μ-rows
+
+-- the row reads
+abbrev Ended : Type 0
+Ended = tie.After-known-told4 Inv-loop μ-loop Inv-rows μ-rows
+
+-- and stands in the buffer
+abbrev Framed : Type 0
+Framed = tie.After-known-told5 Inv-loop μ-loop Inv-rows μ-rows
+
+abbrev begin : AtRows → tie.Start Inv-loop μ-loop Inv-rows μ-rows
+begin r = r .before .before .before .before .before
+
+abbrev from-at : AtRows → Rows
+from-at r = begin r .args .from
+
+abbrev to-at : AtRows → Rows
+to-at r = begin r .args .to
+
+abbrev cols-at : AtRows → Columns
+cols-at r = begin r .args .t1
+
+abbrev s-at : AtRows → List ℕ
+s-at r = now (begin r .args .s)
+
+are : (r : AtRows) → Within (listed (cols-at r))
+are r = begin r .pre .0 .0
+
+few : (r : AtRows) → cols-at r .count ≤ 64
+few r = omega (arith, are r .few, listed-length (cols-at r))
+
+abbrev rows-of : Begun → AtRows
+rows-of b = b .before .before .before .before
+
+abbrev flags-at : Begun → ℕ
+flags-at b = b .before .b2 .given .0 .0
+
+abbrev body-at : Begun → ℕ
+body-at b = b .before .b2 .given .0 .1 .0
+
+begun : (b : Begun) → readRow (from-at (rows-of b)) (listed (cols-at (rows-of b))) (drop (rows-of b .rows .place) (s-at (rows-of b)))
+    ≡ cellsEnd (from-at (rows-of b)) (listed (cols-at (rows-of b))) (flagsIn (from-at (rows-of b)) (cols-at (rows-of b) .count) (flags-at b)) (drop (body-at b) (s-at (rows-of b)))
+begun b =
+    let r = rows-of b in
+    let g = b .before .before .before .begin-row in
+    row-begun (from-at r) (listed (cols-at r)) (cols-at r .count) (listed-length (cols-at r)) (s-at r) (r .rows .place) (g .result) (g .ensures) (flags-at b) (body-at b) (b .before .b2 .given .1)
+
+within : (b : Begun) → (rows-of b .rows .place ≤ body-at b) × (body-at b ≤ length (s-at (rows-of b)))
+within b =
+    let r = rows-of b in
+    let g = b .before .before .before .begin-row in
+    begun-within (from-at r) (listed (cols-at r)) (cols-at r .count) (listed-length (cols-at r)) (s-at r) (r .rows .place) (g .result) (g .ensures) (flags-at b) (body-at b) (b .before .b2 .given .1)
+
+-- the room that what begins a row takes
+starts : (r : AtRows) (nulls : ℕ) → length (startBytes (to-at r) (cols-at r .count) nulls) ≡ r .before .start-size .result
+starts r nulls = r .before .start-size .ensures .1 nulls
+
+roomy : (r : AtRows) → r .before .start-size .result ≤ length (r .rows .row)
+roomy r = omega (arith, r .before .start-size .ensures .0, r .rows .inv .2, begin r .pre .0 .2)
+
+-- the column of the turn
+abbrev column-at : Turning → Column
+column-at t = getD (cols-at (rows-of (t .before .before)) .list) (t .before .loop .i) noColumn
+
+next-column : (t : Turning) → drop (t .before .loop .i) (listed (cols-at (rows-of (t .before .before))))
+    ≡ column-at t ∷ drop (suc (t .before .loop .i)) (listed (cols-at (rows-of (t .before .before))))
+next-column t = listed-next (cols-at (rows-of (t .before .before))) (t .before .loop .i) (t .loop-test .taken)
+
+-- ---- a row that was moved whole
+
+abbrev all-of : Ended → MovedAll
+all-of e = e .before .before .before .before
+
+abbrev begun-of : Ended → Begun
+begun-of e = all-of e .before .before
+
+abbrev next-at : Ended → ℕ
+next-at e = e .before .next .given .0 .0
+
+past : (a : MovedAll) → length (listed (cols-at (rows-of (a .before .before)))) ≤ a .before .loop .i
+past a = omega (arith, listed-length (cols-at (rows-of (a .before .before))), a .loop-test .left)
+
+whole : (e : Ended) → readRow (from-at (rows-of (begun-of e))) (listed (cols-at (rows-of (begun-of e)))) (drop (rows-of (begun-of e) .rows .place) (s-at (rows-of (begun-of e))))
+    ≡ good (all-of e .before .loop .inv .0 .acc, drop (next-at e) (s-at (rows-of (begun-of e))))
+whole e =
+    let a = all-of e in
+    let b = begun-of e in
+    let r = rows-of b in
+    let l = a .before .loop in
+    let z = e .before .before .before .end-row in
+    let q = read-end (from-at r) (listed (cols-at r)) _ (s-at r) (body-at b) (l .at) (l .i) (l .inv .0) (past a) in
+    begun b ∙ cells-closed (from-at r) (listed (cols-at r)) _ (s-at r) (body-at b) _ _ q (z .result) (z .ensures) (next-at e) (e .before .next .given .1)
+
+-- and moves on
+onward : (e : Ended) → (rows-of (begun-of e) .rows .place < next-at e) × (next-at e ≤ length (s-at (rows-of (begun-of e))))
+onward e =
+    let r = rows-of (begun-of e) in
+    let z = e .before .before .before .end-row in
+    let w = closed-within (from-at r) (s-at r) (all-of e .before .loop .at) (z .result) (z .ensures) (next-at e) (e .before .next .given .1) in
+    (row-onward (from-at r) (listed (cols-at r)) (s-at r) (r .rows .place) (next-at e) _ (are r) (whole e) (w .1), w .1)
+
+-- ---- its bytes, in the buffer
+
+abbrev ended-of : Framed → Ended
+ended-of f = f .before .before .before .before .before .before .before
+
+abbrev size-at : Framed → ℕ
+size-at f = f .before .size .given .0 .0
+
+abbrev framed-row : Framed → List ℕ
+framed-row f = f .before .before .before .before .before .frame-row .last .1 .1 .1 .0
+
+abbrev row-bytes : Framed → List ℕ
+row-bytes f =
+    let l = all-of (ended-of f) .before .loop in
+    let r = rows-of (begun-of (ended-of f)) in
+    startBytes (to-at r) (cols-at r .count) (l .nulls) ++ (l .inv .1 .w ++ writeEnd (to-at r))
+
+written-at : (f : Framed) → writeRow (to-at (rows-of (begun-of (ended-of f)))) (listed (cols-at (rows-of (begun-of (ended-of f))))) (all-of (ended-of f) .before .loop .inv .0 .acc) ≡ good (row-bytes f)
+written-at f =
+    let a = all-of (ended-of f) in
+    let l = a .before .loop in
+    let r = rows-of (begun-of (ended-of f)) in
+    moved-row (to-at r) (listed (cols-at r)) (l .inv .0 .acc) _ _ _ _ (l .nulls) (l .i) (cols-at r .count) (l .inv .1) (past a)
+    (omega (arith, past a, l .inv .0 .upto, listed-length (cols-at r)))
+
+stands : (f : Framed) → (size-at f ≤ length (framed-row f)) × (take (size-at f) (framed-row f) ≡ row-bytes f)
+stands f =
+    let l = all-of (ended-of f) .before .loop in
+    let r = rows-of (begun-of (ended-of f)) in
+    let k = subst (FramedAs (to-at r) (cols-at r .count) (l .nulls) (l .row) (l .end) (framed-row f)) (f .before .size .given .1) (f .before .before .before .before .before .frame-row .ensures .framed) in
+    (k .0, k .1 (l .inv .1 .w) (take (r .before .start-size .result) (r .rows .row)) (l .inv .1 .puts .front) (length-take-le _ (r .rows .row) (roomy r) ∙ sym (starts r (l .nulls))))
+
+as-many : (f : Framed) → length (row-bytes f) ≡ size-at f
+as-many f = ap length (sym (stands f .1)) ∙ length-take-le (size-at f) (framed-row f) (stands f .0)
+
+-- ---- the loop over rows
+
+start-size-requires : tie.Need-start-size-requires Inv-loop μ-loop Inv-rows μ-rows
+start-size-requires c κs = omega (arith, c .before .before .before .pre .0 .0 .few, listed-length (c .before .before .before .args .t1))
+
+rows-holds : tie.Need-rows-holds Inv-loop μ-loop Inv-rows μ-rows
+rows-holds c =
+    let a = c .before .before .before .before in
+    (record { inside = a .pre .1 .0; fewer = a .pre .1 .1; room = a .pre .1 .2; long = refl; onward = le-refl _; further = λ out₀ d. d }, refl, refl)
+
+begin-row-requires : tie.Need-begin-row-requires Inv-loop μ-loop Inv-rows μ-rows
+begin-row-requires c κs = (c .rows .inv .0 .inside, omega (arith, are c .some, listed-length (cols-at c)), few c)
+
+-- ---- the loop over columns
+
+loop-holds : tie.Need-loop-holds Inv-loop μ-loop Inv-rows μ-rows
+unfolding read-start
+loop-holds c =
+    let r = rows-of c in
+    (read-start (from-at r) (listed (cols-at r)) _ (s-at r) (body-at c) (within c .1), moved-start (to-at r) (listed (cols-at r)) (r .rows .row) _ (roomy r), refl)
+
+mul-c : tie.Need-mul-c Inv-loop μ-loop Inv-rows μ-rows
+mul-c c = omega (arith, few (rows-of (c .before .before)), c .loop-test .taken)
+
+element-copy-out-c : tie.Need-element-copy-out-c Inv-loop μ-loop Inv-rows μ-rows
+element-copy-out-c c = omega (arith, few (rows-of (c .before .before)), c .loop-test .taken)
+
+flag-of-requires : tie.Need-flag-of-requires Inv-loop μ-loop Inv-rows μ-rows
+flag-of-requires c κs = (c .before .loop-test .taken, few (rows-of (c .before .before .before)))
+
+move-cell-requires : tie.Need-move-cell-requires Inv-loop μ-loop Inv-rows μ-rows
+move-cell-requires c κs =
+    let t = c .before .before .before .before in
+    let l = t .before .loop in
+    let r = rows-of (t .before .before) in (
+      l .inv .0 .inside,
+      listed-bound (cols-at r) (l .i) (are r) (t .loop-test .taken),
+      omega (arith, l .inv .2, r .rows .inv .1, begin r .pre .0 .1),
+      omega (arith, l .inv .1 .puts .room, l .inv .1 .puts .long),
+    )
+
+add-flag-requires : tie.Need-add-flag-requires Inv-loop μ-loop Inv-rows μ-rows
+add-flag-requires c κs =
+    let t = c .before .before .before .before .before .before .before .before .before .before .before in
+    omega (arith, few (rows-of (t .before .before)), t .loop-test .taken)
+
+abbrev turn-of : tie.After-add-flag Inv-loop μ-loop Inv-rows μ-rows → Turning
+turn-of c = c .before .before .before .before .before .before .before .before .before .before .before .before
+
+add-i : tie.Need-add-i Inv-loop μ-loop Inv-rows μ-rows
+add-i c = let t = turn-of c in omega (arith, few (rows-of (t .before .before)), t .loop-test .taken)
+
+loop-less : tie.Need-loop-less Inv-loop μ-loop Inv-rows μ-rows
+loop-less c = omega (arith, turn-of c .loop-test .taken)
+
+loop-again : tie.Need-loop-again Inv-loop μ-loop Inv-rows μ-rows
+unfolding read-more
+loop-again c =
+    let t = turn-of c in
+    let l = t .before .loop in
+    let b = t .before .before in
+    let r = rows-of b in
+    let f = c .before .before .before .before .before .before .before .before .before .before .flag-of in
+    let m = c .before .before .before .before .before .before .before .move-cell in
+    let x = subst (MovesCell (from-at r) (to-at r) (column-at t) (f .result) (s-at r) (l .at) (l .row) (l .end) _) (c .before .before .moved .given .1) (m .ensures .0) in (
+      read-more (from-at r) (listed (cols-at r)) _ (s-at r) (body-at b) (l .at) (l .i) (l .inv .0) (column-at t) (next-column t) (f .result) (f .ensures) (x .cell) _
+          (omega (arith, listed-length (cols-at r), t .loop-test .taken)) (x .reads) (x .onward) (x .inside),
+      moved-more (to-at r) (listed (cols-at r)) (l .inv .0 .acc) _ _ (l .row) (l .end) (l .nulls) (l .i) (l .inv .1) (column-at t) (next-column t) (from-at r) (f .result) (s-at r) (l .at) _ _ _ _ x _
+          (c .add-flag .ensures),
+      m .ensures .1 ∙ l .inv .2,
+    )
+
+end-row-requires : tie.Need-end-row-requires Inv-loop μ-loop Inv-rows μ-rows
+end-row-requires c κs = c .before .loop .inv .0 .inside
+
+-- ---- a row more
+
+frame-row-requires : tie.Need-frame-row-requires Inv-loop μ-loop Inv-rows μ-rows
+frame-row-requires c κs =
+    let e = c .before in
+    let l = all-of e .before .loop in
+    let r = rows-of (begun-of e) in
+    (few r, omega (arith, l .inv .1 .puts .long, r .rows .inv .2, begin r .pre .0 .2), omega (arith, l .inv .1 .puts .room, l .inv .1 .puts .long))
+
+sub-if1 : tie.Need-sub-if1 Inv-loop μ-loop Inv-rows μ-rows
+sub-if1 c = rows-of (begun-of (ended-of c)) .rows .inv .0 .room
+
+put-row-requires : tie.Need-put-row-requires Inv-loop μ-loop Inv-rows μ-rows
+put-row-requires c κs =
+    let f = c .before .before .before in
+    (stands f .0, omega (arith, c .before .before .if1 .left, rows-of (begun-of (ended-of f)) .rows .inv .0 .room))
+
+abbrev framed-of : tie.After-slice-known5 Inv-loop μ-loop Inv-rows μ-rows → Framed
+framed-of c = c .before .before .before .before .before .before
+
+add-rows : tie.Need-add-rows Inv-loop μ-loop Inv-rows μ-rows
+add-rows c =
+    let e = ended-of (framed-of c) in
+    let r = rows-of (begun-of e) in
+    omega (arith, r .rows .inv .0 .fewer, onward e .0, onward e .1, begin r .good)
+
+rows-less : tie.Need-rows-less Inv-loop μ-loop Inv-rows μ-rows
+rows-less c = let e = ended-of (framed-of c) in omega (arith, onward e .0, onward e .1)
+
+rows-again : tie.Need-rows-again Inv-loop μ-loop Inv-rows μ-rows
+rows-again c =
+    let f = framed-of c in
+    let e = ended-of f in
+    let b = begun-of e in
+    let r = rows-of b in
+    let l = all-of e .before .loop in
+    let i = r .rows .inv .0 in
+    let o = onward e in
+    let p = c .before .before .put-row .ensures in
+    let fits = c .before .before .before .before .before .if1 .left in
+    let g = f .before .before .before .before .before .frame-row .ensures in (
+      record {
+        inside = o .1;
+        fewer = omega (arith, i .fewer, o .0);
+        room = omega (arith, wrote-long p, p .next-is, ap length (stands f .1), as-many f, fits, i .room);
+        long = wrote-long p ∙ i .long;
+        onward = omega (arith, i .onward, o .0);
+        further = λ out₀ d. row-done (from-at r) (to-at r) (listed (cols-at r)) (are r) (s-at r) out₀ (r .rows .out) (r .rows .place) (r .rows .rows) (r .rows .bytes) (i .further out₀ d)
+            (row-left (from-at r) (listed (cols-at r)) _ _ _ (are r) (whole e)) (l .inv .0 .acc) _ (whole e) (row-bytes f) (written-at f) (omega (arith, as-many f, fits)) (next-at e) refl (o .0) (o .1) _
+            (p .now-is ∙ ap (sets (r .rows .out) (r .rows .bytes)) (stands f .1)) _ _ _ refl refl (p .next-is ∙ ap (λ (k : List ℕ). r .rows .bytes + length k) (stands f .1));
+      },
+      l .inv .2 ∙ r .rows .inv .1,
+      g .long ∙ l .inv .1 .puts .long ∙ r .rows .inv .2,
+    )
+
+-- ---- the ways out: what was done before is handed out, and every buffer is as long as it was
+
+returns : tie.Need-returns Inv-loop μ-loop Inv-rows μ-rows
+returns c = let r = c .before .before .before .before in (r .rows .inv .0, (r .rows .inv .1, r .rows .inv .2))
+
+-- a cell that was not moved
+abbrev unmoved : tie.After-enum-told Inv-loop μ-loop Inv-rows μ-rows → Turning
+unmoved c = c .before .before .before .before .before .before .before .before .before .before
+
+unmoved-scratch : tie.Need-same-length-5 Inv-loop μ-loop Inv-rows μ-rows
+unmoved-scratch c =
+    let t = unmoved c in
+    c .before .before .before .before .before .move-cell .ensures .1 ∙ t .before .loop .inv .2 ∙ rows-of (t .before .before) .rows .inv .1
+
+unmoved-row : tie.Need-same-length-6 Inv-loop μ-loop Inv-rows μ-rows
+unmoved-row c =
+    let t = unmoved c in
+    let l = t .before .loop in
+    let r = rows-of (t .before .before) in
+    let x = subst (MovesCell (from-at r) (to-at r) (column-at t) _ (s-at r) (l .at) (l .row) (l .end) _) (c .enum-told .given .1) (c .before .before .before .before .before .move-cell .ensures .0) in
+    x .long ∙ l .inv .1 .puts .long ∙ r .rows .inv .2
+
+returns-2 : tie.Need-returns-2 Inv-loop μ-loop Inv-rows μ-rows
+returns-2 c = (rows-of (unmoved c .before .before) .rows .inv .0, (unmoved-scratch c, unmoved-row c))
+
+-- behind the loop over columns
+loop-scratch : (a : MovedAll) → length (a .before .loop .scratch) ≡ length (now (begin (rows-of (a .before .before)) .args .scratch))
+loop-scratch a = a .before .loop .inv .2 ∙ rows-of (a .before .before) .rows .inv .1
+
+loop-row : (a : MovedAll) → length (a .before .loop .row) ≡ length (now (begin (rows-of (a .before .before)) .args .row))
+loop-row a = a .before .loop .inv .1 .puts .long ∙ rows-of (a .before .before) .rows .inv .2
+
+-- a row that does not end
+returns-3 : tie.Need-returns-3 Inv-loop μ-loop Inv-rows μ-rows
+returns-3 c = let a = c .before .before .before in (rows-of (a .before .before) .rows .inv .0, (loop-scratch a, loop-row a))
+
+-- one that the buffer has no room for
+returns-4 : tie.Need-returns-4 Inv-loop μ-loop Inv-rows μ-rows
+returns-4 c =
+    let e = c .before .before .before .before .before .before in
+    (rows-of (begun-of e) .rows .inv .0, (loop-scratch (all-of e), c .before .before .before .before .frame-row .ensures .long ∙ loop-row (all-of e)))
+
+-- one that does not fit
+returns-5 : tie.Need-returns-5 Inv-loop μ-loop Inv-rows μ-rows
+returns-5 c =
+    let e = ended-of (c .before) in
+    (rows-of (begun-of e) .rows .inv .0, (loop-scratch (all-of e), c .before .before .before .before .before .before .frame-row .ensures .long ∙ loop-row (all-of e)))
+
+pub move-rows-spec : {M : Type 1} → statement M
+move-rows-spec =
+    tie.close
+    (tie.spec
+    Inv-loop
+    μ-loop
+    Inv-rows
+    μ-rows
+    start-size-requires
+    rows-holds
+    begin-row-requires
+    (λ c. search needs)
+    (λ c. search needs)
+    loop-holds
+    mul-c
+    element-copy-out-c
+    flag-of-requires
+    move-cell-requires
+    (λ c. search needs)
+    (λ c. search needs)
+    add-flag-requires
+    add-i
+    loop-less
+    loop-again
+    end-row-requires
+    (λ c. search needs)
+    (λ c. search needs)
+    frame-row-requires
+    (λ c. search needs)
+    (λ c. search needs)
+    sub-if1
+    put-row-requires
+    add-rows
+    rows-less
+    rows-again
+    (λ c. returns c .0 .long)
+    (λ c. returns c .1 .0)
+    (λ c. returns c .1 .1)
+    returns
+    (λ c. returns-2 c .0 .long)
+    unmoved-scratch
+    unmoved-row
+    returns-2
+    (λ c. returns-3 c .0 .long)
+    (λ c. returns-3 c .1 .0)
+    (λ c. returns-3 c .1 .1)
+    returns-3
+    (λ c. returns-4 c .0 .long)
+    (λ c. returns-4 c .1 .0)
+    (λ c. returns-4 c .1 .1)
+    returns-4
+    (λ c. returns-5 c .0 .long)
+    (λ c. returns-5 c .1 .0)
+    (λ c. returns-5 c .1 .1)
+    returns-5)

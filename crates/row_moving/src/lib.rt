@@ -1,0 +1,129 @@
+// Rows of one kind to rows of another, each made in a buffer of its own and then copied to the output whole: a row that is refused, or does not fit,
+// writes nothing, and no cell is measured before it is written.
+use cell_moving::move_cell;
+use flags::add_flag;
+use moving::Moved;
+use row_reading::Begin;
+use row_reading::Close;
+use row_reading::begin_row;
+use row_reading::end_row;
+use row_reading::flag_of;
+use row_writing::start_size;
+use row_writing::write_end;
+use row_writing::write_start;
+use table::Columns;
+use table::Rows;
+use text::put_bytes;
+ghost use mathlib.Core.Path.{_≡_};
+ghost use Prim.Native.Nat.{_+_, _<_, _≤_};
+ghost use lib.ListN.{length, take};
+ghost use Rattle.moving.specs.Rows.{MovesRows};
+ghost use Rattle.row_moving.specs.Contracts.{FramesRow, mostFrameBytes};
+ghost use Rattle.rows.specs.Bounds.{Within};
+ghost use Rattle.table.specs.Cell.{mostElements};
+ghost use Rattle.table.specs.ColumnList.{listed};
+ghost use Rattle.table.specs.Wrote.{Wrote};
+
+// Rows that are done: the place in the input where they end, how many they are, and the bytes written.
+pub struct Done {
+    pub place: usize,
+    pub rows: u64,
+    pub bytes: usize,
+}
+
+// A row as it stands in the buffer, of so many bytes; or the buffer has no room for it.
+pub enum Framed {
+    Row(usize),
+    TooLong,
+}
+
+// Room for what stands around a row's cells.
+const MOST_FRAME_BYTES: usize = 8;
+
+// What begins a row and what ends it, around its cells, which end at a place of the buffer.
+fn frame_row(to: Rows, count: usize, nulls: u64, row: &mut [u8], end: usize) -> Framed
+    requires { ⌜ (count ≤ 64) × (mostFrameBytes ≤ length (now row)) × (end ≤ length (now row)) ⌝ }
+    ensures { λ r. ⌜ FramesRow to count nulls (now (row .entry)) end (now (row .exit)) r ⌝ }
+{
+    if row.len() - end < MOST_FRAME_BYTES {
+        return Framed::TooLong;
+    }
+    write_start(to, count, nulls, row, 0);
+    let size = write_end(to, row, end);
+    Framed::Row(size)
+}
+
+// The first bytes of the buffer, to the output.
+fn put_row(row: &[u8], size: usize, out: &mut [u8], at: usize) -> usize
+    requires { ⌜ (size ≤ length (now row)) × (at + size ≤ length (now out)) ⌝ }
+    ensures { λ r. ⌜ Wrote (now (out .entry)) at (take size (now (row .entry))) (now (out .exit)) r ⌝ }
+{
+    put_bytes(out, at, &row[0..size])
+}
+
+// Rows, as long as they are good, fit, and are not longer than the buffer.
+pub fn move_rows(
+    cols: Columns,
+    from: Rows,
+    to: Rows,
+    s: &[u8],
+    start: Done,
+    out: &mut [u8],
+    scratch: &mut [i64],
+    row: &mut [u8],
+) -> Done
+    requires { ⌜ Within (listed cols) × (mostElements ≤ length (now scratch)) × (mostFrameBytes ≤ length (now row)) ⌝ }
+    requires { ⌜ (start .place ≤ length (now s)) × (start .rows ≤ start .place) × (start .bytes ≤ length (now out)) ⌝ }
+    ensures { λ r. ⌜ MovesRows from to (listed cols) (now (s .entry)) (now (out .entry)) (start .place) (start .rows) (start .bytes) (now (out .exit)) (r .place) (r .rows) (r .bytes) ⌝ }
+    ensures { λ _. ⌜ length (now (scratch .exit)) ≡ length (now (scratch .entry)) ⌝ }
+    ensures { λ _. ⌜ length (now (row .exit)) ≡ length (now (row .entry)) ⌝ }
+{
+    let count = cols.count;
+    let first = start_size(to, count);
+    let mut place = start.place;
+    let mut rows = start.rows;
+    let mut bytes = start.bytes;
+    'rows: loop {
+        let b = begin_row(from, s, place, count);
+        let flags: u64;
+        let body: usize;
+        match b {
+            Begin::Refused(_n) => break 'rows,
+            Begin::Row(f, a) => {
+                flags = f;
+                body = a;
+            }
+        }
+        let mut at = body;
+        let mut end = first;
+        let mut nulls: u64 = 0;
+        let mut i: usize = 0;
+        while i < count {
+            let c = cols.list[i];
+            let flagged = flag_of(from, flags, count, i);
+            let moved = move_cell(from, to, c, flagged, s, at, scratch, row, end);
+            match moved {
+                Moved::Careful => break 'rows,
+                Moved::Cell(next, e, null) => {
+                    at = next;
+                    end = e;
+                    nulls = add_flag(nulls, i, null);
+                }
+            }
+            i += 1;
+        }
+        let Close::Closed(next) = end_row(from, s, at) else {
+            break 'rows;
+        };
+        let Framed::Row(size) = frame_row(to, count, nulls, row, end) else {
+            break 'rows;
+        };
+        if out.len() - bytes < size {
+            break 'rows;
+        }
+        bytes = put_row(row, size, out, bytes);
+        place = next;
+        rows += 1;
+    }
+    Done { place, rows, bytes }
+}
