@@ -1,6 +1,8 @@
 // Rows of one kind to rows of another: a loop over rows with a loop over columns inside.
 use declaring::front;
 use flags::add_flag;
+use row_moving::Done;
+use row_moving::move_rows;
 use row_reading::Begin;
 use row_reading::Close;
 use row_reading::at_end;
@@ -24,6 +26,8 @@ ghost use lib.ListN.{drop, length};
 ghost use Rattle.table.specs.Cell.{bound, mostElements};
 ghost use Rattle.table.specs.Outcome.{answerOf, bufferOf};
 ghost use Rattle.table.specs.ColumnList.{listed};
+ghost use Rattle.moving.specs.Rows.{MovesRows};
+ghost use Rattle.row_moving.specs.Contracts.{mostFrameBytes};
 ghost use Rattle.row_writing.specs.Contracts.{SizeWithin, mostCellBytes};
 ghost use Rattle.rows.specs.Bounds.{Within};
 ghost use Rattle.rows.specs.Convert.{Converts};
@@ -110,6 +114,9 @@ pub struct Piece {
 
 // What the scratch has: it holds cells while a cell of any size has room behind them.
 const SCRATCH: usize = 8192;
+
+// What the buffer of a row has: a longer row goes the careful way.
+const ROW: usize = 16384;
 
 // More than the scratch has says that the cells are not held.
 const LOST: usize = SCRATCH + 1;
@@ -239,7 +246,34 @@ fn measure(
 
 // ---- the converter
 
-// The rows of the input: a loop over rows with a loop over columns inside, left by label at the first refusal with its row and column.
+// Rows from here on that can be made in the buffer, moved: the state after them.
+fn moved(
+    cols: Columns,
+    from: Rows,
+    to: Rows,
+    s: &[u8],
+    cursor: Cursor,
+    p: Progress,
+    out: &mut [u8],
+    scratch: &mut [i64],
+    row: &mut [u8],
+) -> Done
+    requires { ⌜ Within (listed cols) × (mostElements ≤ length (now scratch)) × (mostFrameBytes ≤ length (now row)) ⌝ }
+    requires { ⌜ (cursor .at ≤ length (now s)) × (p .rows ≤ cursor .at) × (p .bytes ≤ length (now out)) ⌝ }
+    ensures { λ r. ⌜ MovesRows from to (listed cols) (now (s .entry)) (now (out .entry)) (cursor .at) (p .rows) (p .bytes) (now (out .exit)) (r .place) (r .rows) (r .bytes) ⌝ }
+    ensures { λ _. ⌜ length (now (scratch .exit)) ≡ length (now (scratch .entry)) ⌝ }
+    ensures { λ _. ⌜ length (now (row .exit)) ≡ length (now (row .entry)) ⌝ }
+{
+    let start = Done {
+        place: cursor.at,
+        rows: p.rows,
+        bytes: p.bytes,
+    };
+    move_rows(cols, from, to, s, start, out, scratch, row)
+}
+
+// The rows of the input: a loop over rows with a loop over columns inside, left by label at the first refusal with its row and column. Rows that
+// can be made in the buffer are moved before each turn: what is left for a turn is a row that is refused, or longer than the buffer.
 fn convert_rows(
     cols: Columns,
     from: Rows,
@@ -247,16 +281,31 @@ fn convert_rows(
     s: &[u8],
     out: &mut [u8],
     scratch: &mut [i64],
+    row: &mut [u8],
 ) -> Piece
-    requires { ⌜ Within (listed cols) × (scratchLength ≤ length (now scratch)) ⌝ }
+    requires { ⌜ Within (listed cols) × (scratchLength ≤ length (now scratch)) × (mostFrameBytes ≤ length (now row)) ⌝ }
     ensures { λ r. ⌜ r .answer ≡ answerOf (run from to (listed cols) (length (now (out .entry))) (now (s .entry))) ⌝ }
     ensures { λ r. ⌜ r .place ≡ placeOf from (listed cols) (now (s .entry)) (run from to (listed cols) (length (now (out .entry))) (now (s .entry))) ⌝ }
     ensures { λ _. ⌜ now (out .exit) ≡ bufferOf (run from to (listed cols) (length (now (out .entry))) (now (s .entry))) (now (out .entry)) ⌝ }
 {
     let count = cols.count;
     let around = frame_size(to, count);
-    let mut cursor = Cursor::start();
-    let mut p = Progress::start();
+    let first = moved(
+        cols,
+        from,
+        to,
+        s,
+        Cursor::start(),
+        Progress::start(),
+        out,
+        scratch,
+        row,
+    );
+    let mut cursor = Cursor { at: first.place };
+    let mut p = Progress {
+        rows: first.rows,
+        bytes: first.bytes,
+    };
     let mut stop = Stop {
         number: NONE,
         row: 0,
@@ -358,8 +407,22 @@ fn convert_rows(
             p.bytes,
             scratch,
         );
-        cursor = cursor.after(next - start);
-        p = p.after(size);
+        let more = moved(
+            cols,
+            from,
+            to,
+            s,
+            cursor.after(next - start),
+            p.after(size),
+            out,
+            scratch,
+            row,
+        );
+        cursor = Cursor { at: more.place };
+        p = Progress {
+            rows: more.rows,
+            bytes: more.bytes,
+        };
     }
     Piece {
         answer: Answer {
@@ -381,7 +444,8 @@ pub fn convert_piece_columns(cols: Columns, from: Rows, to: Rows, s: &[u8], out:
     ensures { λ _. ⌜ now (out .exit) ≡ bufferOf (run from to (listed cols) (length (now (out .entry))) (now (s .entry))) (now (out .entry)) ⌝ }
 {
     let mut scratch = [0i64; SCRATCH];
-    convert_rows(cols, from, to, s, out, &mut scratch)
+    let mut row = [0u8; ROW];
+    convert_rows(cols, from, to, s, out, &mut scratch, &mut row)
 }
 
 // Rows under a column list.

@@ -1,4 +1,5 @@
--- convert::convert_rows: the converter's loops. Over rows (RowsInv): the answer for the whole input is the answer of going on from here. Over
+-- convert::convert_rows: the converter's loops. Over rows: the rows before are done (RowsDone, by MovesRows from where the loop begins), and the
+-- answer for the whole input is the answer of going on from here; rows that are moved between two turns are done by `moved`'s promise. Over
 -- columns: what is read of the row is what has been read and what is still to come (RowRead), and what that will be written as (RowMeasured).
 -- Each way out is one law of Converting, plugged in where it happens.
 use Prim.Native.Nat.{_+_, _-_, _<_, _≤_, suc, ℕ}
@@ -10,11 +11,15 @@ use lib.Seq.{sets}
 use borrow.Author.Needs.{needs}
 use borrow.Author.Tests.{not-false, not-true}
 use denote.Ref.{now}
+use native.Mathlib.Nat.{le-refl}
 use native.Mathlib.Omega.{arith}
-use Rattle.convert.proofs.Converting.{Finished, RowsInv, acceptance, read-refusal, room-refusal, row-done, rows-start, write-refusal}
+use Rattle.convert.proofs.Converting.{Finished, acceptance, read-refusal, room-refusal, write-refusal}
 use Rattle.convert.proofs.Measuring.{RowMeasured, held-ready, measured-more, measured-start, row-cannot, row-length, row-wrote}
 use Rattle.convert.specs.Contracts.{MeasuredBy, holdingOf, scratchLength}
+use Rattle.moving.proofs.Rows.{row-done, rows-start}
+use Rattle.moving.specs.Rows.{MovesRows, RowsDone}
 use Rattle.table.proofs.ColumnList.{listed-length, listed-next}
+use Rattle.table.proofs.Wrote.{wrote-long}
 use Rattle.table.specs.ColumnList.{listed, noColumn}
 use Rattle.row_reading.proofs.Parts.{RowRead, begun-within, cells-closed, cells-open, cells-stopped, closed-within, listed-bound}
 use Rattle.row_reading.proofs.Parts.{read-end, read-more, read-start, read-stop, row-begun, row-onward, row-unbegun}
@@ -32,18 +37,21 @@ use Rattle.convert.proofs.convert_rows.Statement.{statement}
 use Rattle.convert.proofs.convert_rows.Tie as tie
 
 abbrev Inv-loop : tie.InvT-loop
-Inv-loop from to s out scratch₀ cols count around cursor p stop₀ start flags body place₀ m₀ i₀ scratch stop place m i =
+Inv-loop from to s out scratch₀ row cols count around cursor p stop₀ start flags body place₀ m₀ i₀ scratch stop place m i =
     (k : RowRead from (listed cols) (flagsIn from count flags) s body place i) × RowMeasured to (listed cols) (k .acc) scratch m i × (stop ≡ stop₀) × (length scratch ≡ length scratch₀)
 
 abbrev μ-loop : tie.MeasureT-loop
-μ-loop from to s out scratch₀ cols count around cursor p stop₀ start flags body place₀ m₀ i₀ scratch stop place m i = count - i
+μ-loop from to s out scratch₀ row cols count around cursor p stop₀ start flags body place₀ m₀ i₀ scratch stop place m i = count - i
 
 abbrev Inv-rows : tie.InvT-rows
-Inv-rows from to s out₀ scratch₀ cols count around cursor₀ p₀ stop₀ out scratch cursor p stop =
-    RowsInv from to (listed cols) s out₀ out cursor p × (stop ≡ record { number = 0; row = 0; column = 0; place = length s }) × (length scratch ≡ length scratch₀)
+Inv-rows from to s out₀ scratch₀ row₀ cols count around cursor₀ p₀ stop₀ out scratch row cursor p stop =
+    MovesRows from to (listed cols) s out₀ (cursor₀ .at) (p₀ .rows) (p₀ .bytes) out (cursor .at) (p .rows) (p .bytes)
+    × (stop ≡ record { number = 0; row = 0; column = 0; place = length s })
+    × (length scratch ≡ length scratch₀)
+    × (length row ≡ length row₀)
 
 abbrev μ-rows : tie.MeasureT-rows
-μ-rows from to s out₀ scratch₀ cols count around cursor₀ p₀ stop₀ out scratch cursor p stop = length s - cursor .at
+μ-rows from to s out₀ scratch₀ row₀ cols count around cursor₀ p₀ stop₀ out scratch row cursor p stop = length s - cursor .at
 
 -- ---- the places on the way, and what is known there
 
@@ -76,7 +84,7 @@ abbrev Formed : Type 0
 Formed = tie.Else2 Inv-loop μ-loop Inv-rows μ-rows
 
 abbrev begin : AtRows → tie.Start Inv-loop μ-loop Inv-rows μ-rows
-begin r = r .before .before .before .before .before .before
+begin r = r .before .before .before .before .before .before .before .before .before .before .before .before .before .before .before .before
 
 abbrev from-at : AtRows → Rows
 from-at r = begin r .args .from
@@ -95,6 +103,20 @@ out-at r = now (begin r .args .out)
 
 are : (r : AtRows) → Within (listed (cols-at r))
 are r = begin r .pre .0
+
+-- the rows before are done: those that were moved before the first turn, and those of the turns
+done-at : (r : AtRows) → RowsDone (from-at r) (to-at r) (listed (cols-at r)) (s-at r) (out-at r) (r .rows .out) (r .rows .cursor .at) (r .rows .p .rows) (r .rows .p .bytes)
+done-at r =
+    let m = r .before .before .before .before .before .before .moved in
+    let n = r .before .before .before .before .before .before .before .before .before .before .before .start in
+    let z = r .before .before .before .before .before .before .before .before .before .before .start2 in
+    r .rows .inv .0 .further (out-at r) (m .ensures .0 .further (out-at r) (rows-start (from-at r) (to-at r) (listed (cols-at r)) (s-at r) (out-at r) _ _ _ (n .ensures) (z .ensures)))
+
+scratch-kept : (r : AtRows) → length (r .rows .scratch) ≡ length (now (begin r .args .scratch))
+scratch-kept r = r .rows .inv .2 ∙ r .before .before .before .before .before .before .moved .ensures .1 .0
+
+row-kept : (r : AtRows) → length (r .rows .row) ≡ length (now (begin r .args .row))
+row-kept r = r .rows .inv .3 ∙ r .before .before .before .before .before .before .moved .ensures .1 .1
 
 few : (r : AtRows) → cols-at r .count ≤ 64
 few r = omega (arith, are r .few, listed-length (cols-at r))
@@ -134,7 +156,7 @@ within b =
 
 -- the scratch is as long as at entry
 scratch-long : (b : Begun) (n : ℕ) → n ≡ length (rows-of b .rows .scratch) → scratchLength ≤ n
-scratch-long b n e = omega (arith, e, rows-of b .rows .inv .2, begin (rows-of b) .pre .1)
+scratch-long b n e = omega (arith, e, scratch-kept (rows-of b), begin (rows-of b) .pre .1)
 
 -- the column of the turn
 abbrev column-at : Turning → Column
@@ -153,7 +175,7 @@ stopped : (t : Left) (n k : ℕ) → readRow (from-at (rows-at t)) (listed (cols
 unfolding at
 stopped t n k e =
     let r = rows-at t in
-    read-refusal (from-at r) (to-at r) (listed (cols-at r)) (are r) (s-at r) (out-at r) (r .rows .out) (r .rows .cursor) (r .rows .p) (r .rows .inv .0) (left t) (at k n) e
+    read-refusal (from-at r) (to-at r) (listed (cols-at r)) (are r) (s-at r) (out-at r) (r .rows .out) (r .rows .cursor .at) (r .rows .p .rows) (r .rows .p .bytes) (done-at r) (left t) (at k n) e
 
 past : (a : ReadAll) → length (listed (cols-at (rows-of (a .before .before)))) ≤ a .before .loop .i
 past a = omega (arith, listed-length (cols-at (rows-of (a .before .before))), a .loop-test .left)
@@ -214,7 +236,7 @@ written-at f =
     row-wrote (from-at r) (to-at r) (cols-at r) (flags-at b) (s-at r) (body-at b) (l .at) (l .i) (l .inv .0) (l .scratch) (l .m) (l .inv .1) (listed-length (cols-at r))
     (a .loop-test .left) (f .if2 .left)
 
-size-at : (f : Formed) → length (row-at f) ≡ rows-of (begun-of (ended-of f)) .before .before .before .frame-size .result + all-of (ended-of f) .before .loop .m .size
+size-at : (f : Formed) → length (row-at f) ≡ rows-of (begun-of (ended-of f)) .before .before .before .before .before .before .before .before .before .before .before .before .frame-size .result + all-of (ended-of f) .before .loop .m .size
 size-at f =
     let b = begun-of (ended-of f) in
     let r = rows-of b in
@@ -224,22 +246,25 @@ size-at f =
       arith,
       row-length (from-at r) (to-at r) (cols-at r) (flags-at b) (s-at r) (body-at b) (l .at) (l .i) (l .inv .0) (l .scratch) (l .m) (l .inv .1) (listed-length (cols-at r))
           (a .loop-test .left) (f .if2 .left),
-      r .before .before .before .frame-size .ensures .1 (l .m .nulls),
+      r .before .before .before .before .before .before .before .before .before .before .before .before .frame-size .ensures .1 (l .m .nulls),
     )
 
 -- ---- before the rows
 
 frame-size-requires : tie.Need-frame-size-requires Inv-loop μ-loop Inv-rows μ-rows
-frame-size-requires c κs = omega (arith, c .before .before .pre .0 .few, listed-length (c .before .before .args .t1))
+frame-size-requires c κs = omega (arith, c .before .before .before .pre .0 .few, listed-length (c .before .before .before .args .t1))
+
+moved-requires : tie.Need-moved-requires Inv-loop μ-loop Inv-rows μ-rows
+moved-requires c κs =
+    let a = c .before .before .before .before .before .before .before .before .before in
+    let n = c .before .before .before .before .start .ensures in
+    let z = c .before .before .before .start2 .ensures in
+    ((a .pre .0, omega (arith, a .pre .1), a .pre .2), (omega (arith, n), omega (arith, n, z .0), omega (arith, z .1)))
 
 rows-holds : tie.Need-rows-holds Inv-loop μ-loop Inv-rows μ-rows
 rows-holds c =
-    let a = c .before .before .before .before .before in (
-      rows-start (a .args .from) (a .args .to) (listed (a .args .t1)) (now (a .args .s)) (now (a .args .out)) (c .before .start .result) (c .start2 .result) (c .before .start .ensures)
-          (c .start2 .ensures),
-      refl,
-      refl,
-    )
+    let m = c .before .before .before .before .before .moved .ensures .0 in
+    (record { inside = m .inside; fewer = m .fewer; room = m .room; long = refl; onward = le-refl _; further = λ o d. d }, refl, refl, refl)
 
 at-end-requires : tie.Need-at-end-requires Inv-loop μ-loop Inv-rows μ-rows
 at-end-requires c κs = c .rows .inv .0 .inside
@@ -312,7 +337,7 @@ add-size : tie.Need-add-size Inv-loop μ-loop Inv-rows μ-rows
 add-size c =
     let a = all-of (ended-of (c .before)) in
     let r = rows-of (a .before .before) in
-    omega (arith, r .before .before .before .frame-size .ensures .0, a .before .loop .inv .1 .short, a .before .loop .inv .0 .upto, are r .few)
+    omega (arith, r .before .before .before .before .before .before .before .before .before .before .before .before .frame-size .ensures .0, a .before .loop .inv .1 .short, a .before .loop .inv .0 .upto, are r .few)
 
 sub-room : tie.Need-sub-room Inv-loop μ-loop Inv-rows μ-rows
 sub-room c = omega (arith, rows-of (begun-of (ended-of (c .before .before))) .rows .inv .0 .room)
@@ -345,7 +370,7 @@ put-row-requires c κs =
     )
 
 -- the row that was read, and the place behind it
-abbrev read-at : tie.After-scratch2 Inv-loop μ-loop Inv-rows μ-rows → Ended
+abbrev read-at : tie.After-scratch3 Inv-loop μ-loop Inv-rows μ-rows → Ended
 read-at c = ended-of (c .before .before .before .before .before .before .before .before .before .before)
 
 sub-after : tie.Need-sub-after Inv-loop μ-loop Inv-rows μ-rows
@@ -357,60 +382,104 @@ after-requires c κs =
     omega (arith, o .0, o .1, begin (rows-of (begun-of (read-at c))) .good)
 
 -- the cursor moves on to it
-moved : (c : tie.After-after Inv-loop μ-loop Inv-rows μ-rows) → c .after .result .at ≡ next-at (read-at (c .before))
-moved c = omega (arith, onward (read-at (c .before)) .0, c .after .ensures)
+cursor-moves : (c : tie.After-after Inv-loop μ-loop Inv-rows μ-rows) → c .after .result .at ≡ next-at (read-at (c .before))
+cursor-moves c = omega (arith, onward (read-at (c .before)) .0, c .after .ensures)
 
 after-requires-2 : tie.Need-after-requires-2 Inv-loop μ-loop Inv-rows μ-rows
 after-requires-2 c κs =
     let f = c .before .before .before .before .before .before .before .before .before .before .before in
     let r = rows-of (begun-of (ended-of f)) in
     let o = onward (ended-of f) in (
-      omega (arith, c .before .before .before .before .before .before .before .before .if3 .left, r .rows .inv .0 .room, r .rows .inv .0 .long, begin r .good),
+      omega (arith, c .before .before .before .before .before .before .before .before .if3 .left, r .rows .inv .0 .room, done-at r .long, begin r .good),
       omega (arith, r .rows .inv .0 .fewer, o .0, o .1, begin r .good),
     )
 
-rows-less : tie.Need-rows-less Inv-loop μ-loop Inv-rows μ-rows
-rows-less c =
-    let o = onward (ended-of (c .before .before .before .before .before .before .before .before .before .before .before .before)) in
-    omega (arith, o .0, o .1, moved (c .before))
+-- behind the row of the turn
+abbrev Behind : Type 0
+Behind = tie.After-after2 Inv-loop μ-loop Inv-rows μ-rows
 
-rows-again : tie.Need-rows-again Inv-loop μ-loop Inv-rows μ-rows
-rows-again c =
-    let f = c .before .before .before .before .before .before .before .before .before .before .before .before in
+abbrev formed-of : Behind → Formed
+formed-of c = c .before .before .before .before .before .before .before .before .before .before .before .before
+
+abbrev turn-rows : Behind → AtRows
+turn-rows c = rows-of (begun-of (ended-of (formed-of c)))
+
+abbrev out-behind : Behind → List ℕ
+out-behind c = c .before .before .before .before .before .put-row .last .1 .1 .1 .1 .1 .1 .1 .1 .0
+
+-- it is done, too
+row-behind : (c : Behind) (o : List ℕ)
+    → RowsDone (from-at (turn-rows c)) (to-at (turn-rows c)) (listed (cols-at (turn-rows c))) (s-at (turn-rows c)) o (turn-rows c .rows .out) (turn-rows c .rows .cursor .at) (turn-rows c .rows .p .rows)
+    (turn-rows c .rows .p .bytes)
+    → RowsDone (from-at (turn-rows c)) (to-at (turn-rows c)) (listed (cols-at (turn-rows c))) (s-at (turn-rows c)) o (out-behind c) (c .before .after .result .at) (c .after2 .result .rows)
+    (c .after2 .result .bytes)
+row-behind c o d =
+    let f = formed-of c in
     let e = ended-of f in
     let r = rows-of (begun-of e) in
     let l = all-of e .before .loop in
-    let o = onward e in
+    let n = onward e in
     let w = c .before .before .before .before .before .put-row .ensures in
-    let h = c .before .before .before .before .before .before .before .before .holding-of .ensures in (
-      row-done (from-at r) (to-at r) (listed (cols-at r)) (are r) (s-at r) (out-at r) (r .rows .out) (r .rows .cursor) (r .rows .p) (r .rows .inv .0) (left (left-of (begun-of e)))
-          (l .inv .0 .acc) _ (whole e) (row-at f) (written-at f) (omega (arith, size-at f, c .before .before .before .before .before .before .before .before .before .if3 .left)) _ refl (o .0) (o .1) _
-          (w .0 .now-is ∙ ap (λ (y : Holding). sets (r .rows .out) (r .rows .p .bytes) (row-held f y)) h) (c .before .after .result) (c .after2 .result) (moved (c .before))
-          (c .after2 .ensures .0) (c .after2 .ensures .1 ∙ ap (λ (n : ℕ). r .rows .p .bytes + n) (sym (size-at f))),
-      l .inv .2 ∙ r .rows .inv .1,
-      w .1 ∙ l .inv .3 ∙ r .rows .inv .2,
+    let h = c .before .before .before .before .before .before .before .before .holding-of .ensures in
+    row-done (from-at r) (to-at r) (listed (cols-at r)) (are r) (s-at r) o (r .rows .out) (r .rows .cursor .at) (r .rows .p .rows) (r .rows .p .bytes) d (left (left-of (begun-of e))) (l .inv .0 .acc) _
+    (whole e) (row-at f) (written-at f) (omega (arith, size-at f, c .before .before .before .before .before .before .before .before .before .if3 .left)) _ refl (n .0) (n .1) _
+    (w .0 .now-is ∙ ap (λ (y : Holding). sets (r .rows .out) (r .rows .p .bytes) (row-held f y)) h) _ _ _ (cursor-moves (c .before)) (c .after2 .ensures .0)
+    (c .after2 .ensures .1 ∙ ap (λ (k : ℕ). r .rows .p .bytes + k) (sym (size-at f)))
+
+scratch-behind : (c : Behind) → length (c .before .before .before .before .before .put-row .last .1 .1 .1 .1 .1 .1 .1 .1 .1 .1 .0) ≡ length (turn-rows c .rows .scratch)
+scratch-behind c = c .before .before .before .before .before .put-row .ensures .1 ∙ all-of (ended-of (formed-of c)) .before .loop .inv .3
+
+moved-requires-2 : tie.Need-moved-requires-2 Inv-loop μ-loop Inv-rows μ-rows
+moved-requires-2 c κs =
+    let b = c .before .before .before in
+    let r = turn-rows b in
+    let d = row-behind b (out-at r) (done-at r) in (
+      (are r, omega (arith, scratch-behind b, scratch-kept r, begin r .pre .1), omega (arith, row-kept r, begin r .pre .2)),
+      (d .inside, d .fewer, d .room),
+    )
+
+-- rows were moved behind it
+abbrev behind-of : tie.After-slice-known7 Inv-loop μ-loop Inv-rows μ-rows → Behind
+behind-of c = c .before .before .before .before .before .before .before .before .before
+
+rows-less : tie.Need-rows-less Inv-loop μ-loop Inv-rows μ-rows
+rows-less c =
+    let b = behind-of c in
+    let n = onward (ended-of (formed-of b)) in
+    let m = c .before .before .before .before .before .moved2 .ensures .0 in
+    omega (arith, n .0, n .1, cursor-moves (b .before), m .onward, m .inside)
+
+rows-again : tie.Need-rows-again Inv-loop μ-loop Inv-rows μ-rows
+rows-again c =
+    let b = behind-of c in
+    let r = turn-rows b in
+    let m = c .before .before .before .before .before .moved2 .ensures in
+    let i = r .rows .inv .0 in (
+      record {
+        inside = m .0 .inside;
+        fewer = m .0 .fewer;
+        room = m .0 .room;
+        long = m .0 .long ∙ wrote-long (b .before .before .before .before .before .put-row .ensures .0) ∙ i .long;
+        onward = omega (arith, i .onward, onward (ended-of (formed-of b)) .0, cursor-moves (b .before), m .0 .onward);
+        further = λ o d. m .0 .further o (row-behind b o (i .further o d));
+      },
+      all-of (ended-of (formed-of b)) .before .loop .inv .2 ∙ r .rows .inv .1,
+      m .1 .0 ∙ scratch-behind b ∙ r .rows .inv .2,
+      m .1 .1 ∙ r .rows .inv .3,
     )
 
 -- ---- the ways out
 
-same-length : tie.Need-same-length Inv-loop μ-loop Inv-rows μ-rows
-same-length c = c .before .before .rows .inv .0 .long
-
-same-length-2 : tie.Need-same-length-2 Inv-loop μ-loop Inv-rows μ-rows
-same-length-2 c = c .before .before .rows .inv .2
+-- behind the loop over columns the scratch is as long as it was
+scratch-of : (l : tie.At-loop Inv-loop μ-loop Inv-rows μ-rows) → length (l .loop .scratch) ≡ length (now (begin (rows-of (l .before)) .args .scratch))
+scratch-of l = l .loop .inv .3 ∙ scratch-kept (rows-of (l .before))
 
 returns : tie.Need-returns Inv-loop μ-loop Inv-rows μ-rows
 returns c =
     let r = c .before .before in
-    let d = acceptance (from-at r) (to-at r) (listed (cols-at r)) (are r) (s-at r) (out-at r) (r .rows .out) (r .rows .cursor) (r .rows .p) (r .rows .inv .0)
+    let d = acceptance (from-at r) (to-at r) (listed (cols-at r)) (are r) (s-at r) (out-at r) (r .rows .out) (r .rows .cursor .at) (r .rows .p .rows) (r .rows .p .bytes) (done-at r)
     (sym (c .before .at-end .ensures) ∙ not-false _ (c .if1 .left)) in
     (rw (r .rows .inv .1) (d .answers), (rw (r .rows .inv .1) (d .stands), d .leaves))
-
-same-length-3 : tie.Need-same-length-3 Inv-loop μ-loop Inv-rows μ-rows
-same-length-3 c = rows-at (c .before .before .before .before) .rows .inv .0 .long
-
-same-length-4 : tie.Need-same-length-4 Inv-loop μ-loop Inv-rows μ-rows
-same-length-4 c = rows-at (c .before .before .before .before) .rows .inv .2
 
 returns-2 : tie.Need-returns-2 Inv-loop μ-loop Inv-rows μ-rows
 returns-2 c =
@@ -420,14 +489,6 @@ returns-2 c =
     let d = stopped t _ 0 (row-unbegun (from-at r) (listed (cols-at r)) (cols-at r .count) (listed-length (cols-at r)) (s-at r) (r .rows .cursor .at) (g .result) (g .ensures)
     (c .before .b .given .0 .0) (c .before .b .given .1)) in
     (d .answers, (d .stands, d .leaves))
-
-same-length-5 : tie.Need-same-length-5 Inv-loop μ-loop Inv-rows μ-rows
-same-length-5 c = rows-of (c .before .before .before .before .before .before .before .before .before .before) .rows .inv .0 .long
-
-same-length-6 : tie.Need-same-length-6 Inv-loop μ-loop Inv-rows μ-rows
-same-length-6 c =
-    let l = c .before .before .before .before .before .before .before .before .before in
-    c .before .before .before .before .measure .ensures .1 ∙ l .loop .inv .3 ∙ rows-of (l .before) .rows .inv .2
 
 returns-3 : tie.Need-returns-3 Inv-loop μ-loop Inv-rows μ-rows
 returns-3 c =
@@ -441,14 +502,6 @@ returns-3 c =
     let d = stopped (left-of b) _ (l .i) (begun b ∙ cells-stopped (from-at r) (listed (cols-at r)) _ (s-at r) (body-at b) _ q) in
     (d .answers, (d .stands, d .leaves))
 
-same-length-7 : tie.Need-same-length-7 Inv-loop μ-loop Inv-rows μ-rows
-same-length-7 c = rows-of (c .before .before .before .before .before .before) .rows .inv .0 .long
-
-same-length-8 : tie.Need-same-length-8 Inv-loop μ-loop Inv-rows μ-rows
-same-length-8 c =
-    let l = c .before .before .before .before .before in
-    l .loop .inv .3 ∙ rows-of (l .before) .rows .inv .2
-
 returns-4 : tie.Need-returns-4 Inv-loop μ-loop Inv-rows μ-rows
 returns-4 c =
     let a = c .before .before .before .before in
@@ -458,14 +511,6 @@ returns-4 c =
     let q = cells-open (from-at r) (listed (cols-at r)) _ (s-at r) (body-at b) _ _ (all-read a) (e .result) (e .ensures) (c .before .e .given .0 .0) (c .before .e .given .1) in
     let d = stopped (left-of b) _ (cols-at r .count) (begun b ∙ q ∙ ap (λ (k : ℕ). bad (at k (c .before .e .given .0 .0))) (listed-length (cols-at r))) in
     (d .answers, (d .stands, d .leaves))
-
-same-length-9 : tie.Need-same-length-9 Inv-loop μ-loop Inv-rows μ-rows
-same-length-9 c = rows-of (begun-of (c .before .before)) .rows .inv .0 .long
-
-same-length-10 : tie.Need-same-length-10 Inv-loop μ-loop Inv-rows μ-rows
-same-length-10 c =
-    let l = all-of (c .before .before) .before in
-    l .loop .inv .3 ∙ rows-of (l .before) .rows .inv .2
 
 returns-5 : tie.Need-returns-5 Inv-loop μ-loop Inv-rows μ-rows
 unfolding at
@@ -477,17 +522,9 @@ returns-5 c =
     let l = a .before .loop in
     let q = row-cannot (from-at r) (to-at r) (cols-at r) (flags-at b) (s-at r) (body-at b) (l .at) (l .i) (l .inv .0) (l .scratch) (l .m) (l .inv .1) (listed-length (cols-at r))
     (a .loop-test .left) (c .if2 .taken) in
-    let d = write-refusal (from-at r) (to-at r) (listed (cols-at r)) (are r) (s-at r) (out-at r) (r .rows .out) (r .rows .cursor) (r .rows .p) (r .rows .inv .0) (left (left-of b))
+    let d = write-refusal (from-at r) (to-at r) (listed (cols-at r)) (are r) (s-at r) (out-at r) (r .rows .out) (r .rows .cursor .at) (r .rows .p .rows) (r .rows .p .bytes) (done-at r) (left (left-of b))
     (l .inv .0 .acc) _ (whole e) _ q in
     (d .answers, (d .stands, d .leaves))
-
-same-length-11 : tie.Need-same-length-11 Inv-loop μ-loop Inv-rows μ-rows
-same-length-11 c = rows-of (begun-of (ended-of (c .before .before .before))) .rows .inv .0 .long
-
-same-length-12 : tie.Need-same-length-12 Inv-loop μ-loop Inv-rows μ-rows
-same-length-12 c =
-    let l = all-of (ended-of (c .before .before .before)) .before in
-    l .loop .inv .3 ∙ rows-of (l .before) .rows .inv .2
 
 returns-6 : tie.Need-returns-6 Inv-loop μ-loop Inv-rows μ-rows
 returns-6 c =
@@ -495,7 +532,7 @@ returns-6 c =
     let e = ended-of f in
     let b = begun-of e in
     let r = rows-of b in
-    let d = room-refusal (from-at r) (to-at r) (listed (cols-at r)) (are r) (s-at r) (out-at r) (r .rows .out) (r .rows .cursor) (r .rows .p) (r .rows .inv .0) (left (left-of b))
+    let d = room-refusal (from-at r) (to-at r) (listed (cols-at r)) (are r) (s-at r) (out-at r) (r .rows .out) (r .rows .cursor .at) (r .rows .p .rows) (r .rows .p .bytes) (done-at r) (left (left-of b))
     (all-of e .before .loop .inv .0 .acc) _ (whole e) (row-at f) (written-at f)
     (omega (arith, size-at f, c .if3 .taken)) in
     (d .answers, (d .stands, d .leaves))
@@ -511,6 +548,7 @@ convert-rows-spec =
     frame-size-requires
     (λ c κs. search needs)
     (λ c κs. search needs)
+    moved-requires
     rows-holds
     at-end-requires
     begin-row-requires
@@ -537,23 +575,30 @@ convert-rows-spec =
     sub-after
     after-requires
     after-requires-2
+    moved-requires-2
     rows-less
     rows-again
-    same-length
-    same-length-2
+    (λ c. done-at (c .before .before) .long)
+    (λ c. scratch-kept (c .before .before))
+    (λ c. row-kept (c .before .before))
     returns
-    same-length-3
-    same-length-4
+    (λ c. done-at (rows-at (c .before .before .before .before)) .long)
+    (λ c. scratch-kept (rows-at (c .before .before .before .before)))
+    (λ c. row-kept (rows-at (c .before .before .before .before)))
     returns-2
-    same-length-5
-    same-length-6
+    (λ c. done-at (rows-of (c .before .before .before .before .before .before .before .before .before .before)) .long)
+    (λ c. c .before .before .before .before .measure .ensures .1 ∙ scratch-of (c .before .before .before .before .before .before .before .before .before))
+    (λ c. row-kept (rows-of (c .before .before .before .before .before .before .before .before .before .before)))
     returns-3
-    same-length-7
-    same-length-8
+    (λ c. done-at (rows-of (c .before .before .before .before .before .before)) .long)
+    (λ c. scratch-of (c .before .before .before .before .before))
+    (λ c. row-kept (rows-of (c .before .before .before .before .before .before)))
     returns-4
-    same-length-9
-    same-length-10
+    (λ c. done-at (rows-of (begun-of (c .before .before))) .long)
+    (λ c. scratch-of (all-of (c .before .before) .before))
+    (λ c. row-kept (rows-of (begun-of (c .before .before))))
     returns-5
-    same-length-11
-    same-length-12
+    (λ c. done-at (rows-of (begun-of (ended-of (c .before .before .before)))) .long)
+    (λ c. scratch-of (all-of (ended-of (c .before .before .before)) .before))
+    (λ c. row-kept (rows-of (begun-of (ended-of (c .before .before .before)))))
     returns-6)
