@@ -2,12 +2,27 @@
 use moving::One;
 use number::Integer;
 ghost use mathlib.Core.List.{[], _∷_};
-ghost use Prim.Native.Nat.{_+_, _≤_};
+ghost use mathlib.Core.Path.{_≡_};
+ghost use Prim.Native.Nat.{_+_, _<_, _≤_};
 ghost use lib.ListN.{length};
 ghost use Rattle.moving.specs.Contents.{FindsOne, InBinary, contentForm};
 ghost use Rattle.moving.specs.Puts.{Puts};
 ghost use Rattle.number.specs.Contracts.{isSigned, size, widthOf};
+ghost use Rattle.binary.specs.Binary.{truth};
+ghost use Rattle.content_passing.specs.Letters.{letterOf};
 ghost use Rattle.table.specs.Shape.{Truths, Whole};
+
+// ---- booleans
+
+// The letter that a byte of a boolean is written as, 0 for a byte that is none. No branch, so that a loop over it is vector code.
+fn truth_letter(b: u8) -> u8
+    ensures { λ r. ⌜ r ≡ letterOf (truth b) ⌝ }
+{
+    let is_true = (b == b'T') | (b == b't') | (b == b'1');
+    let is_false = (b == b'F') | (b == b'f') | (b == b'0');
+    let is_unknown = (b == 0) | (b == b' ') | (b == b'?');
+    (is_true as u8) * 84 + (is_false as u8) * 70 + (is_unknown as u8) * 63
+}
 
 // ---- one element
 
@@ -18,6 +33,19 @@ pub fn binary_integer(s: &[u8], at: usize, integer: Integer) -> One
 {
     let value = integers::read_integer(s, at, integer);
     One::Element(value, at + number::integer_bytes(integer))
+}
+
+// A boolean by its value.
+pub fn binary_truth(s: &[u8], at: usize) -> One
+    requires { ⌜ at < length (now s) ⌝ }
+    ensures { λ r. ⌜ FindsOne (InBinary Truths 1 (now (s .entry)) at) r ⌝ }
+{
+    let letter = truth_letter(s[at]);
+    if letter == 0 {
+        return One::Careful;
+    }
+    let value = ((letter == b'T') as u8) + ((letter == b'?') as u8) * 2;
+    One::Element(value as i64, at + 1)
 }
 
 pub fn pass_integer(integer: Integer, z: i64, row: &mut [u8], o: usize) -> usize
