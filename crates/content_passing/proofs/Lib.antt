@@ -1,2 +1,4 @@
+pub mod Copies
 pub mod Letters
 pub mod Ones
+pub mod Wholes

@@ -1,16 +1,22 @@
 // Contents of cells that go from BINARY or BINARY2 to BINARY or BINARY2.
+use eights::copy_wide;
+use moving::Content;
 use moving::One;
+use number::Elements;
 use number::Integer;
+use number::elements_of;
+use table::Kind;
 ghost use mathlib.Core.List.{[], _∷_};
 ghost use mathlib.Core.Path.{_≡_};
-ghost use Prim.Native.Nat.{_+_, _<_, _≤_};
-ghost use lib.ListN.{length};
-ghost use Rattle.moving.specs.Contents.{FindsOne, InBinary, contentForm};
+ghost use Prim.Native.Nat.{_*_, _+_, _<_, _≤_};
+ghost use lib.ListN.{drop, length, take};
+ghost use Rattle.moving.specs.Contents.{AsBinary, FindsOne, InBinary, MovesContent, contentForm};
 ghost use Rattle.moving.specs.Puts.{Puts};
 ghost use Rattle.number.specs.Contracts.{isSigned, size, widthOf};
-ghost use Rattle.binary.specs.Binary.{truth};
+ghost use Rattle.binary.specs.Binary.{contentBytes, truth};
 ghost use Rattle.content_passing.specs.Letters.{letterOf};
-ghost use Rattle.table.specs.Shape.{Truths, Whole};
+ghost use Rattle.table.specs.Cell.{mostElements};
+ghost use Rattle.table.specs.Shape.{Truths, Whole, shape};
 
 // ---- booleans
 
@@ -61,4 +67,60 @@ pub fn pass_truth(z: i64, row: &mut [u8], o: usize) -> usize
 {
     row[o] = table::truth_byte(z);
     o + 1
+}
+
+// ---- a content as it stands
+
+// For many bytes: the compiler makes vector code of it.
+fn copy_many(s: &[u8], from: usize, n: usize, row: &mut [u8], o: usize) -> usize
+    requires { ⌜ (from + n + 8 ≤ length (now s)) × (o + n + 8 ≤ length (now row)) ⌝ }
+    ensures { λ r. ⌜ Puts (now (row .entry)) o (take n (drop from (now (s .entry)))) (now (row .exit)) r ⌝ }
+{
+    let mut k: usize = 0;
+    while k < n {
+        row[o + k] = s[from + k];
+        k += 1;
+    }
+    o + n
+}
+
+fn copy(s: &[u8], from: usize, n: usize, row: &mut [u8], o: usize) -> usize
+    requires { ⌜ (from + n + 8 ≤ length (now s)) × (o + n + 8 ≤ length (now row)) ⌝ }
+    ensures { λ r. ⌜ Puts (now (row .entry)) o (take n (drop from (now (s .entry)))) (now (row .exit)) r ⌝ }
+{
+    if n <= 64 {
+        return copy_wide(s, from, n, row, o);
+    }
+    copy_many(s, from, n, row, o)
+}
+
+// Integers.
+fn pass_integers(
+    integer: Integer,
+    n: usize,
+    s: &[u8],
+    at: usize,
+    row: &mut [u8],
+    o: usize,
+) -> Content
+    requires { ⌜ (n ≤ mostElements) × (at + n * size integer + 8 ≤ length (now s)) × (o + n * size integer + 8 ≤ length (now row)) ⌝ }
+    ensures { λ r. ⌜ MovesContent (InBinary (Whole (isSigned integer) (widthOf integer)) n (now (s .entry)) at) (AsBinary (Whole (isSigned integer) (widthOf integer))) (now (row .entry)) o (now (row .exit)) r ⌝ }
+{
+    let bytes = n * number::integer_bytes(integer);
+    let end = copy(s, at, bytes, row, o);
+    Content::Elements(n, at + bytes, end)
+}
+
+// ---- a content
+
+pub fn pass_content(kind: Kind, n: usize, s: &[u8], at: usize, row: &mut [u8], o: usize) -> Content
+    requires { ⌜ (n ≤ mostElements) × (at + contentBytes (shape kind) n + 8 ≤ length (now s)) × (o + contentBytes (shape kind) n + 8 ≤ length (now row)) ⌝ }
+    ensures { λ r. ⌜ MovesContent (InBinary (shape kind) n (now (s .entry)) at) (AsBinary (shape kind)) (now (row .entry)) o (now (row .exit)) r ⌝ }
+{
+    match elements_of(kind) {
+        Elements::Truths => Content::Careful,
+        Elements::Bits => Content::Careful,
+        Elements::Text => Content::Careful,
+        Elements::Whole(integer) => pass_integers(integer, n, s, at, row, o),
+    }
 }
