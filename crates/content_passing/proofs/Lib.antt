@@ -1,4 +1,5 @@
 pub mod Copies
 pub mod Letters
 pub mod Ones
+pub mod Texts
 pub mod Wholes

@@ -1,5 +1,6 @@
 // Contents of cells that go from BINARY or BINARY2 to BINARY or BINARY2.
 use eights::copy_wide;
+use eights::letters_ahead;
 use moving::Content;
 use moving::One;
 use number::Elements;
@@ -10,13 +11,15 @@ ghost use mathlib.Core.List.{[], _∷_};
 ghost use mathlib.Core.Path.{_≡_};
 ghost use Prim.Native.Nat.{_*_, _+_, _<_, _≤_};
 ghost use lib.ListN.{drop, length, take};
+ghost use Rattle.eights.specs.Marks.{isLetter, run};
+ghost use Rattle.content_passing.specs.Passes.{Passes};
 ghost use Rattle.moving.specs.Contents.{AsBinary, FindsOne, InBinary, MovesContent, contentForm};
 ghost use Rattle.moving.specs.Puts.{Puts};
 ghost use Rattle.number.specs.Contracts.{isSigned, size, widthOf};
 ghost use Rattle.binary.specs.Binary.{contentBytes, truth};
 ghost use Rattle.content_passing.specs.Letters.{letterOf};
 ghost use Rattle.table.specs.Cell.{mostElements};
-ghost use Rattle.table.specs.Shape.{Truths, Whole, shape};
+ghost use Rattle.table.specs.Shape.{Text, Truths, Whole, shape};
 
 // ---- booleans
 
@@ -104,11 +107,45 @@ fn pass_integers(
     o: usize,
 ) -> Content
     requires { ⌜ (n ≤ mostElements) × (at + n * size integer + 8 ≤ length (now s)) × (o + n * size integer + 8 ≤ length (now row)) ⌝ }
-    ensures { λ r. ⌜ MovesContent (InBinary (Whole (isSigned integer) (widthOf integer)) n (now (s .entry)) at) (AsBinary (Whole (isSigned integer) (widthOf integer))) (now (row .entry)) o (now (row .exit)) r ⌝ }
+    ensures { λ r. ⌜ Passes (Whole (isSigned integer) (widthOf integer)) n (now (s .entry)) at (now (row .entry)) o (now (row .exit)) r ⌝ }
 {
     let bytes = n * number::integer_bytes(integer);
     let end = copy(s, at, bytes, row, o);
     Content::Elements(n, at + bytes, end)
+}
+
+// ---- characters
+
+// How many of the next n bytes come before the first that is no letter.
+fn letters_in(n: usize, s: &[u8], at: usize) -> usize
+    requires { ⌜ at + n + 8 ≤ length (now s) ⌝ }
+    ensures { λ r. ⌜ r ≡ run isLetter (take n (drop at (now (s .entry)))) ⌝ }
+{
+    let mut k: usize = 0;
+    while k < n {
+        let ahead = letters_ahead(s, at + k);
+        if ahead < 8 {
+            if n < k + ahead {
+                return n;
+            }
+            return k + ahead;
+        }
+        k += 8;
+    }
+    n
+}
+
+// "A char cell shows the characters before the first NUL": a byte before it that is no letter is for the careful way.
+fn pass_text(n: usize, s: &[u8], at: usize, row: &mut [u8], o: usize) -> Content
+    requires { ⌜ (at + n + 8 ≤ length (now s)) × (o + n + 8 ≤ length (now row)) ⌝ }
+    ensures { λ r. ⌜ Passes Text n (now (s .entry)) at (now (row .entry)) o (now (row .exit)) r ⌝ }
+{
+    let shown = letters_in(n, s, at);
+    if (shown < n) & (s[at + shown] != 0) {
+        return Content::Careful;
+    }
+    let end = copy(s, at, shown, row, o);
+    Content::Elements(shown, at + n, end)
 }
 
 // ---- a content
@@ -120,7 +157,7 @@ pub fn pass_content(kind: Kind, n: usize, s: &[u8], at: usize, row: &mut [u8], o
     match elements_of(kind) {
         Elements::Truths => Content::Careful,
         Elements::Bits => Content::Careful,
-        Elements::Text => Content::Careful,
+        Elements::Text => pass_text(n, s, at, row, o),
         Elements::Whole(integer) => pass_integers(integer, n, s, at, row, o),
     }
 }

@@ -29,6 +29,10 @@ pass-integers-requires c κs =
     let room = fits at-elements (c .before .before .integer .given .1) in
     (at-elements .before .before .before .pre .0, room .0, room .1)
 
+pass-text-requires : tie.Need-pass-text-requires
+unfolding contentBytes
+pass-text-requires c κs = fits (c .before .before .before) (c .before .enum-told3 .given .1)
+
 returns : tie.Need-returns
 returns c = puts-none _ _ (omega arith)
 
@@ -36,7 +40,9 @@ returns-2 : tie.Need-returns-2
 returns-2 c = puts-none _ _ (omega arith)
 
 returns-3 : tie.Need-returns-3
-returns-3 c = puts-none _ _ (omega arith)
+returns-3 c =
+    let at-told = c .before .before .before .before in
+    rw (shape-of (at-told .before .before .elements-of .ensures) (at-told .enum-told3 .given .1)) (c .before .before .pass-text .ensures)
 
 returns-4 : tie.Need-returns-4
 returns-4 c =
@@ -51,10 +57,12 @@ pass-content-spec =
     (λ c. search needs)
     (λ c. search needs)
     (λ c. search needs)
+    pass-text-requires
     (λ c. search needs)
     pass-integers-requires
     returns
     returns-2
+    (λ c. search needs)
     returns-3
     (λ c. search needs)
     returns-4)
