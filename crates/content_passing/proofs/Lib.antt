@@ -1,5 +1,6 @@
 pub mod Copies
 pub mod Letters
 pub mod Ones
+pub mod Padding
 pub mod Texts
 pub mod Wholes

@@ -16,10 +16,10 @@ ghost use Rattle.content_passing.specs.Passes.{Passes};
 ghost use Rattle.moving.specs.Contents.{AsBinary, FindsOne, InBinary, MovesContent, contentForm};
 ghost use Rattle.moving.specs.Puts.{Puts};
 ghost use Rattle.number.specs.Contracts.{isSigned, size, widthOf};
-ghost use Rattle.binary.specs.Binary.{contentBytes, truth};
+ghost use Rattle.binary.specs.Binary.{allZero, bitBytes, bitsOf, contentBytes, truth};
 ghost use Rattle.content_passing.specs.Letters.{letterOf};
 ghost use Rattle.table.specs.Cell.{mostElements};
-ghost use Rattle.table.specs.Shape.{Text, Truths, Whole, shape};
+ghost use Rattle.table.specs.Shape.{Bits, Text, Truths, Whole, shape};
 
 // ---- booleans
 
@@ -148,6 +148,35 @@ fn pass_text(n: usize, s: &[u8], at: usize, row: &mut [u8], o: usize) -> Content
     Content::Elements(shown, at + n, end)
 }
 
+// ---- bits
+
+// Are the bits behind the n-th 0?
+fn is_padded(n: usize, s: &[u8], at: usize) -> bool
+    requires { ⌜ (n ≤ mostElements) × (at + bitBytes n + 8 ≤ length (now s)) ⌝ }
+    ensures { λ r. ⌜ r ≡ allZero (drop n (bitsOf (take (bitBytes n) (drop at (now (s .entry)))))) ⌝ }
+{
+    let bytes = (n + 7) / 8;
+    let spare = 8 * bytes - n;
+    if spare == 0 {
+        return true;
+    }
+    let unit = 1u64 << spare;
+    (s[at + bytes - 1] as u64) % unit == 0
+}
+
+// A padding bit that is 1 is for the careful way.
+fn pass_bits(n: usize, s: &[u8], at: usize, row: &mut [u8], o: usize) -> Content
+    requires { ⌜ (n ≤ mostElements) × (at + bitBytes n + 8 ≤ length (now s)) × (o + bitBytes n + 8 ≤ length (now row)) ⌝ }
+    ensures { λ r. ⌜ Passes Bits n (now (s .entry)) at (now (row .entry)) o (now (row .exit)) r ⌝ }
+{
+    if !is_padded(n, s, at) {
+        return Content::Careful;
+    }
+    let bytes = (n + 7) / 8;
+    let end = copy(s, at, bytes, row, o);
+    Content::Elements(n, at + bytes, end)
+}
+
 // ---- a content
 
 pub fn pass_content(kind: Kind, n: usize, s: &[u8], at: usize, row: &mut [u8], o: usize) -> Content
@@ -156,7 +185,7 @@ pub fn pass_content(kind: Kind, n: usize, s: &[u8], at: usize, row: &mut [u8], o
 {
     match elements_of(kind) {
         Elements::Truths => Content::Careful,
-        Elements::Bits => Content::Careful,
+        Elements::Bits => pass_bits(n, s, at, row, o),
         Elements::Text => pass_text(n, s, at, row, o),
         Elements::Whole(integer) => pass_integers(integer, n, s, at, row, o),
     }

@@ -29,6 +29,13 @@ pass-integers-requires c κs =
     let room = fits at-elements (c .before .before .integer .given .1) in
     (at-elements .before .before .before .pre .0, room .0, room .1)
 
+pass-bits-requires : tie.Need-pass-bits-requires
+unfolding contentBytes
+pass-bits-requires c κs =
+    let at-elements = c .before .before .before in
+    let room = fits at-elements (c .before .enum-told2 .given .1) in
+    (at-elements .before .before .before .pre .0, room .0, room .1)
+
 pass-text-requires : tie.Need-pass-text-requires
 unfolding contentBytes
 pass-text-requires c κs = fits (c .before .before .before) (c .before .enum-told3 .given .1)
@@ -37,7 +44,9 @@ returns : tie.Need-returns
 returns c = puts-none _ _ (omega arith)
 
 returns-2 : tie.Need-returns-2
-returns-2 c = puts-none _ _ (omega arith)
+returns-2 c =
+    let at-told = c .before .before .before .before in
+    rw (shape-of (at-told .before .before .elements-of .ensures) (at-told .enum-told2 .given .1)) (c .before .before .pass-bits .ensures)
 
 returns-3 : tie.Need-returns-3
 returns-3 c =
@@ -56,11 +65,13 @@ pass-content-spec =
     (λ c κs. search needs)
     (λ c. search needs)
     (λ c. search needs)
+    pass-bits-requires
     (λ c. search needs)
     pass-text-requires
     (λ c. search needs)
     pass-integers-requires
     returns
+    (λ c. search needs)
     returns-2
     (λ c. search needs)
     returns-3
