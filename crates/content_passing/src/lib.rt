@@ -177,6 +177,27 @@ fn pass_bits(n: usize, s: &[u8], at: usize, row: &mut [u8], o: usize) -> Content
     Content::Elements(n, at + bytes, end)
 }
 
+// ---- booleans in a row
+
+// A byte that has no letter is for the careful way: that there is one is found behind the loop, which is vector code.
+fn pass_truths(n: usize, s: &[u8], at: usize, row: &mut [u8], o: usize) -> Content
+    requires { ⌜ (at + n + 8 ≤ length (now s)) × (o + n + 8 ≤ length (now row)) ⌝ }
+    ensures { λ r. ⌜ Passes Truths n (now (s .entry)) at (now (row .entry)) o (now (row .exit)) r ⌝ }
+{
+    let mut none: u8 = 0;
+    let mut k: usize = 0;
+    while k < n {
+        let letter = truth_letter(s[at + k]);
+        row[o + k] = letter;
+        none = none | ((letter == 0) as u8);
+        k += 1;
+    }
+    if none == 0 {
+        return Content::Elements(n, at + n, o + n);
+    }
+    Content::Careful
+}
+
 // ---- a content
 
 pub fn pass_content(kind: Kind, n: usize, s: &[u8], at: usize, row: &mut [u8], o: usize) -> Content
@@ -184,7 +205,7 @@ pub fn pass_content(kind: Kind, n: usize, s: &[u8], at: usize, row: &mut [u8], o
     ensures { λ r. ⌜ MovesContent (InBinary (shape kind) n (now (s .entry)) at) (AsBinary (shape kind)) (now (row .entry)) o (now (row .exit)) r ⌝ }
 {
     match elements_of(kind) {
-        Elements::Truths => Content::Careful,
+        Elements::Truths => pass_truths(n, s, at, row, o),
         Elements::Bits => pass_bits(n, s, at, row, o),
         Elements::Text => pass_text(n, s, at, row, o),
         Elements::Whole(integer) => pass_integers(integer, n, s, at, row, o),

@@ -1,11 +1,9 @@
 -- `content_passing::pass_content` meets its contract: what the elements are says the shape of the kind, and so the bytes of the content.
 use Prim.Native.Nat.{_+_, _≤_}
-use native.Mathlib.Omega.{arith}
 use mathlib.Core.Path.{_≡_, subst}
 use denote.Ref.{now}
 use lib.ListN.{length}
 use Rattle.binary.specs.Binary.{contentBytes}
-use Rattle.moving.proofs.Puts.{puts-none}
 use Rattle.number.proofs.Laws.{shape-of}
 use Rattle.number.specs.Contracts.{shapeAs}
 use Rattle.number.specs.declared.Elements.{Elements}
@@ -29,6 +27,10 @@ pass-integers-requires c κs =
     let room = fits at-elements (c .before .before .integer .given .1) in
     (at-elements .before .before .before .pre .0, room .0, room .1)
 
+pass-truths-requires : tie.Need-pass-truths-requires
+unfolding contentBytes
+pass-truths-requires c κs = fits (c .before .before .before) (c .before .enum-told .given .1)
+
 pass-bits-requires : tie.Need-pass-bits-requires
 unfolding contentBytes
 pass-bits-requires c κs =
@@ -41,7 +43,9 @@ unfolding contentBytes
 pass-text-requires c κs = fits (c .before .before .before) (c .before .enum-told3 .given .1)
 
 returns : tie.Need-returns
-returns c = puts-none _ _ (omega arith)
+returns c =
+    let at-told = c .before .before .before .before in
+    rw (shape-of (at-told .before .before .elements-of .ensures) (at-told .enum-told .given .1)) (c .before .before .pass-truths .ensures)
 
 returns-2 : tie.Need-returns-2
 returns-2 c =
@@ -64,12 +68,14 @@ pass-content-spec =
     (tie.spec
     (λ c κs. search needs)
     (λ c. search needs)
+    pass-truths-requires
     (λ c. search needs)
     pass-bits-requires
     (λ c. search needs)
     pass-text-requires
     (λ c. search needs)
     pass-integers-requires
+    (λ c. search needs)
     returns
     (λ c. search needs)
     returns-2
