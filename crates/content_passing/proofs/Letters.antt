@@ -1,14 +1,11 @@
 -- Booleans byte by byte: the letter that a byte is written as says which element it is.
-use Prim.Native.Nat.{_*_, _+_, _<_, _≤_, suc, zero, ℕ}
-use native.Mathlib.Omega.{arith}
+use Prim.Native.Nat.{_*_, _+_, _<_, _≤_, ℕ}
 use mathlib.Core.Bool.{Bool, _||_, false, true}
-use mathlib.Core.List.{List, [], _∷_, map}
-use mathlib.Core.Path.{_∙_, _≡_, ap, ap₂, refl, sym}
+use mathlib.Core.Path.{_≡_, refl}
 use borrow.Author.Tests.{eqb-true}
-use lib.Dec.{eqb, lit<, lit≤}
+use lib.Dec.{eqb, lit≤}
 use lib.IntN.{pos, ℤ}
-use mir.Syntax.{w8}
-use mir.Val.{Fits, boolByte}
+use mir.Val.{boolByte}
 use Rattle.binary.specs.Binary.{truth}
 use Rattle.content_passing.specs.Letters.{letterOf}
 use Rattle.table.proofs.Laws.{cond-cases, each-below}

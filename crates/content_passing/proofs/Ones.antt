@@ -3,7 +3,7 @@ use Prim.Native.Nat.{_*_, _+_, _<_, suc, zero, ℕ}
 use native.Mathlib.Nat.{le-refl, one-mul}
 use native.Mathlib.Omega.{arith}
 use mathlib.Core.Bool.{Bool}
-use mathlib.Core.List.{List, [], _++_, _∷_, append-nil, map}
+use mathlib.Core.List.{List, [], _∷_, append-nil, map}
 use mathlib.Core.Path.{_∙_, _≡_, ap, refl, sym}
 use lib.IntN.{negsuc, pos, ℤ}
 use lib.ListN.{drop, getD, length, take}

@@ -1,12 +1,12 @@
 -- Bits: bytes whose padding is 0 are the bytes that their bits are packed into.
 use Prim.Native.Nat.{_%_, _*_, _+_, _-_, _/_, _<_, _^_, _≤_, suc, zero, ℕ}
 use native.Mathlib.Omega.{arith}
-use mathlib.Core.Bool.{Bool, _&&_, true}
+use mathlib.Core.Bool.{true}
 use mathlib.Core.List.{List, [], _++_, _∷_, map}
 use mathlib.Core.Path.{_∙_, _≡_, ap, ap₂, refl, sym}
 use borrow.Author.Tests.{eqb-true}
 use lib.Dec.{eqb, lit<}
-use lib.IntN.{pos, ℤ}
+use lib.IntN.{pos}
 use lib.ListN.{drop, getD, length, length-drop, length-map, replicate, take, take-append-drop}
 use lib.Seq.{drop-at, getD-drop, getD-take, length-take-le, take-at}
 use Rattle.binary.proofs.Digits.{content-bits, length-bits, no-padding, some-of, spare-test, take-map}
@@ -35,16 +35,17 @@ packed-bits (b ∷ p) a =
     (ap (ofDigits 2 0) (take-at (toDigits 2 8 b) (bitsOf p) 8 l) ∙ of-to 2 (lit< tt) 8 b (a .0))
     (ap (packed (length p)) (drop-at (toDigits 2 8 b) (bitsOf p) 8 l) ∙ packed-bits p (a .1))
 
+-- bits with zeros behind them are all the bits of the bytes
+all-bits : (p : List ℕ) (n spare : ℕ) → n + spare ≡ 8 * length p → allZero (drop n (bitsOf p)) ≡ true → take n (bitsOf p) ++ replicate spare 0 ≡ bitsOf p
+all-bits p n spare h z =
+    let r : spare ≡ length (drop n (bitsOf p)) = omega (arith, length-bits p, length-drop n (bitsOf p)) in
+    ap (λ (l : List ℕ). take n (bitsOf p) ++ l) (ap (λ (k : ℕ). replicate k 0) r ∙ sym (zeros-only (drop n (bitsOf p)) z)) ∙ take-append-drop n (bitsOf p)
+
 pack-back : (p : List ℕ) (n : ℕ) → AreBytes p → length p ≡ bitBytes n → allZero (drop n (bitsOf p)) ≡ true → pack (take n (bitsOf p)) ≡ p
 unfolding pack bitBytes
 pack-back p n a l z =
-    let few : n ≤ length (bitsOf p) = omega (arith, length-bits p) in
-    let m : length (take n (bitsOf p)) ≡ n = length-take-le n (bitsOf p) few in
-    let r : 8 * ((n + 7) / 8) - n ≡ length (drop n (bitsOf p)) = omega (arith, length-bits p, length-drop n (bitsOf p)) in
-    ap (λ (k : ℕ). packed ((k + 7) / 8) (take n (bitsOf p) ++ replicate (8 * ((k + 7) / 8) - k) 0)) m
-    ∙ ap₂ (λ (k : ℕ) (y : List ℕ). packed k (take n (bitsOf p) ++ y)) (sym l) (ap (λ (k : ℕ). replicate k 0) r ∙ sym (zeros-only (drop n (bitsOf p)) z))
-    ∙ ap (packed (length p)) (take-append-drop n (bitsOf p))
-    ∙ packed-bits p a
+    let m : length (take n (bitsOf p)) ≡ n = length-take-le n (bitsOf p) (omega (arith, length-bits p)) in
+    rw (m, ← l) (ap (packed (length p)) (all-bits p n (8 * length p - n) (omega arith) z) ∙ packed-bits p a)
 
 bits-few : (p : List ℕ) → All (λ (b : ℕ). b < 2) (bitsOf p)
 unfolding bitsOf

@@ -1,5 +1,5 @@
 -- Characters: letters at the front, counted in parts; what is shown of them is put as it stands.
-use Prim.Native.Nat.{_%_, _+_, _-_, _<_, _^_, _≤_, min, suc, zero, ℕ}
+use Prim.Native.Nat.{_+_, _-_, _<_, _≤_, min, suc, zero, ℕ}
 use native.Mathlib.Nat.{mod-eq-of-lt, sub-self}
 use native.Mathlib.Omega.{arith}
 use mathlib.Core.Bool.{Bool, _&&_, cond, false, false≢true, not, true}
@@ -7,7 +7,7 @@ use mathlib.Core.List.{List, [], _++_, _∷_, append-nil, map}
 use mathlib.Core.Path.{_∙_, _≡_, ap, ap₂, refl, sym}
 use borrow.Author.Tests.{eq-eqb, eqb-true, lt-ltb, ltb-true, ne-eqb}
 use lib.Dec.{eqb, ltb}
-use lib.IntN.{pos, ℤ}
+use lib.IntN.{pos}
 use lib.ListN.{drop, getD, length, length-drop, length-map, replicate, take}
 use lib.Seq.{getD-drop, getD-take, length-take-le, take-take}
 use Rattle.binary.specs.Binary.{beforeNul, bytesOf, content, contentBytes, element, number, numbersIn}
@@ -98,12 +98,14 @@ text-moved n shown s old new at o e a h q ends u =
     let l : length p ≡ n = length-take-le n (drop at s) (simp length-drop (omega arith)) in
     let t : List ℕ = take shown (drop at s) in
     let m : length t ≡ shown = length-take-le shown (drop at s) (simp length-drop (omega arith)) in
+    let nul : run isLetter p < length p → getD p (run isLetter p) 0 ≡ 0 = λ k.
+    ap (λ (j : ℕ). getD p j 0) (sym q) ∙ getD-take n (drop at s) shown 0 (omega arith) ∙ getD-drop at s shown 0 ∙ ends (omega arith) in
     let same : take (run isLetter p) p ≡ t = ap (λ (k : ℕ). take k p) (sym q) ∙ take-take shown n (drop at s) few in
     record {
       es = map pos t;
       bytes = t;
       reads = record {
-        elements = text-read p (λ k. ap (λ (j : ℕ). getD p j 0) (sym q) ∙ getD-take n (drop at s) shown 0 (omega arith) ∙ getD-drop at s shown 0 ∙ ends (omega arith)) ∙ ap (λ (x : List ℕ). good (map pos x)) same;
+        elements = text-read p nul ∙ ap (λ (x : List ℕ). good (map pos x)) same;
         next-is = refl;
       };
       writes = text-form t (all-take _ shown (drop at s) (all-drop _ at s a));

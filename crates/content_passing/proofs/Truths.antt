@@ -1,5 +1,5 @@
 -- Booleans in a row: bytes that have letters are elements, and are put as their letters.
-use Prim.Native.Nat.{_*_, _+_, _<_, _≤_, suc, ℕ}
+use Prim.Native.Nat.{_*_, _+_, _<_, _≤_, ℕ}
 use native.Mathlib.Omega.{arith}
 use mathlib.Core.Bool.{Bool, false, false≢true, true}
 use mathlib.Core.List.{List, [], _++_, _∷_, map}
@@ -17,7 +17,7 @@ use Rattle.content_passing.proofs.Copies.{next-taken}
 use Rattle.content_passing.proofs.Letters.{letter-value, valueOf}
 use Rattle.content_passing.proofs.Ones.{truths-form}
 use Rattle.content_passing.specs.Letters.{letterOf}
-use Rattle.moving.specs.Contents.{AsBinary, ContentMoved, InBinary, contentForm}
+use Rattle.moving.specs.Contents.{AsBinary, ContentMoved, InBinary}
 use Rattle.moving.specs.Puts.{Puts}
 use Rattle.number.specs.Number.{ofDigits}
 use Rattle.table.proofs.Laws.{all-append}

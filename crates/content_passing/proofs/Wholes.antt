@@ -2,10 +2,9 @@
 use Prim.Native.Nat.{_%_, _*_, _+_, _-_, _<_, _^_, _≤_, suc, zero, ℕ}
 use native.Mathlib.Nat.{mod-eq-of-lt}
 use native.Mathlib.Omega.{arith}
-use mathlib.Core.Bool.{Bool, cond, false, true}
+use mathlib.Core.Bool.{Bool, false, true}
 use mathlib.Core.List.{List, [], _++_, _∷_, map}
 use mathlib.Core.Path.{_∙_, _≡_, ap, ap₂, refl, sym}
-use borrow.Author.Tests.{ltb-false}
 use lib.Dec.{lit<, ltb}
 use lib.IntN.{negsuc, pos, ℤ}
 use lib.ListN.{drop, length, length-drop, length-take, take, take-append-drop}

@@ -1,4 +1,4 @@
-// Contents of cells that go from BINARY or BINARY2 to BINARY or BINARY2.
+// Contents of cells that go from BINARY or BINARY2 to BINARY or BINARY2: most go as they stand.
 use eights::copy_wide;
 use eights::letters_ahead;
 use moving::Content;
@@ -12,14 +12,14 @@ ghost use mathlib.Core.Path.{_≡_};
 ghost use Prim.Native.Nat.{_*_, _+_, _<_, _≤_};
 ghost use lib.ListN.{drop, length, take};
 ghost use Rattle.eights.specs.Marks.{isLetter, run};
-ghost use Rattle.content_passing.specs.Passes.{Passes};
 ghost use Rattle.moving.specs.Contents.{AsBinary, FindsOne, InBinary, MovesContent, contentForm};
 ghost use Rattle.moving.specs.Puts.{Puts};
 ghost use Rattle.number.specs.Contracts.{isSigned, size, widthOf};
 ghost use Rattle.binary.specs.Binary.{allZero, bitBytes, bitsOf, contentBytes, truth};
-ghost use Rattle.content_passing.specs.Letters.{letterOf};
 ghost use Rattle.table.specs.Cell.{mostElements};
 ghost use Rattle.table.specs.Shape.{Bits, Text, Truths, Whole, shape};
+ghost use Rattle.content_passing.specs.Letters.{letterOf};
+ghost use Rattle.content_passing.specs.Passes.{Passes};
 
 // ---- booleans
 
@@ -57,6 +57,7 @@ pub fn binary_truth(s: &[u8], at: usize) -> One
     One::Element(value as i64, at + 1)
 }
 
+// The low bytes of an integer, as many as its kind has.
 pub fn pass_integer(integer: Integer, z: i64, row: &mut [u8], o: usize) -> usize
     requires { ⌜ o + 8 ≤ length (now row) ⌝ }
     ensures { λ r. ⌜ Puts (now (row .entry)) o (contentForm (Whole (isSigned integer) (widthOf integer)) (z ∷ [])) (now (row .exit)) r ⌝ }
@@ -64,6 +65,7 @@ pub fn pass_integer(integer: Integer, z: i64, row: &mut [u8], o: usize) -> usize
     integers::write_integer(row, o, integer, z)
 }
 
+// The letter of a boolean.
 pub fn pass_truth(z: i64, row: &mut [u8], o: usize) -> usize
     requires { ⌜ o + 8 ≤ length (now row) ⌝ }
     ensures { λ r. ⌜ Puts (now (row .entry)) o (contentForm Truths (z ∷ [])) (now (row .exit)) r ⌝ }
@@ -87,6 +89,7 @@ fn copy_many(s: &[u8], from: usize, n: usize, row: &mut [u8], o: usize) -> usize
     o + n
 }
 
+// Few bytes eight at a time, many as vectors.
 fn copy(s: &[u8], from: usize, n: usize, row: &mut [u8], o: usize) -> usize
     requires { ⌜ (from + n + 8 ≤ length (now s)) × (o + n + 8 ≤ length (now row)) ⌝ }
     ensures { λ r. ⌜ Puts (now (row .entry)) o (take n (drop from (now (s .entry)))) (now (row .exit)) r ⌝ }
@@ -97,7 +100,7 @@ fn copy(s: &[u8], from: usize, n: usize, row: &mut [u8], o: usize) -> usize
     copy_many(s, from, n, row, o)
 }
 
-// Integers.
+// Integers are put as they stand, whatever their width.
 fn pass_integers(
     integer: Integer,
     n: usize,
@@ -200,6 +203,7 @@ fn pass_truths(n: usize, s: &[u8], at: usize, row: &mut [u8], o: usize) -> Conte
 
 // ---- a content
 
+// The elements of a cell, after its count and before what it is filled up with.
 pub fn pass_content(kind: Kind, n: usize, s: &[u8], at: usize, row: &mut [u8], o: usize) -> Content
     requires { ⌜ (n ≤ mostElements) × (at + contentBytes (shape kind) n + 8 ≤ length (now s)) × (o + contentBytes (shape kind) n + 8 ≤ length (now row)) ⌝ }
     ensures { λ r. ⌜ MovesContent (InBinary (shape kind) n (now (s .entry)) at) (AsBinary (shape kind)) (now (row .entry)) o (now (row .exit)) r ⌝ }

@@ -1,5 +1,5 @@
 -- `content_passing::binary_integer` meets its contract: the integer that is read is the one element of its bytes.
-use mathlib.Core.Path.{_∙_, ap}
+use mathlib.Core.Path.{_∙_}
 use native.Mathlib.Omega.{arith}
 use denote.Ref.{now}
 use mir.Facts.{toZ-ofZ}

@@ -11,7 +11,7 @@ use Rattle.content_passing.proofs.is_padded.Tie as tie
 
 returns : tie.Need-returns
 unfolding bitBytes
-returns c = let a = c .before .args in none-spare (now (a .s)) (a .at) (a .n) (omega arith) (c .if1 .taken)
+returns c = let a = c .before .args in none-spare (now (a .s)) (a .at) (a .n) (omega arith) (omega arith)
 
 shared-slice-read-result : tie.Need-shared-slice-read-result
 unfolding bitBytes

@@ -15,7 +15,7 @@ returns : tie.Need-returns
 returns c =
     let start = c .before .before in
     puts-as (ap (λ (b : ℕ). b ∷ []) (c .truth-byte .ensures ∙ ap truthByte (toZ-ofZ (start .fits .z))) ∙ truths-form (start .args .z ∷ []))
-    (puts-wrote (record { now-is = refl; next-is = refl }) (omega arith))
+    (puts-wrote (record { now-is = refl; next-is = omega arith }) (omega arith))
 
 pub pass-truth-spec : {M : Type 1} → statement M
 pass-truth-spec =

@@ -1,5 +1,4 @@
 -- `content_passing::truth_letter` meets its contract: what the tests sum to is the letter, of every byte.
-use mathlib.Core.Path.{_≡_}
 use native.Mathlib.Omega.{arith}
 use Rattle.content_passing.proofs.Letters.{flag-le, isFalse, isTrue, isUnknown, letter-is}
 use borrow.Author.Needs.{needs}
