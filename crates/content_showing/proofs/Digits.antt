@@ -13,6 +13,7 @@ use lib.ListN.{length}
 use lib.Pow.{pow-mono, shl-shr}
 use lib.Signed.{mag}
 use borrow.Author.Tests.{ltb-false, ltb-true}
+use Rattle.binary.proofs.Digits.{map-join}
 use Rattle.content_showing.specs.Showing.{sign}
 use Rattle.decimals.proofs.Numerals.{digits-numerals, length-numerals}
 use Rattle.decimals.specs.Contracts.{numerals}
@@ -46,16 +47,12 @@ pub shown-lt : (v : ℕ) → ofDigits 256 0 (numerals 8 v) < 1844674407370955161
 unfolding numerals toDigits
 shown-lt v = of-lt 256 (lit< tt) (numerals 8 v) (shift-bytes 8 v)
 
-map-append : (f : ℕ → ℕ) (xs ys : List ℕ) → map f (xs ++ ys) ≡ map f xs ++ map f ys
-map-append f [] ys = refl
-map-append f (x ∷ xs) ys = ap {B = List ℕ} (λ l. f x ∷ l) (map-append f xs ys)
-
 -- the upper digits and the lower
 pub numerals-join : (k n v : ℕ) → numerals (k + n) v ≡ numerals k (v / 10 ^ n) ++ numerals n v
 unfolding numerals
 numerals-join k n v =
     ap (map (λ (d : ℕ). d + 48)) (digits-join 10 (lit< tt) k n v ∙ ap (λ (l : List ℕ). toDigits 10 k (v / 10 ^ n) ++ l) (digits-low 10 (lit< tt) n v))
-    ∙ map-append (λ (d : ℕ). d + 48) (toDigits 10 k (v / 10 ^ n)) (toDigits 10 n v)
+    ∙ map-join (λ (d : ℕ). d + 48) (toDigits 10 k (v / 10 ^ n)) (toDigits 10 n v)
 
 pub numerals-low : (n v : ℕ) → numerals n (v % 10 ^ n) ≡ numerals n v
 unfolding numerals

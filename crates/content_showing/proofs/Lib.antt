@@ -1,2 +1,5 @@
 pub mod Stores
 pub mod Digits
+pub mod Marked
+pub mod Text
+pub mod Contents

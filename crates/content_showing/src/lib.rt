@@ -1,14 +1,25 @@
 // The contents of cells of BINARY and BINARY2 as the text of a cell of TABLEDATA, in a row's buffer.
+use eights::copy_wide;
 use eights::eight_digits;
+use eights::first_of;
+use integers::eight_bytes;
 use integers::put_eight;
+use moving::Content;
+use number::Elements;
+use number::elements_of;
+use table::Kind;
 ghost use Prim.Native.Nat.{_+_, _<_, _≤_};
-ghost use Rattle.content_showing.specs.Showing.{sign};
+ghost use Rattle.binary.specs.Binary.{contentBytes};
+ghost use Rattle.content_showing.specs.Showing.{filled, isItself, reference, sign};
 ghost use Rattle.decimals.specs.Contracts.{numerals};
+ghost use Rattle.eights.specs.Marks.{Marks, run};
+ghost use Rattle.moving.specs.Contents.{AsText, InBinary, MovesContent};
 ghost use Rattle.moving.specs.Puts.{Puts};
-ghost use Rattle.number.specs.Number.{digits, shortest};
-ghost use Rattle.table.specs.Cell.{truthByte};
+ghost use Rattle.number.specs.Number.{digits, shortest, toDigits};
+ghost use Rattle.table.specs.Cell.{mostElements, truthByte};
+ghost use Rattle.table.specs.Shape.{Text, shape};
 ghost use lib.IntN.{natAbs};
-ghost use lib.ListN.{length};
+ghost use lib.ListN.{drop, length, take};
 ghost use mathlib.Core.List.{[], _∷_};
 ghost use mathlib.Core.Path.{_≡_};
 
@@ -93,4 +104,125 @@ pub fn show_truth(z: i64, row: &mut [u8], o: usize) -> usize
 {
     row[o] = table::truth_byte(z);
     o + 1
+}
+
+// ---- characters
+
+// The high bit of each of eight bytes that is not written as itself.
+fn no_text(x: u64) -> u64
+    ensures { λ r. ⌜ Marks isItself x r ⌝ }
+{
+    let y = x & 0x7f7f7f7f7f7f7f7f;
+    let high = y + 0x6060606060606060;
+    let no_amp = (y ^ 0x2626262626262626) + 0x7f7f7f7f7f7f7f7f;
+    let no_lt = (y ^ 0x3c3c3c3c3c3c3c3c) + 0x7f7f7f7f7f7f7f7f;
+    let no_gt = (y ^ 0x3e3e3e3e3e3e3e3e) + 0x7f7f7f7f7f7f7f7f;
+    (((high & no_amp & no_lt & no_gt) ^ 0x8080808080808080) | x) & 0x8080808080808080
+}
+
+// How many of the next eight bytes are written as themselves, up to the first that is not.
+fn text_ahead(s: &[u8], at: usize) -> usize
+    requires { ⌜ at + 8 ≤ length (now s) ⌝ }
+    ensures { λ r. ⌜ r ≡ run isItself (take 8 (drop at (now (s .entry)))) ⌝ }
+{
+    first_of(no_text(eight_bytes(s, at)))
+}
+
+fn smaller(a: usize, b: usize) -> usize
+    ensures { λ r. ⌜ (r ≤ a) × (r ≤ b) ⌝ }
+{
+    if a < b { a } else { b }
+}
+
+// How many of the next n bytes are, eight at a time.
+fn text_run(s: &[u8], at: usize, n: usize) -> usize
+    requires { ⌜ at + n + 8 ≤ length (now s) ⌝ }
+    ensures { λ r. ⌜ r ≤ run isItself (take n (drop at (now (s .entry)))) ⌝ }
+{
+    let mut k: usize = 0;
+    while k < n {
+        let ahead = text_ahead(s, at + k);
+        if ahead < 8 {
+            return smaller(k + ahead, n);
+        }
+        k += 8;
+    }
+    n
+}
+
+// "Char writes `&amp;`, `&lt;`, `&gt;` and `&#xD;`"; 9 and 10 are themselves, and nothing is put of any other. No test is a branch.
+fn reference_word(b: u8) -> u64
+    ensures { λ r. ⌜ toDigits 256 8 r ≡ filled (reference b) ⌝ }
+{
+    ((b == 38) as u64) * 0x26616d703b000000
+        + ((b == 60) as u64) * 0x266c743b00000000
+        + ((b == 62) as u64) * 0x2667743b00000000
+        + ((b == 13) as u64) * 0x262378443b000000
+        + ((b == 9) as u64) * 0x0900000000000000
+        + ((b == 10) as u64) * 0x0a00000000000000
+}
+
+fn reference_size(b: u8) -> usize
+    ensures { λ r. ⌜ (r ≡ length (reference b)) × (r ≤ 8) ⌝ }
+{
+    ((b == 38) as usize) * 5
+        + ((b == 60) as usize) * 4
+        + ((b == 62) as usize) * 4
+        + ((b == 13) as usize) * 5
+        + ((b == 9) as usize)
+        + ((b == 10) as usize)
+}
+
+fn put_reference(b: u8, row: &mut [u8], o: usize) -> usize
+    requires { ⌜ o + 8 ≤ length (now row) ⌝ }
+    ensures { λ r. ⌜ Puts (now (row .entry)) o (reference b) (now (row .exit)) r ⌝ }
+{
+    put_eight(row, o, reference_word(b));
+    o + reference_size(b)
+}
+
+fn show_text(n: usize, s: &[u8], at: usize, row: &mut [u8], o: usize) -> Content
+    requires { ⌜ (at + n + 8 ≤ length (now s)) × (o ≤ length (now row)) ⌝ }
+    ensures { λ r. ⌜ MovesContent (InBinary Text n (now (s .entry)) at) (AsText Text) (now (row .entry)) o (now (row .exit)) r ⌝ }
+{
+    let mut e = o;
+    let mut k: usize = 0;
+    loop {
+        let run = text_run(s, at + k, n - k);
+        if row.len() - e < run + 16 {
+            return Content::Careful;
+        }
+        e = copy_wide(s, at + k, run, row, e);
+        k += run;
+        if k == n {
+            return Content::Elements(k, at + n, e);
+        }
+        let b = s[at + k];
+        if b == 0 {
+            return Content::Elements(k, at + n, e);
+        }
+        let next = put_reference(b, row, e);
+        if next == e {
+            return Content::Careful;
+        }
+        e = next;
+        k += 1;
+    }
+}
+
+// ---- a content
+
+pub fn show_content(kind: Kind, n: usize, s: &[u8], at: usize, row: &mut [u8], o: usize) -> Content
+    requires { ⌜ (n ≤ mostElements) × (at + contentBytes (shape kind) n + 8 ≤ length (now s)) × (o ≤ length (now row)) ⌝ }
+    ensures { λ r. ⌜ MovesContent (InBinary (shape kind) n (now (s .entry)) at) (AsText (shape kind)) (now (row .entry)) o (now (row .exit)) r ⌝ }
+{
+    if n == 0 {
+        return Content::Elements(0, at, o);
+    }
+    match elements_of(kind) {
+        Elements::Truths => Content::Careful,
+        Elements::Bits => Content::Careful,
+        Elements::Text => show_text(n, s, at, row, o),
+        Elements::Whole(_) => Content::Careful,
+    }
 }
