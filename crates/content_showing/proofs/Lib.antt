@@ -3,3 +3,4 @@ pub mod Digits
 pub mod Marked
 pub mod Text
 pub mod Contents
+pub mod Words

@@ -182,7 +182,7 @@ text-moved {old} {new} {s} {o} {e} {at} {n} {k} b t h u z =
       count-is = sym (length-map (take k p) pos ∙ length-take-le k p h);
     }
 
-drop-of-take : (k n : ℕ) (l : List ℕ) → drop k (take n l) ≡ take (n - k) (drop k l)
+pub drop-of-take : (k n : ℕ) (l : List ℕ) → drop k (take n l) ≡ take (n - k) (drop k l)
 drop-of-take zero n l = let e : n ≡ n - 0 = omega arith in ap (λ (m : ℕ). take m l) e
 drop-of-take (suc k) zero l = let e : 0 ≡ 0 - suc k = omega arith in ap (λ (m : ℕ). take m (drop (suc k) l)) e
 drop-of-take (suc k) (suc n) [] = sym (take-nil (suc n - suc k))

@@ -4,23 +4,27 @@ use eights::eight_digits;
 use eights::first_of;
 use integers::eight_bytes;
 use integers::put_eight;
+use integers::read_integer;
 use moving::Content;
 use number::Elements;
+use number::Integer;
 use number::elements_of;
+use number::integer_bytes;
 use table::Kind;
-ghost use Prim.Native.Nat.{_+_, _<_, _≤_};
+ghost use Prim.Native.Nat.{_*_, _+_, _<_, _≤_};
 ghost use Rattle.binary.specs.Binary.{contentBytes};
 ghost use Rattle.content_showing.specs.Showing.{filled, isItself, reference, sign};
 ghost use Rattle.decimals.specs.Contracts.{numerals};
 ghost use Rattle.eights.specs.Marks.{Marks, run};
 ghost use Rattle.moving.specs.Contents.{AsText, InBinary, MovesContent};
 ghost use Rattle.moving.specs.Puts.{Puts};
+ghost use Rattle.number.specs.Contracts.{isSigned, size, widthOf};
 ghost use Rattle.number.specs.Number.{digits, shortest, toDigits};
 ghost use Rattle.table.specs.Cell.{mostElements, truthByte};
-ghost use Rattle.table.specs.Shape.{Text, shape};
+ghost use Rattle.table.specs.Shape.{Text, Whole, shape};
 ghost use lib.IntN.{natAbs};
 ghost use lib.ListN.{drop, length, take};
-ghost use mathlib.Core.List.{[], _∷_};
+ghost use mathlib.Core.List.{[], _++_, _∷_};
 ghost use mathlib.Core.Path.{_≡_};
 
 // ---- "integers shortest decimal, no `+`"
@@ -210,6 +214,45 @@ fn show_text(n: usize, s: &[u8], at: usize, row: &mut [u8], o: usize) -> Content
     }
 }
 
+// ---- integers, "one space between"
+
+// An integer and a space behind it.
+fn put_word(z: i64, row: &mut [u8], o: usize) -> usize
+    requires { ⌜ o + 33 ≤ length (now row) ⌝ }
+    ensures { λ r. ⌜ Puts (now (row .entry)) o (shortest z ++ (32 ∷ [])) (now (row .exit)) r ⌝ }
+{
+    let next = show_integer(z, row, o);
+    row[next] = 32;
+    next + 1
+}
+
+// The space behind the last is left out.
+fn show_integers(
+    integer: Integer,
+    n: usize,
+    s: &[u8],
+    at: usize,
+    row: &mut [u8],
+    o: usize,
+) -> Content
+    requires { ⌜ (0 < n) × (at + n * size integer ≤ length (now s)) × (o ≤ length (now row)) ⌝ }
+    ensures { λ r. ⌜ MovesContent (InBinary (Whole (isSigned integer) (widthOf integer)) n (now (s .entry)) at) (AsText (Whole (isSigned integer) (widthOf integer))) (now (row .entry)) o (now (row .exit)) r ⌝ }
+{
+    let width = integer_bytes(integer);
+    let mut from = at;
+    let mut e = o;
+    let mut k: usize = 0;
+    while k < n {
+        if row.len() - e < 40 {
+            return Content::Careful;
+        }
+        e = put_word(read_integer(s, from, integer), row, e);
+        from += width;
+        k += 1;
+    }
+    Content::Elements(n, from, e - 1)
+}
+
 // ---- a content
 
 pub fn show_content(kind: Kind, n: usize, s: &[u8], at: usize, row: &mut [u8], o: usize) -> Content
@@ -223,6 +266,6 @@ pub fn show_content(kind: Kind, n: usize, s: &[u8], at: usize, row: &mut [u8], o
         Elements::Truths => Content::Careful,
         Elements::Bits => Content::Careful,
         Elements::Text => show_text(n, s, at, row, o),
-        Elements::Whole(_) => Content::Careful,
+        Elements::Whole(integer) => show_integers(integer, n, s, at, row, o),
     }
 }
