@@ -1,0 +1,6 @@
+pub mod Stores
+pub mod Digits
+pub mod Marked
+pub mod Text
+pub mod Contents
+pub mod Words

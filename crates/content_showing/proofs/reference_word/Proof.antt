@@ -1,0 +1,33 @@
+-- `content_showing::reference_word` meets its contract: by computation over the bytes.
+use lib.Dec.{eqb}
+use Rattle.content_showing.proofs.Text.{bit-le, word-is}
+use native.Mathlib.Omega.{arith}
+use borrow.Author.Needs.{needs}
+use Rattle.content_showing.proofs.reference_word.Statement.{statement}
+use Rattle.content_showing.proofs.reference_word.Tie as tie
+
+returns : tie.Need-returns
+returns c = word-is (c .args .b) (c .fits .b .fits)
+
+pub reference-word-spec : {M : Type 1} → statement M
+reference-word-spec =
+    tie.close
+    (tie.spec
+    (λ c. search needs)
+    (λ c. record { fits = omega (arith, bit-le (eqb (c .args .b) 38), bit-le (eqb (c .args .b) 60), bit-le (eqb (c .args .b) 62), bit-le (eqb (c .args .b) 13), bit-le (eqb (c .args .b) 9), bit-le (eqb (c .args .b) 10)) })
+    (λ c. search needs)
+    (λ c. record { fits = omega (arith, bit-le (eqb (c .args .b) 38), bit-le (eqb (c .args .b) 60), bit-le (eqb (c .args .b) 62), bit-le (eqb (c .args .b) 13), bit-le (eqb (c .args .b) 9), bit-le (eqb (c .args .b) 10)) })
+    (λ c. record { fits = omega (arith, bit-le (eqb (c .args .b) 38), bit-le (eqb (c .args .b) 60), bit-le (eqb (c .args .b) 62), bit-le (eqb (c .args .b) 13), bit-le (eqb (c .args .b) 9), bit-le (eqb (c .args .b) 10)) })
+    (λ c. search needs)
+    (λ c. record { fits = omega (arith, bit-le (eqb (c .args .b) 38), bit-le (eqb (c .args .b) 60), bit-le (eqb (c .args .b) 62), bit-le (eqb (c .args .b) 13), bit-le (eqb (c .args .b) 9), bit-le (eqb (c .args .b) 10)) })
+    (λ c. record { fits = omega (arith, bit-le (eqb (c .args .b) 38), bit-le (eqb (c .args .b) 60), bit-le (eqb (c .args .b) 62), bit-le (eqb (c .args .b) 13), bit-le (eqb (c .args .b) 9), bit-le (eqb (c .args .b) 10)) })
+    (λ c. search needs)
+    (λ c. record { fits = omega (arith, bit-le (eqb (c .args .b) 38), bit-le (eqb (c .args .b) 60), bit-le (eqb (c .args .b) 62), bit-le (eqb (c .args .b) 13), bit-le (eqb (c .args .b) 9), bit-le (eqb (c .args .b) 10)) })
+    (λ c. record { fits = omega (arith, bit-le (eqb (c .args .b) 38), bit-le (eqb (c .args .b) 60), bit-le (eqb (c .args .b) 62), bit-le (eqb (c .args .b) 13), bit-le (eqb (c .args .b) 9), bit-le (eqb (c .args .b) 10)) })
+    (λ c. search needs)
+    (λ c. record { fits = omega (arith, bit-le (eqb (c .args .b) 38), bit-le (eqb (c .args .b) 60), bit-le (eqb (c .args .b) 62), bit-le (eqb (c .args .b) 13), bit-le (eqb (c .args .b) 9), bit-le (eqb (c .args .b) 10)) })
+    (λ c. record { fits = omega (arith, bit-le (eqb (c .args .b) 38), bit-le (eqb (c .args .b) 60), bit-le (eqb (c .args .b) 62), bit-le (eqb (c .args .b) 13), bit-le (eqb (c .args .b) 9), bit-le (eqb (c .args .b) 10)) })
+    (λ c. search needs)
+    (λ c. record { fits = omega (arith, bit-le (eqb (c .args .b) 38), bit-le (eqb (c .args .b) 60), bit-le (eqb (c .args .b) 62), bit-le (eqb (c .args .b) 13), bit-le (eqb (c .args .b) 9), bit-le (eqb (c .args .b) 10)) })
+    (λ c. record { fits = omega (arith, bit-le (eqb (c .args .b) 38), bit-le (eqb (c .args .b) 60), bit-le (eqb (c .args .b) 62), bit-le (eqb (c .args .b) 13), bit-le (eqb (c .args .b) 9), bit-le (eqb (c .args .b) 10)) })
+    returns)
