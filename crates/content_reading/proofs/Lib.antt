@@ -1,2 +1,4 @@
 pub mod Spelling
 pub mod Singles
+pub mod Lanes
+pub mod Chars

@@ -15,7 +15,7 @@ use Rattle.tabledata.specs.TableData.{characters, consText, plain}
 
 -- ---- characters before those of a text
 
-before-none : (r : Result ℕ (List ℕ × List ℕ)) → r ≡ before [] r
+pub before-none : (r : Result ℕ (List ℕ × List ℕ)) → r ≡ before [] r
 unfolding before
 before-none (good p) = refl
 before-none (bad n) = refl
@@ -25,7 +25,7 @@ unfolding before
 before-then w v (good p) = ap (λ (t : List ℕ). good (t, p .1)) (sym (append-assoc w v (p .0)))
 before-then w v (bad n) = refl
 
-before-cons : (c : ℕ) (w : List ℕ) (r : Result ℕ (List ℕ × List ℕ)) → consText c (before w r) ≡ before (c ∷ w) r
+pub before-cons : (c : ℕ) (w : List ℕ) (r : Result ℕ (List ℕ × List ℕ)) → consText c (before w r) ≡ before (c ∷ w) r
 unfolding before consText
 before-cons c w (good p) = refl
 before-cons c w (bad n) = refl

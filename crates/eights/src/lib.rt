@@ -33,7 +33,7 @@ fn no_letters(x: u64) -> u64
 }
 
 // How many bytes come before the first that is marked.
-fn first_of(m: u64) -> usize
+pub fn first_of(m: u64) -> usize
     ensures { λ r. ⌜ FirstIs m r ⌝ }
 {
     (u64::leading_zeros(m) / 8) as usize
