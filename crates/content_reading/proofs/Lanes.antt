@@ -7,6 +7,7 @@ use lib.Bits.{and-lt, bitAnd, bitOr, bitXor, or-lt, xor-lt}
 use lib.Dec.{eqb, lit<, ltb}
 use lib.ListN.{length, replicate}
 use borrow.Author.Tests.{eqb-true, ltb-true}
+use Rattle.content_reading.specs.Figures.{isBit}
 use Rattle.eights.proofs.Lanes.{add-lanes, and-lanes, eight-of, map-agree, or-lanes, themselves, xor-lanes}
 use Rattle.eights.specs.Marks.{mark}
 use Rattle.number.specs.Number.{ofDigits}
@@ -16,16 +17,16 @@ use Rattle.tabledata.specs.Contracts.{isPlain}
 use Rattle.table.specs.Bytes.{between}
 
 -- x is what f makes of each byte
-record Bytewise (ds : List ℕ) (x : ℕ) (f : ℕ → ℕ) : Type 0 where
-  is : x ≡ ofDigits 256 0 (map f ds)
-  small : (d : ℕ) → d < 256 → f d < 256
+pub record Bytewise (ds : List ℕ) (x : ℕ) (f : ℕ → ℕ) : Type 0 where
+  pub is : x ≡ ofDigits 256 0 (map f ds)
+  pub small : (d : ℕ) → d < 256 → f d < 256
 
 module _ (ds : List ℕ) (l : length ds ≡ 8) (a : AreBytes ds) where
-  own : {x : ℕ} → x ≡ ofDigits 256 0 ds → Bytewise ds x (λ (d : ℕ). d)
+  pub own : {x : ℕ} → x ≡ ofDigits 256 0 ds → Bytewise ds x (λ (d : ℕ). d)
   own e = record { is = e ∙ themselves ds; small = λ d h. h }
 
   -- one byte eight times
-  eight : (v : ℕ) {x : ℕ} → ofDigits 256 0 (replicate 8 v) ≡ x → v < 256 → Bytewise ds x (λ (d : ℕ). v)
+  pub eight : (v : ℕ) {x : ℕ} → ofDigits 256 0 (replicate 8 v) ≡ x → v < 256 → Bytewise ds x (λ (d : ℕ). v)
   eight v {x} e h = record { is = eight-of v x ds l e; small = λ d _. h }
 
   module _ {x y : ℕ} {f g : ℕ → ℕ} (p : Bytewise ds x f) (q : Bytewise ds y g) where
@@ -35,7 +36,7 @@ module _ (ds : List ℕ) (l : length ds ≡ 8) (a : AreBytes ds) where
     either : Bytewise ds (bitOr x y) (λ (d : ℕ). bitOr (f d) (g d))
     either = record { is = ap₂ bitOr (p .is) (q .is) ∙ or-lanes f g (p .small) (q .small) ds a; small = λ d h. or-lt 8 (f d) (g d) (p .small d h) (q .small d h) }
 
-    differing : Bytewise ds (bitXor x y) (λ (d : ℕ). bitXor (f d) (g d))
+    pub differing : Bytewise ds (bitXor x y) (λ (d : ℕ). bitXor (f d) (g d))
     differing = record { is = ap₂ bitXor (p .is) (q .is) ∙ xor-lanes f g (p .small) (q .small) ds a; small = λ d h. xor-lt 8 (f d) (g d) (p .small d h) (q .small d h) }
 
     -- no byte of the sum passes 255
@@ -66,3 +67,12 @@ module _ (ds : List ℕ) (l : length ds ≡ 8) (a : AreBytes ds) where
       let low = both (own e) rest in
       let fine = both (both (sum low (eight 96 refl (lit< tt)) refl) (sum (differing low (eight 38 refl (lit< tt))) rest refl)) (sum (differing low (eight 60 refl (lit< tt))) rest refl) in
       marked isPlain (both (either (differing fine tops) (own e)) tops) refl
+
+  -- ---- which bytes are bits
+
+  pub bits-marked : (x : ℕ) → x ≡ ofDigits 256 0 ds
+      → bitAnd (bitOr (bitAnd (bitXor x 3472328296227680304) 9187201950435737471 + 9114861777597660798) (bitXor x 3472328296227680304)) 9259542123273814144 ≡ ofDigits 256 0 (map (mark isBit) ds)
+  unfolding ofDigits mark isBit between
+  bits-marked x e =
+      let t = differing (own e) (eight 48 refl (lit< tt)) in
+      marked isBit (both (either (sum (both t rest) (eight 126 refl (lit< tt)) refl) t) tops) refl

@@ -15,11 +15,12 @@ use words::quick_integer;
 ghost use mathlib.Core.Path.{_≡_};
 ghost use Prim.Native.Nat.{_+_, _≤_};
 ghost use lib.ListN.{length};
+ghost use Rattle.content_reading.specs.Figures.{BitByte, Leading, ReadIn, isBit};
 ghost use Rattle.content_reading.specs.Letters.{LetterIs, PlainTo, truthNumber};
 ghost use Rattle.eights.specs.Marks.{Marks};
 ghost use Rattle.moving.specs.Contents.{AsBinary, FindsOne, InText, MovesContent};
 ghost use Rattle.number.specs.Contracts.{isSigned, widthOf};
-ghost use Rattle.table.specs.Shape.{Text, Truths, Whole, shape};
+ghost use Rattle.table.specs.Shape.{Bits, Text, Truths, Whole, shape};
 ghost use Rattle.tabledata.specs.Contracts.{isPlain};
 
 // ---- one element by its value
@@ -175,6 +176,73 @@ fn read_text(s: &[u8], from: usize, row: &mut [u8], first: usize) -> Content
     }
 }
 
+// ---- digits, eight at once
+
+// The first n of eight characters, without what makes them characters.
+fn leading_figures(x: u64, n: usize) -> u64
+    requires { ⌜ (1 ≤ n) × (n ≤ 8) ⌝ }
+    ensures { λ r. ⌜ Leading x n r ⌝ }
+{
+    (x ^ 0x3030303030303030) >> (64 - 8 * n)
+}
+
+// ---- bits
+
+// The high bit of each byte that is no bit's letter.
+fn no_bits(x: u64) -> u64
+    ensures { λ r. ⌜ Marks isBit x r ⌝ }
+{
+    let t = x ^ 0x3030303030303030;
+    (((t & 0x7f7f7f7f7f7f7f7f) + 0x7e7e7e7e7e7e7e7e) | t) & 0x8080808080808080
+}
+
+// Pairs of digits, then fours, then all eight: what the upper half counts too much is taken off.
+fn binary_of(t: u64) -> u64
+    ensures { λ r. ⌜ ReadIn 2 t r ⌝ }
+{
+    let a = t - ((t >> 8) & 0x00ff00ff00ff00ff) * 254;
+    let b = a - ((a >> 16) & 0x0000ffff0000ffff) * 65532;
+    b - (b >> 32) * 4294967280
+}
+
+fn bit_byte(x: u64, n: usize) -> u8
+    requires { ⌜ (1 ≤ n) × (n ≤ 8) ⌝ }
+    ensures { λ r. ⌜ BitByte x n r ⌝ }
+{
+    ((binary_of(leading_figures(x, n)) << (8 - n)) % 256) as u8
+}
+
+// Eight bits make a byte; fewer than eight are the last.
+fn read_bits(s: &[u8], from: usize, row: &mut [u8], first: usize) -> Content
+    requires { ⌜ (from ≤ length (now s)) × (first ≤ length (now row)) ⌝ }
+    ensures { λ r. ⌜ MovesContent (InText Bits (now (s .entry)) from) (AsBinary Bits) (now (row .entry)) first (now (row .exit)) r ⌝ }
+{
+    let mut at = from;
+    let mut o = first;
+    loop {
+        if s.len() - at < 8 {
+            return Content::Careful;
+        }
+        if row.len() <= o {
+            return Content::Careful;
+        }
+        let x = eight_bytes(s, at);
+        let n = first_of(no_bits(x));
+        if n == 0 {
+            if at == from {
+                return Content::Careful;
+            }
+            return Content::Elements(at - from, at, o);
+        }
+        row[o] = bit_byte(x, n);
+        o += 1;
+        at += n;
+        if n < 8 {
+            return Content::Elements(at - from, at, o);
+        }
+    }
+}
+
 // ---- the elements of a cell
 
 // The elements of a kind from a place on, up to what ends them: the end tag, or what is for the careful way.
@@ -184,7 +252,7 @@ pub fn read_content(kind: Kind, s: &[u8], at: usize, row: &mut [u8], o: usize) -
 {
     match elements_of(kind) {
         Elements::Truths => Content::Careful,
-        Elements::Bits => Content::Careful,
+        Elements::Bits => read_bits(s, at, row, o),
         Elements::Whole(_) => Content::Careful,
         Elements::Text => read_text(s, at, row, o),
     }

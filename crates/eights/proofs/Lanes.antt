@@ -98,7 +98,7 @@ letters-marked x ds l a e =
 
 -- ---- the first mark
 
-pow-bytes : (n : ℕ) → 2 ^ (8 * n) ≡ 256 ^ n
+pub pow-bytes : (n : ℕ) → 2 ^ (8 * n) ≡ 256 ^ n
 pow-bytes zero = refl
 pow-bytes (suc n) =
     let e : 8 * suc n ≡ 8 + 8 * n = omega arith in

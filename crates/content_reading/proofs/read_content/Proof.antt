@@ -17,7 +17,9 @@ returns : tie.Need-returns
 returns c = puts-none _ _ (omega arith)
 
 returns-2 : tie.Need-returns-2
-returns-2 c = puts-none _ _ (omega arith)
+returns-2 c =
+    let at-told = c .before .before .before .before in
+    rw (kind-is (at-told .before .before) (at-told .enum-told2 .given .1)) (c .before .before .read-bits .ensures)
 
 returns-3 : tie.Need-returns-3
 returns-3 c = puts-none _ _ (omega arith)
@@ -34,10 +36,12 @@ read-content-spec =
     (λ c κs. search needs)
     (λ c. search needs)
     (λ c. search needs)
+    (λ c κs. search needs)
     (λ c. search needs)
     (λ c. search needs)
     (λ c κs. search needs)
     returns
+    (λ c. search needs)
     returns-2
     returns-3
     (λ c. search needs)
