@@ -1,0 +1,6 @@
+pub mod Spelling
+pub mod Singles
+pub mod Lanes
+pub mod Chars
+pub mod Figures
+pub mod Packing

@@ -1,0 +1,148 @@
+-- `content_reading::read_bits` meets its contract: before each turn the characters passed over are bits, and stand in the buffer in whole bytes.
+use Prim.Native.Nat.{_%_, _+_, _-_, _≤_, ℕ}
+use native.Mathlib.Omega.{arith}
+use mathlib.Core.List.{List}
+use mathlib.Core.Path.{_≡_}
+use denote.Ref.{now}
+use lib.ListN.{drop, length, length-drop, set, take}
+use lib.Seq.{length-take-le}
+use Rattle.content_reading.proofs.Chars.{run-ahead}
+use Rattle.content_reading.proofs.Packing.{BitsTo, bits-more, bits-moved, bits-start}
+use Rattle.content_reading.specs.Figures.{isBit}
+use Rattle.eights.proofs.Fronts.{are-bytes}
+use Rattle.eights.specs.Marks.{run}
+use Rattle.moving.proofs.Puts.{puts-before}
+use Rattle.table.proofs.Laws.{all-drop, all-take}
+use Rattle.table.specs.All.{AreBytes}
+use borrow.Author.Needs.{needs}
+use Rattle.content_reading.proofs.read_bits.Statement.{statement}
+use Rattle.content_reading.proofs.read_bits.Tie as tie
+
+abbrev Inv-loop : tie.InvT-loop
+Inv-loop s from row₀ first at₀ o₀ row at o = BitsTo s from at row₀ first row o × ((at - from) % 8 ≡ 0)
+
+abbrev μ-loop : tie.MeasureT-loop
+μ-loop s from row₀ first at₀ o₀ row at o = length s - at
+
+loop-holds : tie.Need-loop-holds Inv-loop μ-loop
+loop-holds c = (bits-start (omega arith) (omega arith), omega arith)
+
+sub-if1 : tie.Need-sub-if1 Inv-loop μ-loop
+sub-if1 c = c .loop .inv .0 .spells .inside
+
+same-length : tie.Need-same-length Inv-loop μ-loop
+same-length c = c .before .loop .inv .0 .puts .long
+
+returns : tie.Need-returns Inv-loop μ-loop
+returns c = puts-before (c .before .loop .inv .0 .puts)
+
+same-length-2 : tie.Need-same-length-2 Inv-loop μ-loop
+same-length-2 c = c .before .before .loop .inv .0 .puts .long
+
+returns-2 : tie.Need-returns-2 Inv-loop μ-loop
+returns-2 c = puts-before (c .before .before .loop .inv .0 .puts)
+
+eight-bytes-requires : tie.Need-eight-bytes-requires Inv-loop μ-loop
+eight-bytes-requires c κs = omega (arith, c .before .before .loop .inv .0 .spells .inside)
+
+same-length-3 : tie.Need-same-length-3 Inv-loop μ-loop
+same-length-3 c = c .before .before .before .before .before .before .before .loop .inv .0 .puts .long
+
+returns-3 : tie.Need-returns-3 Inv-loop μ-loop
+returns-3 c = puts-before (c .before .before .before .before .before .before .before .loop .inv .0 .puts)
+
+sub-t14 : tie.Need-sub-t14 Inv-loop μ-loop
+sub-t14 c = c .before .before .before .before .before .before .before .loop .inv .0 .spells .onward
+
+same-length-4 : tie.Need-same-length-4 Inv-loop μ-loop
+same-length-4 c = c .before .before .before .before .before .before .before .loop .inv .0 .puts .long
+
+returns-4 : tie.Need-returns-4 Inv-loop μ-loop
+returns-4 c = bits-moved (c .before .before .before .before .before .before .before .loop .inv .0) (c .if4 .left)
+
+-- how many bits there are of the next eight characters
+module _ (c : tie.After-first-of Inv-loop μ-loop) where
+  abbrev at-loop : tie.At-loop Inv-loop μ-loop
+  at-loop = c .before .before .before .before .before
+
+  abbrev s : List ℕ
+  s = now (at-loop .before .before .before .args .s)
+
+  bytes : AreBytes s
+  bytes = are-bytes s (λ i. omega (arith, at-loop .before .before .shared-slice-known .given i))
+
+  inside : at-loop .loop .at + 8 ≤ length s
+  inside = omega (arith, at-loop .loop .inv .0 .spells .inside)
+
+  counted : c .first-of .result ≡ run isBit (take 8 (drop (at-loop .loop .at) s))
+  counted =
+      let p : List ℕ = take 8 (drop (at-loop .loop .at) s) in
+      let l : length p ≡ 8 = length-take-le 8 (drop (at-loop .loop .at) s) (simp length-drop (omega (arith, inside))) in
+      c .first-of .ensures .first isBit p l (c .before .no-bits .ensures .marked p l (all-take _ 8 (drop (at-loop .loop .at) s) (all-drop _ (at-loop .loop .at) s bytes)) (c .before .before .eight-bytes .ensures))
+
+  few : c .first-of .result ≤ 8
+  few = run-ahead isBit s (at-loop .loop .at) (c .first-of .result) inside counted .0
+
+bit-byte-requires : tie.Need-bit-byte-requires Inv-loop μ-loop
+bit-byte-requires c κs = (omega arith, few (c .before))
+
+-- and their byte
+turned : (c : tie.After-bit-byte Inv-loop μ-loop) → let l = c .before .before .before .before .before .before .before .loop in let a = c .before .before .before .before .before .before .before .before .before .before .args in
+    BitsTo (now (a .s)) (a .from) (l .at + c .before .before .first-of .result) (now (a .row)) (a .first) (set (l .row) (l .o) (c .bit-byte .result)) (l .o + 1)
+turned c =
+    let f = c .before .before in
+    bits-more (c .before .before .before .before .before .before .before .loop .inv .0) (c .before .before .before .before .before .before .before .loop .inv .1) (bytes f) (inside f) (omega arith) (f .before .before .eight-bytes .ensures) (counted f) (c .before .if3 .left) (c .bit-byte .ensures)
+
+slice-write-row : tie.Need-slice-write-row Inv-loop μ-loop
+slice-write-row c = search needs
+
+add-o : tie.Need-add-o Inv-loop μ-loop
+add-o c = let h = turned c .puts .room in search needs
+
+add-at : tie.Need-add-at Inv-loop μ-loop
+add-at c = let h = turned c .spells .inside in search needs
+
+sub-t17 : tie.Need-sub-t17 Inv-loop μ-loop
+sub-t17 c = turned (c .before) .spells .onward
+
+same-length-5 : tie.Need-same-length-5 Inv-loop μ-loop
+same-length-5 c = turned (c .before) .puts .long
+
+returns-5 : tie.Need-returns-5 Inv-loop μ-loop
+returns-5 c = bits-moved (turned (c .before)) (λ e. omega (arith, c .before .before .before .before .before .before .before .before .loop .inv .0 .spells .onward, e, c .before .before .if3 .left))
+
+loop-less : tie.Need-loop-less Inv-loop μ-loop
+loop-less c = omega (arith, inside (c .before .before .before))
+
+loop-again : tie.Need-loop-again Inv-loop μ-loop
+loop-again c = (turned (c .before), omega (arith, c .before .before .before .before .before .before .before .before .loop .inv .1, c .before .before .before .before .before .before .before .before .loop .inv .0 .spells .onward, few (c .before .before .before)))
+
+pub read-bits-spec : {M : Type 1} → statement M
+read-bits-spec =
+    tie.close
+    (tie.spec
+    Inv-loop
+    μ-loop
+    loop-holds
+    sub-if1
+    same-length
+    returns
+    same-length-2
+    returns-2
+    eight-bytes-requires
+    (λ c κs. search needs)
+    (λ c κs. search needs)
+    same-length-3
+    returns-3
+    sub-t14
+    same-length-4
+    returns-4
+    bit-byte-requires
+    slice-write-row
+    add-o
+    add-at
+    sub-t17
+    same-length-5
+    returns-5
+    loop-less
+    loop-again)
