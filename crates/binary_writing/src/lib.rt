@@ -45,7 +45,7 @@ fn elements_size(column: Column, count: usize) -> usize
 }
 
 // The bytes of a cell with room for so many elements, as a null has them for none.
-fn room_size(column: Column, count: usize) -> usize
+pub fn room_size(column: Column, count: usize) -> usize
     requires { ⌜ (bound (column .len) ≤ mostElements) × (count ≤ bound (column .len)) ⌝ }
     ensures { λ r. ⌜ r ≡ roomSize column count ⌝ }
 {
@@ -80,7 +80,7 @@ fn can_be_empty(kind: Kind, len: Len) -> bool
 }
 
 // "Null in BINARY: the declared null, `?` for a scalar boolean, count 0 for bounded and free, NULs for fixed char; else 15."
-fn null_size(column: Column) -> Size
+pub fn null_size(column: Column) -> Size
     requires { ⌜ bound (column .len) ≤ mostElements ⌝ }
     ensures { λ r. ⌜ sizeAs r ≡ sizeOf (nullForm column (nullElement column)) ⌝ }
 {
@@ -114,7 +114,7 @@ pub fn size_binary(column: Column, null: bool, count: usize, scratch: &[i64]) ->
 
 // ---- a cell is written
 
-fn put_zeros(n: usize, out: &mut [u8], at: usize) -> usize
+pub fn put_zeros(n: usize, out: &mut [u8], at: usize) -> usize
     requires { ⌜ at + n ≤ length (now out) ⌝ }
     ensures { λ r. ⌜ Wrote (now (out .entry)) at (replicate n 0) (now (out .exit)) r ⌝ }
 {
@@ -127,7 +127,7 @@ fn put_zeros(n: usize, out: &mut [u8], at: usize) -> usize
     end
 }
 
-fn put_count(len: Len, count: usize, out: &mut [u8], at: usize) -> usize
+pub fn put_count(len: Len, count: usize, out: &mut [u8], at: usize) -> usize
     requires { ⌜ (at + length (countBytes len count) ≤ length (now out)) × (count ≤ mostElements) ⌝ }
     ensures { λ r. ⌜ Wrote (now (out .entry)) at (countBytes len count) (now (out .exit)) r ⌝ }
 {
@@ -228,7 +228,7 @@ fn put_content(
     }
 }
 
-fn room_in(len: Len, count: usize) -> usize
+pub fn room_in(len: Len, count: usize) -> usize
     ensures { λ r. ⌜ r ≡ roomIn len count ⌝ }
 {
     match len {
@@ -251,7 +251,7 @@ fn put_elements(column: Column, count: usize, scratch: &[i64], out: &mut [u8], a
 }
 
 // "Null in BINARY2: flag, zero bytes, count 0."
-fn put_null(column: Column, out: &mut [u8], at: usize) -> usize
+pub fn put_null(column: Column, out: &mut [u8], at: usize) -> usize
     requires { ⌜ (bound (column .len) ≤ mostElements) × (at + length (zeros column) ≤ length (now out)) ⌝ }
     ensures { λ r. ⌜ Wrote (now (out .entry)) at (zeros column) (now (out .exit)) r ⌝ }
 {
@@ -281,7 +281,7 @@ pub fn write_binary2(
 }
 
 // A null that BINARY has a form for; nothing where it has none. A declared null is a scalar's: no count stands before it.
-fn put_binary_null(column: Column, out: &mut [u8], at: usize) -> usize
+pub fn put_binary_null(column: Column, out: &mut [u8], at: usize) -> usize
     requires { ⌜ (bound (column .len) ≤ mostElements) × (at + length (formBytes (nullForm column (nullElement column))) ≤ length (now out)) ⌝ }
     ensures { λ r. ⌜ Wrote (now (out .entry)) at (formBytes (nullForm column (nullElement column))) (now (out .exit)) r ⌝ }
 {

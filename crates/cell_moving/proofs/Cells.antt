@@ -1,20 +1,19 @@
--- A cell that was read and put is moved.
+-- A cell that has a size has a form, and what was written of it is put.
 use Prim.Native.Nat.{_+_, _≤_, ℕ}
 use native.Mathlib.Omega.{arith}
-use mathlib.Core.Bool.{Bool}
+use mathlib.Core.Bool.{Bool, false, true}
 use mathlib.Core.List.{List}
 use mathlib.Core.Path.{_∙_, _≡_, ap, refl, subst, sym}
-use lib.ListN.{drop, length}
-use Rattle.cell_moving.specs.Contracts.{CellPut, PutsCell}
+use lib.IntN.{ℤ}
+use lib.ListN.{length}
 use Rattle.moving.proofs.Puts.{puts-wrote}
-use Rattle.moving.specs.Cells.{MovesCell}
-use Rattle.moving.specs.declared.Moved.{Moved}
+use Rattle.moving.specs.Cells.{CellPut}
 use Rattle.row_writing.proofs.RowForm.{form-bytes}
 use Rattle.row_writing.specs.Contracts.{cellBytes}
-use Rattle.rows.specs.Stream.{readCell, writeCell}
+use Rattle.rows.specs.Stream.{writeCell}
 use Rattle.table.proofs.Laws.{bad-good}
 use Rattle.table.specs.Cell.{Cell, isNull}
-use Rattle.table.specs.Contracts.{sizeOf}
+use Rattle.table.specs.Contracts.{held, sizeOf}
 use Rattle.table.specs.Result.{Result, bad, good}
 use Rattle.table.specs.Wrote.{Wrote}
 use Rattle.table.specs.declared.Column.{Column}
@@ -31,9 +30,9 @@ form-length to c x n e =
     let f = has-form (writeCell to c x) n e in
     ap length (form-bytes to c x (f .0) (f .1)) ∙ sym (f .2)
 
-pub cell-put : (to : Rows) (c : Column) (x : Cell) (null : Bool) (next n : ℕ) (old : List ℕ) (o : ℕ) (new : List ℕ) (e : ℕ) → good n ≡ sizeOf (writeCell to c x)
-    → o + n ≤ length old → Wrote old o (cellBytes to c x) new e → CellPut to c x null next old o new next e null
-cell-put to c x null next n old o new e q h w =
+pub cell-put : (to : Rows) (c : Column) (x : Cell) (null : Bool) (next n : ℕ) (old : List ℕ) (o : ℕ) (new : List ℕ) (e : ℕ) → null ≡ isNull x → good n ≡ sizeOf (writeCell to c x)
+    → o + n ≤ length old → Wrote old o (cellBytes to c x) new e → CellPut to c x next old o new next e null
+cell-put to c x null next n old o new e z q h w =
     let f = has-form (writeCell to c x) n q in
     let b = form-bytes to c x (f .0) (f .1) in
     record {
@@ -41,22 +40,11 @@ cell-put to c x null next n old o new e q h w =
       writes = f .1;
       puts = puts-wrote (subst (λ (l : List ℕ). Wrote old o l new e) b w) (omega (arith, f .2));
       same-next = refl;
-      same-null = refl;
+      null-is = z;
     }
 
--- read and then put
-pub cell-moved : (from to : Rows) (c : Column) (flagged : Bool) (s : List ℕ) (place : ℕ) (x : Cell) (null : Bool) (next : ℕ) (old : List ℕ) (o : ℕ) (new : List ℕ) (r : Moved)
-    → readCell from c flagged (drop place s) ≡ good (x, drop next s) → place ≤ next → next ≤ length s → null ≡ isNull x
-    → PutsCell to c x null next old o new r → MovesCell from to c flagged s place old o new r
-cell-moved from to c flagged s place x null next old o new (Moved.Cell next′ e null′) q lo hi n p =
-    record {
-      cell = x;
-      bytes = p .bytes;
-      reads = q ∙ ap (λ (k : ℕ). good (x, drop k s)) (sym (p .same-next));
-      onward = omega (arith, p .same-next);
-      inside = omega (arith, p .same-next);
-      writes = p .writes;
-      puts = p .puts;
-      null-is = p .same-null ∙ n;
-    }
-cell-moved from to c flagged s place x null next old o new Moved.Careful q lo hi n p = p
+-- a cell that the code holds is null where it says so
+pub held-null : (b : Bool) (n : ℕ) (l : List ℤ) → b ≡ isNull (held b n l)
+unfolding isNull
+held-null true n l = refl
+held-null false n l = refl

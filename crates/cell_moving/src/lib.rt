@@ -10,10 +10,9 @@ use table::Size;
 ghost use mathlib.Core.Path.{_≡_};
 ghost use Prim.Native.Nat.{_≤_};
 ghost use lib.ListN.{length};
-ghost use Rattle.moving.specs.Cells.{MovesCell};
+ghost use Rattle.moving.specs.Cells.{MovesCell, PutsCell};
 ghost use Rattle.table.specs.Cell.{bound, mostElements};
 ghost use Rattle.table.specs.Contracts.{held};
-ghost use Rattle.cell_moving.specs.Contracts.{PutsCell};
 
 // ---- the careful way
 
@@ -29,7 +28,7 @@ fn put_cell(
     o: usize,
 ) -> Moved
     requires { ⌜ (bound (column .len) ≤ mostElements) × (count ≤ bound (column .len)) × (count ≤ length (now scratch)) × (o ≤ length (now row)) ⌝ }
-    ensures { λ r. ⌜ PutsCell to column (held null count (now (scratch .entry))) null next (now (row .entry)) o (now (row .exit)) r ⌝ }
+    ensures { λ r. ⌜ PutsCell to column (held null count (now (scratch .entry))) next (now (row .entry)) o (now (row .exit)) r ⌝ }
 {
     let size = size_cell(to, column, null, count, scratch);
     match size {

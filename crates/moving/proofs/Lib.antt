@@ -1,3 +1,4 @@
 pub mod Puts
 pub mod Lists
 pub mod Rows
+pub mod Cells

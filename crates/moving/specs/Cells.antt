@@ -27,3 +27,15 @@ pub record CellMoved (from to : Rows) (c : Column) (flagged : Bool) (s : List �
 abbrev pub MovesCell : Rows → Rows → Column → Bool → List ℕ → ℕ → List ℕ → ℕ → List ℕ → Moved → Type 0
 MovesCell from to c flagged s place old o new (Moved.Cell next e null) = CellMoved from to c flagged s place old o new next e null
 MovesCell from to c flagged s place old o new Moved.Careful = Puts old o [] new o
+
+-- a cell x that ends at a place of the input, put as it is written
+pub record CellPut (to : Rows) (c : Column) (x : Cell) (next : ℕ) (old : List ℕ) (o : ℕ) (new : List ℕ) (next′ e : ℕ) (null′ : Bool) : Type 0 where
+  pub bytes : List ℕ
+  pub writes : writeCell to c x ≡ good bytes
+  pub puts : Puts old o bytes new e
+  pub same-next : next′ ≡ next
+  pub null-is : null′ ≡ isNull x
+
+abbrev pub PutsCell : Rows → Column → Cell → ℕ → List ℕ → ℕ → List ℕ → Moved → Type 0
+PutsCell to c x next old o new (Moved.Cell next′ e null′) = CellPut to c x next old o new next′ e null′
+PutsCell to c x next old o new Moved.Careful = Puts old o [] new o

@@ -1,15 +1,14 @@
 -- cell_moving::careful_cell: what was found is what the definition reads, and it is put as that.
-use mathlib.Core.Bool.{false, true}
-use mathlib.Core.Path.{_∙_, ap, refl, subst}
+use mathlib.Core.Path.{_∙_, ap, subst}
 use lib.ListN.{take}
 use denote.Ref.{now}
 use native.Mathlib.Omega.{arith}
 use borrow.Author.Needs.{needs}
-use Rattle.cell_moving.proofs.Cells.{cell-moved}
+use Rattle.moving.proofs.Cells.{cell-moved}
 use Rattle.moving.proofs.Puts.{puts-none}
 use Rattle.row_reading.proofs.CellsFit.{bytes-of, found-few}
 use Rattle.table.specs.All.{AreBytes}
-use Rattle.table.specs.Cell.{isNull, null, shown}
+use Rattle.table.specs.Cell.{null, shown}
 use Rattle.table.specs.Contracts.{FoundWithin, foundAs}
 use Rattle.cell_moving.proofs.careful_cell.Statement.{statement}
 use Rattle.cell_moving.proofs.careful_cell.Tie as tie
@@ -35,29 +34,27 @@ returns c =
     (puts-none _ _ (a .pre .3), c .before .before .before .before .read-cell .ensures .long)
 
 returns-2 : tie.Need-returns-2
-unfolding isNull
 returns-2 c =
     let a = c .before .before .before .before .before .before .before .before .before .before .before .before .before in
     let s = now (a .args .s) in
     let f = c .before .before .before .before .before .before .before .before .before .read-cell .ensures in
     let q = c .before .before .before .before .before .before .found2 .given .1 in
     let w = subst (FoundWithin s (a .args .at) _) q (f .within) in (
-      cell-moved (a .args .from) (a .args .to) (a .args .column) (a .args .flagged) s (a .args .at) null true _ (now (a .args .row)) (a .args .o)
-          (c .before .before .put-cell .last .1 .1 .1 .1 .1 .1 .0) (c .before .before .put-cell .result) (f .found ∙ ap (foundAs s _) q) (w .0) (w .1) refl
+      cell-moved (a .args .from) (a .args .to) (a .args .column) (a .args .flagged) s (a .args .at) null _ (now (a .args .row)) (a .args .o)
+          (c .before .before .put-cell .last .1 .1 .1 .1 .1 .1 .0) (c .before .before .put-cell .result) (f .found ∙ ap (foundAs s _) q) (w .0) (w .1)
           (c .before .before .put-cell .ensures),
       f .long,
     )
 
 returns-3 : tie.Need-returns-3
-unfolding isNull
 returns-3 c =
     let a = c .before .before .before .before .before .before .before .before .before .before .before .before .before in
     let s = now (a .args .s) in
     let f = c .before .before .before .before .before .before .before .before .before .read-cell .ensures in
     let q = c .before .before .before .before .before .before .found3 .given .1 in
     let w = subst (FoundWithin s (a .args .at) _) q (f .within) in (
-      cell-moved (a .args .from) (a .args .to) (a .args .column) (a .args .flagged) s (a .args .at) (shown _) false _ (now (a .args .row)) (a .args .o)
-          (c .before .before .put-cell2 .last .1 .1 .1 .1 .1 .1 .0) (c .before .before .put-cell2 .result) (f .found ∙ ap (foundAs s _) q) (w .0) (w .1) refl
+      cell-moved (a .args .from) (a .args .to) (a .args .column) (a .args .flagged) s (a .args .at) (shown _) _ (now (a .args .row)) (a .args .o)
+          (c .before .before .put-cell2 .last .1 .1 .1 .1 .1 .1 .0) (c .before .before .put-cell2 .result) (f .found ∙ ap (foundAs s _) q) (w .0) (w .1)
           (c .before .before .put-cell2 .ensures),
       f .long,
     )

@@ -5,7 +5,7 @@ use lib.ListN.{length}
 use denote.Ref.{now}
 use native.Mathlib.Omega.{arith}
 use borrow.Author.Needs.{needs}
-use Rattle.cell_moving.proofs.Cells.{cell-put, form-length}
+use Rattle.cell_moving.proofs.Cells.{cell-put, form-length, held-null}
 use Rattle.moving.proofs.Puts.{puts-none}
 use Rattle.rows.specs.Stream.{writeCell}
 use Rattle.table.specs.Contracts.{held, sizeAs, sizeOf}
@@ -41,7 +41,7 @@ returns-3 : tie.Need-returns-3
 returns-3 c =
     let k = c .before .before .before .before .before in
     let a = begin k in
-    cell-put (a .args .to) (a .args .column) _ (a .args .null) (a .args .next) _ _ (a .args .o) _ _ (takes k) (omega (arith, c .before .before .before .before .if1 .left, a .pre .3))
+    cell-put (a .args .to) (a .args .column) _ (a .args .null) (a .args .next) _ _ (a .args .o) _ _ (held-null _ _ _) (takes k) (omega (arith, c .before .before .before .before .if1 .left, a .pre .3))
     (c .before .before .write-cell .ensures)
 
 pub put-cell-spec : {M : Type 1} → statement M
