@@ -29,11 +29,12 @@ use Rattle.tabledata.specs.TableData.{elementBytes, elementText, joined, truthT
 
 -- ---- one byte
 
-pub letter-is : (b : ℕ) → b < 256
-    → boolByte (eqb b 84 || eqb b 116 || eqb b 49) * 84 + boolByte (eqb b 70 || eqb b 102 || eqb b 48) * 70 + boolByte (eqb b 0 || eqb b 32 || eqb b 63) * 63 ≡ truthShown b
+abbrev letterOf : ℕ → ℕ
+letterOf b = boolByte (eqb b 84 || eqb b 116 || eqb b 49) * 84 + boolByte (eqb b 70 || eqb b 102 || eqb b 48) * 70 + boolByte (eqb b 0 || eqb b 32 || eqb b 63) * 63
+
+pub letter-is : (b : ℕ) → b < 256 → letterOf b ≡ truthShown b
 unfolding truthShown
-letter-is b h =
-    eqb-true _ _ (each-below (λ (b : ℕ). eqb (boolByte (eqb b 84 || eqb b 116 || eqb b 49) * 84 + boolByte (eqb b 70 || eqb b 102 || eqb b 48) * 70 + boolByte (eqb b 0 || eqb b 32 || eqb b 63) * 63) (truthShown b)) 256 refl b h)
+letter-is b h = eqb-true _ _ (each-below (λ (b : ℕ). eqb (letterOf b) (truthShown b)) 256 refl b h)
 
 -- the element that a byte is, by its letter
 record TruthIs (b : ℕ) : Type 0 where

@@ -1,8 +1,8 @@
 -- `content_showing::put_bits` meets its contract: before each turn the bits of the first k bytes are put.
-use Prim.Native.Nat.{_*_, _+_, _-_, _≤_, ℕ}
+use Prim.Native.Nat.{_*_, _+_, _-_, _<_, _≤_, ℕ}
 use mathlib.Core.Path.{_≡_, refl, subst}
 use denote.Ref.{now}
-use lib.ListN.{drop, take}
+use lib.ListN.{drop, length, take}
 use Rattle.content_showing.proofs.Bits.{bits-start, byte-more}
 use Rattle.content_showing.specs.Showing.{bitLetters}
 use Rattle.moving.specs.Puts.{Puts}
@@ -27,16 +27,19 @@ add-put-eight : tie.Need-add-put-eight Inv-loop μ-loop
 add-put-eight c = record { fits = omega (arith, c .before .before .before .before .before .pre .1, c .before .loop-test .taken) }
 
 put-eight-requires : tie.Need-put-eight-requires Inv-loop μ-loop
-put-eight-requires c κs = omega (arith, c .before .before .before .before .before .before .before .pre .1, c .before .before .before .loop-test .taken, c .before .before .before .before .loop .inv .1 .long)
+put-eight-requires c κs =
+    let at-loop = c .before .before .before .before in
+    omega (arith, at-loop .before .before .before .pre .1, c .before .before .before .loop-test .taken, at-loop .loop .inv .1 .long)
 
 loop-again : tie.Need-loop-again Inv-loop μ-loop
 loop-again c =
-    let a = c .before .before .before .before .before .before .before .before .before .before .args in
-    let l = c .before .before .before .before .before .before .before .loop in (
-      omega (arith, c .before .before .before .before .before .before .loop-test .taken),
-      byte-more (now (a .s)) (a .at) (l .k) _ _ (omega (arith, c .before .before .before .before .before .before .before .before .before .before .pre .0, c .before .before .before .before .before .before .loop-test .taken)) refl (c .before .before .before .bit-word .ensures)
-          (omega (arith, c .before .before .before .before .before .before .before .before .before .before .pre .1, c .before .before .before .before .before .before .loop-test .taken, l .inv .1 .long)) (c .before .before .put-eight .ensures) (l .inv .1),
-    )
+    let begun = c .before .before .before .before .before .before .before .before .before .before in
+    let a = begun .args in
+    let l = c .before .before .before .before .before .before .before .loop in
+    let more : l .k < a .size = c .before .before .before .before .before .before .loop-test .taken in
+    let there : a .at + a .size ≤ length (now (a .s)) = begun .pre .0 in
+    let word = c .before .before .before .bit-word .ensures in
+    (omega arith, byte-more (now (a .s)) (a .at) (l .k) _ _ (omega arith) refl word (omega (arith, begun .pre .1, l .inv .1 .long)) (c .before .before .put-eight .ensures) (l .inv .1))
 
 returns : tie.Need-returns Inv-loop μ-loop
 returns c =

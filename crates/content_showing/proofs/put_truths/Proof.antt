@@ -1,8 +1,8 @@
 -- `content_showing::put_truths` meets its contract: before each turn the letters of the first k bytes are put.
-use Prim.Native.Nat.{_*_, _+_, _-_, _≤_, ℕ}
+use Prim.Native.Nat.{_*_, _+_, _-_, _<_, _≤_, ℕ}
 use mathlib.Core.Path.{_≡_, refl, subst}
 use denote.Ref.{now}
-use lib.ListN.{drop, take}
+use lib.ListN.{drop, length, take}
 use Rattle.content_showing.proofs.Truths.{truth-more, truths-start}
 use Rattle.content_showing.specs.Showing.{TruthsPut}
 use native.Mathlib.Omega.{arith}
@@ -31,10 +31,11 @@ put-truth-requires c κs = omega (arith, c .before .before .before .before .befo
 loop-again : tie.Need-loop-again Inv-loop μ-loop
 loop-again c =
     let a = c .before .before .before .before .before .before .before .before .before .args in
-    let l = c .before .before .before .before .before .before .loop in (
-      omega (arith, c .before .before .before .before .before .loop-test .taken),
-      truth-more (now (a .s)) (a .at) (l .k) _ _ _ (omega (arith, c .before .before .before .before .before .before .before .before .before .pre .0, c .before .before .before .before .before .loop-test .taken)) refl (c .before .before .put-truth .ensures .0) (c .before .before .put-truth .ensures .1) (l .inv .1),
-    )
+    let l = c .before .before .before .before .before .before .loop in
+    let t = c .before .before .put-truth .ensures in
+    let more : l .k < a .n = c .before .before .before .before .before .loop-test .taken in
+    let there : a .at + a .n ≤ length (now (a .s)) = c .before .before .before .before .before .before .before .before .before .pre .0 in
+    (omega arith, truth-more (now (a .s)) (a .at) (l .k) _ _ _ (omega arith) refl (t .0) (t .1) (l .inv .1))
 
 returns : tie.Need-returns Inv-loop μ-loop
 returns c =

@@ -51,28 +51,35 @@ show-text-requires c κs =
 
 show-integers-requires : tie.Need-show-integers-requires
 show-integers-requires c κs =
-    let s = c .before .before .before .before .before .before .before .before in
-    (omega (arith, c .before .before .before .before .before .if1 .left), unfold contentBytes in omega (arith, bytes-as _ (shape (s .args .kind)) (s .args .n) (whole-kind (c .before .before)), s .pre .1), s .pre .2)
+    let s = c .before .before .before .before .before .before .before .before in (
+      omega (arith, c .before .before .before .before .before .if1 .left),
+      unfold contentBytes in omega (arith, bytes-as _ (shape (s .args .kind)) (s .args .n) (whole-kind (c .before .before)), s .pre .1),
+      s .pre .2,
+    )
 
 returns-2 : tie.Need-returns-2
 returns-2 c =
     let a = c .before .before .before .before .before .before .before .before .before .before .args in
-    moved-as (a .n) (a .at) (a .o) (now (a .s)) (now (a .row)) _ (c .before .before .show-truths .result) Truths _ (truths-kind (c .before .before .before .before)) (c .before .before .show-truths .ensures)
+    let r = c .before .before .show-truths in
+    moved-as (a .n) (a .at) (a .o) (now (a .s)) (now (a .row)) _ (r .result) Truths _ (truths-kind (c .before .before .before .before)) (r .ensures)
 
 returns-3 : tie.Need-returns-3
 returns-3 c =
     let a = c .before .before .before .before .before .before .before .before .before .before .args in
-    moved-as (a .n) (a .at) (a .o) (now (a .s)) (now (a .row)) _ (c .before .before .show-bits .result) Bits _ (bits-kind (c .before .before .before .before)) (c .before .before .show-bits .ensures)
+    let r = c .before .before .show-bits in
+    moved-as (a .n) (a .at) (a .o) (now (a .s)) (now (a .row)) _ (r .result) Bits _ (bits-kind (c .before .before .before .before)) (r .ensures)
 
 returns-4 : tie.Need-returns-4
 returns-4 c =
     let a = c .before .before .before .before .before .before .before .before .before .before .args in
-    moved-as (a .n) (a .at) (a .o) (now (a .s)) (now (a .row)) _ (c .before .before .show-text .result) Text _ (text-kind (c .before .before .before .before)) (c .before .before .show-text .ensures)
+    let r = c .before .before .show-text in
+    moved-as (a .n) (a .at) (a .o) (now (a .s)) (now (a .row)) _ (r .result) Text _ (text-kind (c .before .before .before .before)) (r .ensures)
 
 returns-5 : tie.Need-returns-5
 returns-5 c =
     let a = c .before .before .before .before .before .before .before .before .before .before .before .args in
-    moved-as (a .n) (a .at) (a .o) (now (a .s)) (now (a .row)) _ (c .before .before .show-integers .result) _ _ (whole-kind (c .before .before .before .before .before)) (c .before .before .show-integers .ensures)
+    let r = c .before .before .show-integers in
+    moved-as (a .n) (a .at) (a .o) (now (a .s)) (now (a .row)) _ (r .result) _ _ (whole-kind (c .before .before .before .before .before)) (r .ensures)
 
 pub show-content-spec : {M : Type 1} → statement M
 show-content-spec =

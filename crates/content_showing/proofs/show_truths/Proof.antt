@@ -1,5 +1,4 @@
 -- `content_showing::show_truths` meets its contract: the letters are put, and where no byte is bad they are the elements'.
-use Prim.Native.Nat.{_*_, _+_, _-_, _≤_}
 use denote.Ref.{now}
 use Rattle.content_showing.proofs.Truths.{truths-moved}
 use Rattle.moving.proofs.Puts.{puts-before, puts-none}
