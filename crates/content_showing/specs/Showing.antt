@@ -8,6 +8,7 @@ use mathlib.Core.Path.{_≡_}
 use lib.Dec.{eqb}
 use Rattle.binary.specs.Binary.{bitsOf}
 use Rattle.moving.specs.Puts.{Puts}
+use Rattle.number.specs.Number.{shortest}
 use Rattle.table.specs.All.{All}
 use Rattle.table.specs.Bytes.{between, byte, bytes}
 
@@ -34,6 +35,12 @@ reference b =
 -- up to eight bytes, filled up to eight
 unfoldable pub filled : List ℕ → List ℕ
 filled b = b ++ replicate (8 - length b) 0
+
+-- ---- integers
+
+-- an unsigned byte and a space
+unfoldable pub byteWord : ℕ → List ℕ
+byteWord b = shortest (pos b) ++ (32 ∷ [])
 
 -- ---- bits
 

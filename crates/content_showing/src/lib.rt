@@ -4,6 +4,7 @@ use eights::eight_digits;
 use eights::first_of;
 use integers::eight_bytes;
 use integers::put_eight;
+use integers::put_four;
 use integers::read_integer;
 use moving::Content;
 use number::Elements;
@@ -11,9 +12,9 @@ use number::Integer;
 use number::elements_of;
 use number::integer_bytes;
 use table::Kind;
-ghost use Prim.Native.Nat.{_*_, _+_, _<_, _≤_};
+ghost use Prim.Native.Nat.{_*_, _+_, _-_, _<_, _≤_};
 ghost use Rattle.binary.specs.Binary.{allZero, bitBytes, bitsOf, contentBytes};
-ghost use Rattle.content_showing.specs.Showing.{TruthsPut, bitLetters, filled, isItself, reference, sign, truthShown};
+ghost use Rattle.content_showing.specs.Showing.{TruthsPut, bitLetters, byteWord, filled, isItself, reference, sign, truthShown};
 ghost use Rattle.decimals.specs.Contracts.{numerals};
 ghost use Rattle.eights.specs.Marks.{Marks, run};
 ghost use Rattle.moving.specs.Contents.{AsText, InBinary, MovesContent};
@@ -21,9 +22,10 @@ ghost use Rattle.moving.specs.Puts.{Puts};
 ghost use Rattle.number.specs.Contracts.{isSigned, size, widthOf};
 ghost use Rattle.number.specs.Number.{digits, shortest, toDigits};
 ghost use Rattle.table.specs.Cell.{mostElements, truthByte};
-ghost use Rattle.table.specs.Shape.{Bits, Text, Truths, Whole, shape};
+ghost use Rattle.table.specs.Shape.{Bits, Text, Truths, W1, Whole, shape};
 ghost use lib.IntN.{natAbs};
-ghost use lib.ListN.{drop, length, take};
+ghost use lib.ListN.{drop, length, replicate, take};
+ghost use mathlib.Core.Bool.{false};
 ghost use mathlib.Core.List.{[], _++_, _∷_};
 ghost use mathlib.Core.Path.{_≡_};
 
@@ -253,6 +255,56 @@ fn show_integers(
     Content::Elements(n, from, e - 1)
 }
 
+// The digits of a byte and a space, as four bytes; none stands before the first digit.
+fn byte_word(b: u8) -> u32
+    ensures { λ r. ⌜ toDigits 256 4 r ≡ byteWord b ++ replicate (4 - length (byteWord b)) 0 ⌝ }
+{
+    let v = b as u32;
+    let more = ((10 <= b) as u32) + ((100 <= b) as u32);
+    let digits = v / 100 * 16777216 + v / 10 % 10 * 65536 + v % 10 * 256 + 0x30303020;
+    digits << (16 - 8 * more)
+}
+
+fn byte_size(b: u8) -> usize
+    ensures { λ r. ⌜ (r ≡ length (byteWord b)) × (r ≤ 4) ⌝ }
+{
+    2 + ((10 <= b) as usize) + ((100 <= b) as usize)
+}
+
+fn put_byte(b: u8, row: &mut [u8], o: usize) -> usize
+    requires { ⌜ o + 4 ≤ length (now row) ⌝ }
+    ensures { λ r. ⌜ Puts (now (row .entry)) o (byteWord b) (now (row .exit)) r × (r ≤ o + 4) ⌝ }
+{
+    put_four(row, o, byte_word(b));
+    o + byte_size(b)
+}
+
+fn show_bytes(n: usize, s: &[u8], at: usize, row: &mut [u8], o: usize) -> Content
+    requires { ⌜ (0 < n) × (n ≤ mostElements) × (at + n ≤ length (now s)) × (o ≤ length (now row)) ⌝ }
+    ensures { λ r. ⌜ MovesContent (InBinary (Whole false W1) n (now (s .entry)) at) (AsText (Whole false W1)) (now (row .entry)) o (now (row .exit)) r ⌝ }
+{
+    if row.len() - o < 4 * n {
+        return Content::Careful;
+    }
+    let mut e = o;
+    let mut k: usize = 0;
+    while k < n {
+        e = put_byte(s[at + k], row, e);
+        k += 1;
+    }
+    Content::Elements(n, at + n, e - 1)
+}
+
+fn show_whole(integer: Integer, n: usize, s: &[u8], at: usize, row: &mut [u8], o: usize) -> Content
+    requires { ⌜ (0 < n) × (n ≤ mostElements) × (at + n * size integer ≤ length (now s)) × (o ≤ length (now row)) ⌝ }
+    ensures { λ r. ⌜ MovesContent (InBinary (Whole (isSigned integer) (widthOf integer)) n (now (s .entry)) at) (AsText (Whole (isSigned integer) (widthOf integer))) (now (row .entry)) o (now (row .exit)) r ⌝ }
+{
+    match integer {
+        Integer::UnsignedByte => show_bytes(n, s, at, row, o),
+        Integer::Short | Integer::Int | Integer::Long => show_integers(integer, n, s, at, row, o),
+    }
+}
+
 // ---- bits, "none between bits"
 
 // A character for each bit of a byte, the first highest.
@@ -367,6 +419,6 @@ pub fn show_content(kind: Kind, n: usize, s: &[u8], at: usize, row: &mut [u8], o
         Elements::Truths => show_truths(n, s, at, row, o),
         Elements::Bits => show_bits(n, s, at, row, o),
         Elements::Text => show_text(n, s, at, row, o),
-        Elements::Whole(integer) => show_integers(integer, n, s, at, row, o),
+        Elements::Whole(integer) => show_whole(integer, n, s, at, row, o),
     }
 }

@@ -49,10 +49,11 @@ show-text-requires c κs =
     let s = c .before .before .before .before .before .before .before in
     (unfold contentBytes in omega (arith, bytes-as Text (shape (s .args .kind)) (s .args .n) (text-kind (c .before)), s .pre .1), s .pre .2)
 
-show-integers-requires : tie.Need-show-integers-requires
-show-integers-requires c κs =
+show-whole-requires : tie.Need-show-whole-requires
+show-whole-requires c κs =
     let s = c .before .before .before .before .before .before .before .before in (
       omega (arith, c .before .before .before .before .before .if1 .left),
+      s .pre .0,
       unfold contentBytes in omega (arith, bytes-as _ (shape (s .args .kind)) (s .args .n) (whole-kind (c .before .before)), s .pre .1),
       s .pre .2,
     )
@@ -78,7 +79,7 @@ returns-4 c =
 returns-5 : tie.Need-returns-5
 returns-5 c =
     let a = c .before .before .before .before .before .before .before .before .before .before .before .args in
-    let r = c .before .before .show-integers in
+    let r = c .before .before .show-whole in
     moved-as (a .n) (a .at) (a .o) (now (a .s)) (now (a .row)) _ (r .result) _ _ (whole-kind (c .before .before .before .before .before)) (r .ensures)
 
 pub show-content-spec : {M : Type 1} → statement M
@@ -94,7 +95,7 @@ show-content-spec =
     (λ c. search needs)
     show-text-requires
     (λ c. search needs)
-    show-integers-requires
+    show-whole-requires
     (λ c. search needs)
     returns-2
     (λ c. search needs)
