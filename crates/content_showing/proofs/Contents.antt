@@ -1,5 +1,5 @@
 -- A content by its kind, and one that has no elements.
-use Prim.Native.Nat.{_+_, _≤_, zero, ℕ}
+use Prim.Native.Nat.{_≤_, ℕ}
 use native.Mathlib.Omega.{arith}
 use mathlib.Core.List.{List, []}
 use mathlib.Core.Path.{_∙_, _≡_, ap, refl, subst, sym}
@@ -10,7 +10,7 @@ use Rattle.moving.specs.Contents.{AsText, ContentMoved, InBinary, MovesContent}
 use Rattle.moving.specs.declared.Content.{Content}
 use Rattle.table.specs.Result.{every, good}
 use Rattle.table.specs.Shape.{Bits, Shape, Text, Truths, Whole}
-use Rattle.tabledata.specs.TableData.{elementBytes, elementText, forms, joined, spaced}
+use Rattle.tabledata.specs.TableData.{elementBytes, elementText, forms, spaced}
 
 bytes-none : (k : Shape) → contentBytes k 0 ≡ 0
 unfolding contentBytes bitBytes

@@ -1,6 +1,6 @@
 -- The digits of a number as characters: eight at once, and as many as there are.
 use Prim.Native.Nat.{_%_, _*_, _+_, _-_, _/_, _<_, _^_, _≤_, suc, zero, ℕ}
-use native.Mathlib.Nat.{div-eq-of-lt, div-lt-iff-lt-mul, le-div-iff-mul-le, mod-eq-of-lt, mod-lt, mul-le-mul-right, one-le-pow, pow-suc, pow-succ', zero-div, zero-mod}
+use native.Mathlib.Nat.{div-eq-of-lt, div-lt-iff-lt-mul, le-div-iff-mul-le, mod-eq-of-lt, mod-lt, mul-le-mul-right, one-le-pow, pow-succ', zero-div, zero-mod}
 use native.Mathlib.Omega.{arith}
 use mathlib.Core.Bool.{Bool, false, true}
 use mathlib.Core.List.{List, [], _++_, _∷_, map}

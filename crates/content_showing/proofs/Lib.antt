@@ -4,3 +4,5 @@ pub mod Marked
 pub mod Text
 pub mod Contents
 pub mod Words
+pub mod Bits
+pub mod Truths

@@ -5,9 +5,9 @@ use mathlib.Core.Bool.{Bool, cond, false, true}
 use mathlib.Core.List.{List, [], _∷_, map}
 use mathlib.Core.Path.{_∙_, _≡_, ap, ap₂, refl}
 use lib.Bits.{and-le-r, and-lt, bitAnd, bitOr, bitXor, or-lt, xor-lt}
-use lib.Dec.{eqb, lit<, ltb}
+use lib.Dec.{eqb, lit<}
 use lib.ListN.{drop, length, length-take, replicate, take}
-use borrow.Author.Tests.{eqb-true, ltb-true}
+use borrow.Author.Tests.{eqb-true}
 use Rattle.content_showing.specs.Showing.{isItself}
 use Rattle.eights.proofs.Lanes.{add-lanes, and-lanes, eight-of, map-agree, or-lanes, themselves, xor-lanes}
 use Rattle.eights.specs.Marks.{mark, run}
@@ -67,7 +67,8 @@ itself-byte : (d : ℕ) → d < 256
     ≡ mark isItself d
 unfolding mark isItself between
 itself-byte d h =
-    eqb-true _ _ (each-below (λ (d : ℕ). eqb (bitAnd (bitOr (bitXor (bitAnd (bitAnd (bitAnd (bitAnd d 127 + 96) (bitXor (bitAnd d 127) 38 + 127)) (bitXor (bitAnd d 127) 60 + 127)) (bitXor (bitAnd d 127) 62 + 127)) 128) d) 128) (mark isItself d)) 256 refl d h)
+    let fine : ℕ → ℕ = λ d. bitAnd (bitAnd (bitAnd (bitAnd d 127 + 96) (bitXor (bitAnd d 127) 38 + 127)) (bitXor (bitAnd d 127) 60 + 127)) (bitXor (bitAnd d 127) 62 + 127) in
+    eqb-true _ _ (each-below (λ (d : ℕ). eqb (bitAnd (bitOr (bitXor (fine d) 128) d) 128) (mark isItself d)) 256 refl d h)
 
 pub text-marked : (x : ℕ) (ds : List ℕ) → length ds ≡ 8 → AreBytes ds → x ≡ ofDigits 256 0 ds
     → bitAnd (bitOr (bitXor (bitAnd (bitAnd (bitAnd (bitAnd x 9187201950435737471 + 6944656592455360608)

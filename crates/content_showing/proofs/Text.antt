@@ -3,7 +3,7 @@ use Prim.Native.Nat.{_*_, _+_, _-_, _<_, _≤_, suc, zero, ℕ}
 use native.Mathlib.Omega.{arith}
 use mathlib.Core.Bool.{Bool, _&&_, _||_, cond, false, false≢true, not, true}
 use mathlib.Core.List.{List, [], _++_, _∷_, append-assoc, append-nil, map}
-use mathlib.Core.Path.{_∙_, _≡_, ap, ap₂, refl, subst, sym}
+use mathlib.Core.Path.{_∙_, _≡_, ap, refl, subst, sym}
 use lib.Dec.{eqb, leb, ltb}
 use lib.IntN.{pos, ℤ}
 use lib.ListN.{drop, getD, length, length-drop, length-map, replicate, take}
@@ -21,10 +21,10 @@ use Rattle.moving.specs.Puts.{Puts}
 use Rattle.number.proofs.Laws.{length-to}
 use Rattle.number.specs.Number.{toDigits}
 use Rattle.table.proofs.Bytes.{same-is}
-use Rattle.table.proofs.Laws.{and-both, between-is, each-below, or-either}
+use Rattle.table.proofs.Laws.{and-both, between-is, each-below}
 use Rattle.table.proofs.Places.{done, next1}
 use Rattle.table.specs.Bytes.{between, same}
-use Rattle.table.specs.Result.{_>>=_, every, good}
+use Rattle.table.specs.Result.{every, good}
 use Rattle.table.specs.Shape.{Text}
 use Rattle.table.specs.Wrote.{Wrote}
 use Rattle.tabledata.specs.TableData.{elementText, escaped, formOf, forms, isText}

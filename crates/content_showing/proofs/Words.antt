@@ -1,27 +1,38 @@
 -- Elements as words: each with a space behind it, and the last space left out.
-use Prim.Native.Nat.{_*_, _+_, _-_, _<_, _≤_, suc, zero, ℕ}
+use Prim.Native.Nat.{_%_, _*_, _+_, _-_, _/_, _<_, _^_, _≤_, suc, zero, ℕ}
 use native.Mathlib.Nat.{suc-mul, zero-mul}
 use native.Mathlib.Numerals.{add-one}
 use native.Mathlib.Omega.{arith}
-use mathlib.Core.Bool.{Bool}
+use mathlib.Core.Bool.{Bool, false}
 use mathlib.Core.List.{List, [], _++_, _∷_, append-assoc, append-nil, map}
 use mathlib.Core.Path.{_∙_, _≡_, ap, ap₂, refl, subst, sym}
-use lib.IntN.{ℤ}
-use lib.ListN.{drop, length, length-append, take}
+use lib.Dec.{eqb, leb}
+use lib.IntN.{pos, ℤ}
+use lib.ListN.{drop, getD, length, length-append, replicate, take}
 use lib.Seq.{drop-drop, take-take}
+use mir.Val.{boolByte}
+use borrow.Author.Tests.{eqb-true}
 use Rattle.binary.proofs.Loops.{length-integers}
 use Rattle.binary.specs.Binary.{contentBytes}
 use Rattle.binary_reading.proofs.Cells.{content-whole}
 use Rattle.binary.specs.Reading.{integers}
 use Rattle.content_showing.proofs.Text.{drop-of-take}
-use Rattle.moving.proofs.Puts.{puts-as, puts-none, puts-part, puts-then}
+use Rattle.content_showing.specs.Showing.{byteWord}
+use Rattle.moving.proofs.Puts.{puts-as, puts-none, puts-part, puts-then, puts-wrote}
 use Rattle.moving.specs.Contents.{AsText, ContentMoved, InBinary}
 use Rattle.moving.specs.Puts.{Puts}
+use Rattle.number.proofs.Laws.{length-to}
 use Rattle.number.specs.Contracts.{isSigned, size, widthOf}
-use Rattle.number.specs.Number.{ofDigits, ofPattern, shortest}
+use Rattle.number.specs.Number.{digits, ofDigits, ofPattern, shortest, toDigits}
 use Rattle.number.specs.declared.Integer.{Integer}
+use Rattle.number.specs.declared.Integer.the-variants.{UnsignedByte}
+use Rattle.table.proofs.Bytes.{same-is}
+use Rattle.table.proofs.Laws.{each-below}
+use Rattle.table.proofs.Places.{next1}
+use Rattle.table.specs.Bytes.{same}
 use Rattle.table.specs.Result.{good}
-use Rattle.table.specs.Shape.{Whole}
+use Rattle.table.specs.Shape.{W1, Whole}
+use Rattle.table.specs.Wrote.{Wrote}
 use Rattle.tabledata.specs.TableData.{elementBytes, elementText, joined, spaced}
 
 -- an element's word and a space
@@ -124,3 +135,45 @@ module _ (i : Integer) (s : List ℕ) (at : ℕ) where
         puts = puts-spaced shortest es (omega arith) (puts-as (ap (λ (j : ℕ). joined (word shortest) (integers (isSigned i) (size i) j (drop at s))) q) (t .puts));
         count-is = sym l;
       }
+
+-- ---- unsigned bytes: a byte's word by computation over the bytes
+
+abbrev moreDigits : ℕ → ℕ
+moreDigits b = boolByte (leb 10 b) + boolByte (leb 100 b)
+
+abbrev fourOf : ℕ → ℕ
+fourOf b = (b / 100 * 16777216 + b / 10 % 10 * 65536 + b % 10 * 256 + 808464416) * 2 ^ (16 - 8 * moreDigits b) % 4294967296
+
+pub byte-word-is : (b : ℕ) → b < 256 → toDigits 256 4 (fourOf b) ≡ byteWord b ++ replicate (4 - length (byteWord b)) 0
+unfolding byteWord shortest digits same toDigits
+byte-word-is b h = same-is _ _ (each-below (λ (b : ℕ). same (toDigits 256 4 (fourOf b)) (byteWord b ++ replicate (4 - length (byteWord b)) 0)) 256 refl b h)
+
+pub byte-size-is : (b : ℕ) → b < 256 → 2 + boolByte (leb 10 b) + boolByte (leb 100 b) ≡ length (byteWord b)
+unfolding byteWord shortest digits
+byte-size-is b h = eqb-true _ _ (each-below (λ (b : ℕ). eqb (2 + boolByte (leb 10 b) + boolByte (leb 100 b)) (length (byteWord b))) 256 refl b h)
+
+pub byte-put : {l l₁ : List ℕ} {o e r : ℕ} (b x : ℕ) → toDigits 256 4 x ≡ byteWord b ++ replicate (4 - length (byteWord b)) 0 → Wrote l o (toDigits 256 4 x) l₁ e
+    → o + 4 ≤ length l → r ≡ length (byteWord b) → Puts l o (byteWord b) l₁ (o + r)
+byte-put {l} {l₁} {o} b x q w h n =
+    subst (λ (k : ℕ). Puts l o (byteWord b) l₁ (o + k)) (sym n)
+    (puts-part (byteWord b) (replicate (4 - length (byteWord b)) 0) (puts-as q (puts-wrote w (omega (arith, length-to 256 4 x)))))
+
+-- the integer that a byte is
+byte-is : (s : List ℕ) (i : ℕ) → i < length s → pos (getD s i 0) ≡ ofPattern false 1 (ofDigits 256 0 (take 1 (drop i s)))
+unfolding ofPattern ofDigits
+byte-is s i h = rw (next1 s i h) (ap pos (omega arith))
+
+pub byte-more : {old row new : List ℕ} {o e next : ℕ} (s : List ℕ) (at k b : ℕ) → at + k < length s → b ≡ getD s (at + k) 0 → Puts row e (byteWord b) new next
+    → IntegersPut UnsignedByte s at old o row (at + k) e k → IntegersPut UnsignedByte s at old o new (at + (k + 1)) next (k + 1)
+unfolding byteWord
+byte-more s at k b h q u t =
+    let m = integer-more UnsignedByte s at (pos b) 1 refl (ap pos q ∙ byte-is s (at + k) h) u t in
+    record { puts = m .puts; from-is = omega arith }
+
+pub bytes-start : (s : List ℕ) (at : ℕ) (old : List ℕ) (o : ℕ) → o ≤ length old → IntegersPut UnsignedByte s at old o old (at + 0) o 0
+bytes-start s at old o h = record { puts = integers-start UnsignedByte s at old o h .puts; from-is = omega arith }
+
+pub bytes-moved : {old new : List ℕ} {o e : ℕ} (s : List ℕ) (at n k : ℕ) → 0 < n → k ≡ n → IntegersPut UnsignedByte s at old o new (at + k) e k
+    → ContentMoved (InBinary (Whole false W1) n s at) (AsText (Whole false W1)) old o new n (at + n) (e - 1)
+bytes-moved {old} {new} {o} {e} s at n k h q t =
+    subst (λ (j : ℕ). ContentMoved (InBinary (Whole false W1) n s at) (AsText (Whole false W1)) old o new n (at + j) (e - 1)) q (integers-moved UnsignedByte s at n h q t)

@@ -1,10 +1,15 @@
 -- What the contracts speak of beside the definitions: the parts of what is put.
-use mathlib.Core.List.{List, [], _++_, _∷_}
-use Prim.Native.Nat.{_-_, ℕ}
+use mathlib.Core.List.{List, [], _++_, _∷_, map}
+use Prim.Native.Nat.{_+_, _-_, ℕ}
 use lib.ListN.{length, replicate}
 use lib.IntN.{negsuc, pos, ℤ}
-use mathlib.Core.Bool.{Bool, _&&_, cond, not}
+use mathlib.Core.Bool.{Bool, _&&_, _||_, cond, not}
+use mathlib.Core.Path.{_≡_}
 use lib.Dec.{eqb}
+use Rattle.binary.specs.Binary.{bitsOf}
+use Rattle.moving.specs.Puts.{Puts}
+use Rattle.number.specs.Number.{shortest}
+use Rattle.table.specs.All.{All}
 use Rattle.table.specs.Bytes.{between, byte, bytes}
 
 -- "no `+`"
@@ -30,3 +35,38 @@ reference b =
 -- up to eight bytes, filled up to eight
 unfoldable pub filled : List ℕ → List ℕ
 filled b = b ++ replicate (8 - length b) 0
+
+-- ---- integers
+
+-- an unsigned byte and a space
+unfoldable pub byteWord : ℕ → List ℕ
+byteWord b = shortest (pos b) ++ (32 ∷ [])
+
+-- ---- bits
+
+-- a character for each bit of bytes
+unfoldable pub bitLetters : List ℕ → List ℕ
+bitLetters s = map (λ (d : ℕ). d + 48) (bitsOf s)
+
+-- ---- booleans
+
+-- what a boolean's byte is written as, and 0 for a byte that is none
+unfoldable pub truthShown : ℕ → ℕ
+truthShown b =
+    cond (eqb b (byte "T") || eqb b (byte "t") || eqb b (byte "1")) (byte "T")
+    (cond (eqb b (byte "F") || eqb b (byte "f") || eqb b (byte "0")) (byte "F")
+    (cond (eqb b 0x00 || eqb b 0x20 || eqb b 0x3F) (byte "?") 0))
+
+-- each with a space behind it
+unfoldable pub truthLetters : List ℕ → List ℕ
+truthLetters [] = []
+truthLetters (b ∷ s) = truthShown b ∷ 32 ∷ truthLetters s
+
+-- a byte of a boolean
+abbrev pub IsTruth : ℕ → Type 0
+IsTruth b = truthShown b ≡ 0 → ⊥
+
+-- they are put, and where none is bad each is a boolean's
+pub record TruthsPut (p old : List ℕ) (o : ℕ) (new : List ℕ) (next bad : ℕ) : Type 0 where
+  pub puts : Puts old o (truthLetters p) new next
+  pub all : bad ≡ 0 → All IsTruth p

@@ -4,6 +4,7 @@ use eights::eight_digits;
 use eights::first_of;
 use integers::eight_bytes;
 use integers::put_eight;
+use integers::put_four;
 use integers::read_integer;
 use moving::Content;
 use number::Elements;
@@ -11,9 +12,9 @@ use number::Integer;
 use number::elements_of;
 use number::integer_bytes;
 use table::Kind;
-ghost use Prim.Native.Nat.{_*_, _+_, _<_, _≤_};
-ghost use Rattle.binary.specs.Binary.{contentBytes};
-ghost use Rattle.content_showing.specs.Showing.{filled, isItself, reference, sign};
+ghost use Prim.Native.Nat.{_*_, _+_, _-_, _<_, _≤_};
+ghost use Rattle.binary.specs.Binary.{allZero, bitBytes, bitsOf, contentBytes};
+ghost use Rattle.content_showing.specs.Showing.{TruthsPut, bitLetters, byteWord, filled, isItself, reference, sign, truthShown};
 ghost use Rattle.decimals.specs.Contracts.{numerals};
 ghost use Rattle.eights.specs.Marks.{Marks, run};
 ghost use Rattle.moving.specs.Contents.{AsText, InBinary, MovesContent};
@@ -21,9 +22,10 @@ ghost use Rattle.moving.specs.Puts.{Puts};
 ghost use Rattle.number.specs.Contracts.{isSigned, size, widthOf};
 ghost use Rattle.number.specs.Number.{digits, shortest, toDigits};
 ghost use Rattle.table.specs.Cell.{mostElements, truthByte};
-ghost use Rattle.table.specs.Shape.{Text, Whole, shape};
+ghost use Rattle.table.specs.Shape.{Bits, Text, Truths, W1, Whole, shape};
 ghost use lib.IntN.{natAbs};
-ghost use lib.ListN.{drop, length, take};
+ghost use lib.ListN.{drop, length, replicate, take};
+ghost use mathlib.Core.Bool.{false};
 ghost use mathlib.Core.List.{[], _++_, _∷_};
 ghost use mathlib.Core.Path.{_≡_};
 
@@ -253,6 +255,157 @@ fn show_integers(
     Content::Elements(n, from, e - 1)
 }
 
+// The digits of a byte and a space, as four bytes; none stands before the first digit.
+fn byte_word(b: u8) -> u32
+    ensures { λ r. ⌜ toDigits 256 4 r ≡ byteWord b ++ replicate (4 - length (byteWord b)) 0 ⌝ }
+{
+    let v = b as u32;
+    let more = ((10 <= b) as u32) + ((100 <= b) as u32);
+    let digits = v / 100 * 16777216 + v / 10 % 10 * 65536 + v % 10 * 256 + 0x30303020;
+    digits << (16 - 8 * more)
+}
+
+fn byte_size(b: u8) -> usize
+    ensures { λ r. ⌜ (r ≡ length (byteWord b)) × (r ≤ 4) ⌝ }
+{
+    2 + ((10 <= b) as usize) + ((100 <= b) as usize)
+}
+
+fn put_byte(b: u8, row: &mut [u8], o: usize) -> usize
+    requires { ⌜ o + 4 ≤ length (now row) ⌝ }
+    ensures { λ r. ⌜ Puts (now (row .entry)) o (byteWord b) (now (row .exit)) r × (r ≤ o + 4) ⌝ }
+{
+    put_four(row, o, byte_word(b));
+    o + byte_size(b)
+}
+
+fn show_bytes(n: usize, s: &[u8], at: usize, row: &mut [u8], o: usize) -> Content
+    requires { ⌜ (0 < n) × (n ≤ mostElements) × (at + n ≤ length (now s)) × (o ≤ length (now row)) ⌝ }
+    ensures { λ r. ⌜ MovesContent (InBinary (Whole false W1) n (now (s .entry)) at) (AsText (Whole false W1)) (now (row .entry)) o (now (row .exit)) r ⌝ }
+{
+    if row.len() - o < 4 * n {
+        return Content::Careful;
+    }
+    let mut e = o;
+    let mut k: usize = 0;
+    while k < n {
+        e = put_byte(s[at + k], row, e);
+        k += 1;
+    }
+    Content::Elements(n, at + n, e - 1)
+}
+
+fn show_whole(integer: Integer, n: usize, s: &[u8], at: usize, row: &mut [u8], o: usize) -> Content
+    requires { ⌜ (0 < n) × (n ≤ mostElements) × (at + n * size integer ≤ length (now s)) × (o ≤ length (now row)) ⌝ }
+    ensures { λ r. ⌜ MovesContent (InBinary (Whole (isSigned integer) (widthOf integer)) n (now (s .entry)) at) (AsText (Whole (isSigned integer) (widthOf integer))) (now (row .entry)) o (now (row .exit)) r ⌝ }
+{
+    match integer {
+        Integer::UnsignedByte => show_bytes(n, s, at, row, o),
+        Integer::Short | Integer::Int | Integer::Long => show_integers(integer, n, s, at, row, o),
+    }
+}
+
+// ---- bits, "none between bits"
+
+// A character for each bit of a byte, the first highest.
+fn bit_word(b: u8) -> u64
+    ensures { λ r. ⌜ toDigits 256 8 r ≡ bitLetters (b ∷ []) ⌝ }
+{
+    let v = b as u64;
+    let x = (v | (v << 28)) & 0x0000000f0000000f;
+    let y = (x | (x << 14)) & 0x0003000300030003;
+    let z = (y | (y << 7)) & 0x0101010101010101;
+    z + 0x3030303030303030
+}
+
+// Is each bit after the n-th 0?
+fn is_padded(n: usize, s: &[u8], at: usize) -> bool
+    requires { ⌜ (0 < n) × (n ≤ mostElements) × (at + bitBytes n ≤ length (now s)) ⌝ }
+    ensures { λ r. ⌜ r ≡ allZero (drop n (bitsOf (take (bitBytes n) (drop at (now (s .entry)))))) ⌝ }
+{
+    let size = (n + 7) / 8;
+    let last = s[at + size - 1] as u64;
+    last % (1u64 << (8 * size - n)) == 0
+}
+
+fn put_bits(size: usize, s: &[u8], at: usize, row: &mut [u8], o: usize)
+    requires { ⌜ (at + size ≤ length (now s)) × (o + 8 * size ≤ length (now row)) ⌝ }
+    ensures { λ _. ⌜ Puts (now (row .entry)) o (bitLetters (take size (drop at (now (s .entry))))) (now (row .exit)) (o + 8 * size) ⌝ }
+{
+    let mut k: usize = 0;
+    while k < size {
+        put_eight(row, o + 8 * k, bit_word(s[at + k]));
+        k += 1;
+    }
+}
+
+fn show_bits(n: usize, s: &[u8], at: usize, row: &mut [u8], o: usize) -> Content
+    requires { ⌜ (0 < n) × (n ≤ mostElements) × (at + bitBytes n ≤ length (now s)) × (o ≤ length (now row)) ⌝ }
+    ensures { λ r. ⌜ MovesContent (InBinary Bits n (now (s .entry)) at) (AsText Bits) (now (row .entry)) o (now (row .exit)) r ⌝ }
+{
+    let size = (n + 7) / 8;
+    if row.len() - o < 8 * size {
+        return Content::Careful;
+    }
+    if !is_padded(n, s, at) {
+        return Content::Careful;
+    }
+    put_bits(size, s, at, row, o);
+    Content::Elements(n, at + size, o + n)
+}
+
+// ---- booleans
+
+// The letter that a boolean's byte is written as, and 0 for a byte that is none. No test is a branch.
+fn truth_letter(b: u8) -> u8
+    ensures { λ r. ⌜ r ≡ truthShown b ⌝ }
+{
+    let truth = ((b == 84) | (b == 116) | (b == 49)) as u8;
+    let falsehood = ((b == 70) | (b == 102) | (b == 48)) as u8;
+    let unknown = ((b == 0) | (b == 32) | (b == 63)) as u8;
+    truth * 84 + falsehood * 70 + unknown * 63
+}
+
+// A letter and a space behind it.
+fn put_truth(b: u8, row: &mut [u8], o: usize) -> u8
+    requires { ⌜ o + 2 ≤ length (now row) ⌝ }
+    ensures { λ r. ⌜ (r ≡ truthShown b) × Puts (now (row .entry)) o (truthShown b ∷ 32 ∷ []) (now (row .exit)) (o + 2) ⌝ }
+{
+    let letter = truth_letter(b);
+    row[o] = letter;
+    row[o + 1] = 32;
+    letter
+}
+
+// 0 where each byte is a boolean's.
+fn put_truths(n: usize, s: &[u8], at: usize, row: &mut [u8], o: usize) -> u8
+    requires { ⌜ (at + n ≤ length (now s)) × (o + 2 * n ≤ length (now row)) ⌝ }
+    ensures { λ r. ⌜ TruthsPut (take n (drop at (now (s .entry)))) (now (row .entry)) o (now (row .exit)) (o + 2 * n) r ⌝ }
+{
+    let mut bad: u8 = 0;
+    let mut k: usize = 0;
+    while k < n {
+        let letter = put_truth(s[at + k], row, o + 2 * k);
+        bad = bad | ((letter == 0) as u8);
+        k += 1;
+    }
+    bad
+}
+
+// The space behind the last is left out.
+fn show_truths(n: usize, s: &[u8], at: usize, row: &mut [u8], o: usize) -> Content
+    requires { ⌜ (0 < n) × (n ≤ mostElements) × (at + n ≤ length (now s)) × (o ≤ length (now row)) ⌝ }
+    ensures { λ r. ⌜ MovesContent (InBinary Truths n (now (s .entry)) at) (AsText Truths) (now (row .entry)) o (now (row .exit)) r ⌝ }
+{
+    if row.len() - o < 2 * n {
+        return Content::Careful;
+    }
+    if put_truths(n, s, at, row, o) != 0 {
+        return Content::Careful;
+    }
+    Content::Elements(n, at + n, o + 2 * n - 1)
+}
+
 // ---- a content
 
 pub fn show_content(kind: Kind, n: usize, s: &[u8], at: usize, row: &mut [u8], o: usize) -> Content
@@ -263,9 +416,9 @@ pub fn show_content(kind: Kind, n: usize, s: &[u8], at: usize, row: &mut [u8], o
         return Content::Elements(0, at, o);
     }
     match elements_of(kind) {
-        Elements::Truths => Content::Careful,
-        Elements::Bits => Content::Careful,
+        Elements::Truths => show_truths(n, s, at, row, o),
+        Elements::Bits => show_bits(n, s, at, row, o),
         Elements::Text => show_text(n, s, at, row, o),
-        Elements::Whole(integer) => show_integers(integer, n, s, at, row, o),
+        Elements::Whole(integer) => show_whole(integer, n, s, at, row, o),
     }
 }

@@ -17,7 +17,8 @@ put-eight-digits-requires c κs =
 returns : tie.Need-returns
 returns c =
     let s = c .before .before .before .before .before .before .before .before .before .before in
-    puts-as (sym (long-digits (s .args .v) (s .pre .0) (omega arith))) (puts-then (c .before .before .before .before .before .before .put-short .ensures) (c .before .before .put-eight-digits .ensures))
+    puts-as (sym (long-digits (s .args .v) (s .pre .0) (omega arith)))
+    (puts-then (c .before .before .before .before .before .before .put-short .ensures) (c .before .before .put-eight-digits .ensures))
 
 put-eight-digits-requires-2 : tie.Need-put-eight-digits-requires-2
 put-eight-digits-requires-2 c κs =
@@ -35,7 +36,9 @@ returns-2 : tie.Need-returns-2
 returns-2 c =
     let s = c .before .before .before .before .before .before .before .before .before .before .before .before .before .before in
     puts-as (sym (longer-digits (s .args .v) (omega arith) (omega arith)))
-    (puts-then (puts-then (c .before .before .before .before .before .before .before .before .before .before .put-short2 .ensures) (c .before .before .before .before .before .before .put-eight-digits2 .ensures)) (c .before .before .put-eight-digits3 .ensures))
+    (puts-then
+    (puts-then (c .before .before .before .before .before .before .before .before .before .before .put-short2 .ensures) (c .before .before .before .before .before .before .put-eight-digits2 .ensures))
+    (c .before .before .put-eight-digits3 .ensures))
 
 pub put-long-spec : {M : Type 1} → statement M
 put-long-spec =

@@ -1,8 +1,8 @@
 -- `content_showing::put_short` meets its contract: shifted up by the bytes before its digits, the number that is stored begins with them.
-use mathlib.Core.Path.{_≡_, refl}
-use Prim.Native.Nat.{_<_, _≤_, _/_, ℕ}
+use mathlib.Core.Path.{refl}
+use Prim.Native.Nat.{_<_, _/_}
 use lib.Bits.{bitOr}
-use lib.Count.{leading-le, leadingZeros}
+use lib.Count.{leadingZeros}
 use Rattle.content_showing.proofs.Digits.{short-put, shown-fits, zeros-lt}
 use native.Mathlib.Omega.{arith}
 use borrow.Author.Needs.{needs}

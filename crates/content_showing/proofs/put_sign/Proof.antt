@@ -1,6 +1,5 @@
 -- `content_showing::put_sign` meets its contract: by the test, the byte that was stored counts or not.
-use mathlib.Core.List.{[], _∷_}
-use mathlib.Core.Path.{_≡_, sym}
+use mathlib.Core.Path.{sym}
 use Rattle.content_showing.proofs.Digits.{sign-down, sign-up}
 use Rattle.content_showing.proofs.Stores.{puts-byte, puts-no-byte}
 use Rattle.moving.proofs.Puts.{puts-as}

@@ -1,9 +1,7 @@
 -- `content_showing::put_word` meets its contract: the integer is put, and a space behind it.
-use mathlib.Core.List.{List, _++_, _∷_, []}
+use mathlib.Core.List.{_++_, _∷_, []}
 use mathlib.Core.Path.{ap}
-use Prim.Native.Nat.{ℕ}
 use lib.IntN.{ℤ}
-use lib.ListN.{length}
 use mir.Facts.{toZ-ofZ}
 use mir.Syntax.{w64}
 use mir.Val.{ofZ, toZ}

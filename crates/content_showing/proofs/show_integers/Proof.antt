@@ -1,13 +1,13 @@
 -- `content_showing::show_integers` meets its contract, once over the width: before each turn the first k integers are put, a space behind each.
 use Prim.Native.Nat.{_*_, _+_, _-_, _≤_, ℕ}
-use mathlib.Core.Path.{_∙_, _≡_, ap, sym}
+use mathlib.Core.Path.{_∙_}
 use denote.Ref.{now}
 use lib.ListN.{length}
 use mir.Facts.{toZ-ofZ}
 use mir.Syntax.{w64}
 use Rattle.binary.proofs.Loops.{place-fits}
 use Rattle.content_showing.proofs.Words.{IntegersPut, integer-more, integers-moved, integers-some, integers-start}
-use Rattle.moving.proofs.Puts.{puts-as, puts-before}
+use Rattle.moving.proofs.Puts.{puts-before}
 use Rattle.number.specs.Contracts.{size}
 use native.Mathlib.Omega.{arith}
 use borrow.Author.Needs.{needs}
@@ -56,11 +56,12 @@ loop-less : tie.Need-loop-less Inv-loop μ-loop
 loop-less c = omega (arith, c .before .before .before .before .before .before .loop-test .taken)
 
 loop-again : tie.Need-loop-again Inv-loop μ-loop
-loop-again c = (
-  omega (arith, c .before .before .before .before .before .before .loop-test .taken),
-  integer-more _ _ _ _ _ (c .before .before .before .before .before .before .before .before .integer-bytes .ensures .0) (toZ-ofZ {w = w64} (record { sfits = c .before .before .before .before .read-integer .ok }) ∙ c .before .before .before .before .read-integer .ensures)
-      (c .before .before .put-word .ensures) (c .before .before .before .before .before .before .before .loop .inv .1),
-)
+loop-again c =
+    let read = c .before .before .before .before .read-integer in (
+      omega (arith, c .before .before .before .before .before .before .loop-test .taken),
+      integer-more _ _ _ _ _ (c .before .before .before .before .before .before .before .before .integer-bytes .ensures .0) (toZ-ofZ {w = w64} (record { sfits = read .ok }) ∙ read .ensures)
+          (c .before .before .put-word .ensures) (c .before .before .before .before .before .before .before .loop .inv .1),
+    )
 
 sub-t17 : tie.Need-sub-t17 Inv-loop μ-loop
 sub-t17 c = integers-some _ _ _ (c .before .loop .inv .1) (omega (arith, c .loop-test .left, c .before .before .before .before .before .pre .0))
@@ -69,7 +70,9 @@ same-length-2 : tie.Need-same-length-2 Inv-loop μ-loop
 same-length-2 c = c .before .loop .inv .1 .puts .long
 
 returns-2 : tie.Need-returns-2 Inv-loop μ-loop
-returns-2 c = integers-moved _ _ _ (c .before .before .before .before .before .args .n) (c .before .before .before .before .before .pre .0) (omega (arith, c .before .loop .inv .0, c .loop-test .left)) (c .before .loop .inv .1)
+returns-2 c =
+    let i = c .before .loop .inv in
+    integers-moved _ _ _ (c .before .before .before .before .before .args .n) (c .before .before .before .before .before .pre .0) (omega (arith, i .0, c .loop-test .left)) (i .1)
 
 pub show-integers-spec : {M : Type 1} → statement M
 show-integers-spec =

@@ -1,6 +1,6 @@
 -- `content_showing::show_text` meets its contract: before each turn the first k bytes are put as what they show.
-use Prim.Native.Nat.{_+_, _-_, _<_, _≤_, ℕ}
-use mathlib.Core.Path.{_∙_, _≡_, refl}
+use Prim.Native.Nat.{_+_, _-_, _<_, _≤_}
+use mathlib.Core.Path.{_∙_, refl}
 use denote.Ref.{now}
 use lib.ListN.{drop, length, length-take, take}
 use Rattle.content_showing.proofs.Marked.{run-most}
@@ -30,21 +30,31 @@ few c =
 
 -- the run is put
 after-run : (c : tie.After-slice-known2 Inv-loop μ-loop)
-    → TextPut (take (c .before .before .before .before .before .before .before .before .before .args .n) (drop (c .before .before .before .before .before .before .before .before .before .args .at) (now (c .before .before .before .before .before .before .before .before .before .args .s)))) (now (c .before .before .before .before .before .before .before .before .before .args .row)) (c .before .before .before .before .before .before .before .before .before .args .o) (c .before .before .copy-wide .last .1 .1 .1 .0) (c .before .before .copy-wide .result) (c .before .before .before .before .before .before .loop .k + c .before .before .before .before .before .text-run .result)
+    → let a = c .before .before .before .before .before .before .before .before .before .args in
+    let copied = c .before .before .copy-wide in
+    TextPut (take (a .n) (drop (a .at) (now (a .s)))) (now (a .row)) (a .o) (copied .last .1 .1 .1 .0) (copied .result)
+    (c .before .before .before .before .before .before .loop .k + c .before .before .before .before .before .text-run .result)
 after-run c =
     let a = c .before .before .before .before .before .before .before .before .before .args in
-    put-run (now (a .s)) (a .at) (a .n) (omega arith) (c .before .before .before .before .before .text-run .result) (c .before .before .before .before .before .text-run .ensures) (c .before .before .copy-wide .ensures) (c .before .before .before .before .before .before .loop .inv .1)
+    let found = c .before .before .before .before .before .text-run in
+    put-run (now (a .s)) (a .at) (a .n) (omega arith) (found .result) (found .ensures) (c .before .before .copy-wide .ensures) (c .before .before .before .before .before .before .loop .inv .1)
 
-within-run : (c : tie.After-slice-known2 Inv-loop μ-loop) → c .before .before .before .before .before .before .loop .k + c .before .before .before .before .before .text-run .result ≤ c .before .before .before .before .before .before .before .before .before .args .n
+within-run : (c : tie.After-slice-known2 Inv-loop μ-loop)
+    → let l = c .before .before .before .before .before .before in l .loop .k + c .before .before .before .before .before .text-run .result ≤ l .before .before .before .args .n
 within-run c =
     let a = c .before .before .before .before .before .before .before .before .before .args in
     omega (arith, after-run c .within, part-long (now (a .s)) (a .at) (a .n) (omega arith))
 
-before-end : (c : tie.Else2 Inv-loop μ-loop) → c .before .before .before .before .before .before .before .loop .k + c .before .before .before .before .before .before .text-run .result < c .before .before .before .before .before .before .before .before .before .before .args .n
+before-end : (c : tie.Else2 Inv-loop μ-loop)
+    → let l = c .before .before .before .before .before .before .before in l .loop .k + c .before .before .before .before .before .before .text-run .result < l .before .before .before .args .n
 before-end c = omega (arith, within-run (c .before), c .if2 .left)
 
-copied : (c : tie.After-slice-known2 Inv-loop μ-loop) → length (take (c .before .before .before .before .before .text-run .result) (drop (c .before .before .before .before .before .before .before .before .before .args .at + c .before .before .before .before .before .before .loop .k) (now (c .before .before .before .before .before .before .before .before .before .args .s)))) ≤ c .before .before .before .before .before .text-run .result
-copied c = omega (arith, length-take (c .before .before .before .before .before .text-run .result) (drop (c .before .before .before .before .before .before .before .before .before .args .at + c .before .before .before .before .before .before .loop .k) (now (c .before .before .before .before .before .before .before .before .before .args .s))))
+room-left : (c : tie.After-slice-known2 Inv-loop μ-loop) → c .before .before .copy-wide .result + 8 ≤ length (c .before .before .copy-wide .last .1 .1 .1 .0)
+room-left c =
+    let a = c .before .before .before .before .before .before .before .before .before .args in
+    let p = c .before .before .copy-wide .ensures in
+    let k = c .before .before .before .before .before .before .loop .k in
+    omega (arith, p .next-is, p .long, length-take (c .before .before .before .before .before .text-run .result) (drop (a .at + k) (now (a .s))), c .before .before .before .before .if1 .left)
 
 add-text-run : tie.Need-add-text-run Inv-loop μ-loop
 add-text-run c = search needs
@@ -105,9 +115,7 @@ returns-3 c =
     moved-nul (now (a .s)) (a .at) (a .n) (omega arith) (after-run (c .before .before .before)) (before-end (c .before .before)) (c .if3 .taken)
 
 put-reference-requires : tie.Need-put-reference-requires Inv-loop μ-loop
-put-reference-requires c κs =
-    let p = c .before .before .before .before .before .before .copy-wide .ensures in
-    omega (arith, p .next-is, p .long, copied (c .before .before .before .before), c .before .before .before .before .before .before .before .before .if1 .left)
+put-reference-requires c κs = room-left (c .before .before .before .before)
 
 same-length-4 : tie.Need-same-length-4 Inv-loop μ-loop
 same-length-4 c = c .before .before .before .put-reference .ensures .long ∙ after-run (c .before .before .before .before .before .before .before .before) .puts .long
@@ -123,9 +131,13 @@ loop-less c = omega (arith, before-end (c .before .before .before .before .befor
 
 loop-again : tie.Need-loop-again Inv-loop μ-loop
 loop-again c =
-    let a = c .before .before .before .before .before .before .before .before .before .before .before .before .before .before .before .before .before .args in (
+    let a = c .before .before .before .before .before .before .before .before .before .before .before .before .before .before .before .before .before .args in
+    let known = c .before .before .before .before .before .before .shared-slice-known2 in
+    let run = c .before .before .before .before .before .before .before .before .before .before .before .before .before in
+    let reached = run .before .loop .k + run .text-run .result in (
       omega (arith, before-end (c .before .before .before .before .before .before .before)),
-      put-char (now (a .s)) (a .at) (a .n) (omega arith) _ (before-end (c .before .before .before .before .before .before .before)) refl (omega (arith, c .before .before .before .before .before .before .shared-slice-known2 .given (a .at + (c .before .before .before .before .before .before .before .before .before .before .before .before .before .before .loop .k + c .before .before .before .before .before .before .before .before .before .before .before .before .before .text-run .result)))) (c .if4 .left) (c .before .before .before .put-reference .ensures) (after-run (c .before .before .before .before .before .before .before .before)),
+      put-char (now (a .s)) (a .at) (a .n) (omega arith) _ (before-end (c .before .before .before .before .before .before .before)) refl (omega (arith, known .given (a .at + reached)))
+          (c .if4 .left) (c .before .before .before .put-reference .ensures) (after-run (c .before .before .before .before .before .before .before .before)),
     )
 
 pub show-text-spec : {M : Type 1} → statement M

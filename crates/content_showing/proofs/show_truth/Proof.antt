@@ -2,7 +2,6 @@
 use mathlib.Core.List.{List, [], _∷_}
 use mathlib.Core.Path.{_∙_, ap}
 use Prim.Native.Nat.{ℕ}
-use lib.IntN.{ℤ}
 use mir.Facts.{toZ-ofZ}
 use Rattle.content_showing.proofs.Stores.{puts-byte}
 use Rattle.moving.proofs.Puts.{puts-as}

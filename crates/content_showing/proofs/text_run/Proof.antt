@@ -1,9 +1,9 @@
 -- `content_showing::text_run` meets its contract: before each turn the first k bytes are written as themselves.
 use Prim.Native.Nat.{_+_, _-_, _<_, _≤_, ℕ}
-use mathlib.Core.Path.{_≡_, ap}
+use mathlib.Core.Path.{ap}
 use mathlib.Core.List.{List}
 use denote.Ref.{now}
-use lib.ListN.{drop, length, take}
+use lib.ListN.{drop, take}
 use lib.Seq.{drop-drop}
 use Rattle.content_showing.proofs.Marked.{run-front, run-more}
 use Rattle.content_showing.specs.Showing.{isItself}
@@ -20,7 +20,8 @@ abbrev μ-loop : tie.MeasureT-loop
 μ-loop s at n k₀ k = n + 8 - k
 
 -- what is ahead belongs to the run
-longer : (c : tie.After-text-ahead Inv-loop μ-loop) → c .before .before .loop .k + c .text-ahead .result ≤ run isItself (drop (c .before .before .before .before .args .at) (now (c .before .before .before .before .args .s)))
+longer : (c : tie.After-text-ahead Inv-loop μ-loop)
+    → let a = c .before .before .before .before .args in c .before .before .loop .k + c .text-ahead .result ≤ run isItself (drop (a .at) (now (a .s)))
 longer c =
     let a = c .before .before .before .before .args in
     let k : ℕ = c .before .before .loop .k in
