@@ -4,3 +4,4 @@ pub mod Lanes
 pub mod Chars
 pub mod Figures
 pub mod Packing
+pub mod Words

@@ -4,6 +4,7 @@ use eights::copy_wide;
 use eights::first_of;
 use integers::eight_bytes;
 use integers::four_bytes;
+use integers::write_integer;
 use moving::Content;
 use moving::One;
 use number::Elements;
@@ -16,7 +17,7 @@ ghost use mathlib.Core.Path.{_≡_};
 ghost use Prim.Native.Nat.{_+_, _≤_};
 ghost use lib.ListN.{length};
 ghost use Rattle.content_reading.specs.Figures.{BitByte, Leading, ReadIn, isBit};
-ghost use Rattle.content_reading.specs.Letters.{LetterIs, PlainTo, truthNumber};
+ghost use Rattle.content_reading.specs.Letters.{LetterIs, PlainTo, truthNumber, truthOf};
 ghost use Rattle.eights.specs.Marks.{Marks};
 ghost use Rattle.moving.specs.Contents.{AsBinary, FindsOne, InText, MovesContent};
 ghost use Rattle.number.specs.Contracts.{isSigned, widthOf};
@@ -243,6 +244,74 @@ fn read_bits(s: &[u8], from: usize, row: &mut [u8], first: usize) -> Content
     }
 }
 
+// ---- words with one space between
+
+fn read_integers(s: &[u8], from: usize, integer: Integer, row: &mut [u8], first: usize) -> Content
+    requires { ⌜ (from ≤ length (now s)) × (first ≤ length (now row)) ⌝ }
+    ensures { λ r. ⌜ MovesContent (InText (Whole (isSigned integer) (widthOf integer)) (now (s .entry)) from) (AsBinary (Whole (isSigned integer) (widthOf integer))) (now (row .entry)) first (now (row .exit)) r ⌝ }
+{
+    let mut at = from;
+    let mut o = first;
+    let mut count: usize = 0;
+    loop {
+        let One::Element(z, next) = text_integer(s, at, integer) else {
+            return Content::Careful;
+        };
+        if s.len() <= next {
+            return Content::Careful;
+        }
+        if row.len() - o < 8 {
+            return Content::Careful;
+        }
+        o = write_integer(row, o, integer, z);
+        count += 1;
+        if s[next] != b' ' {
+            return Content::Elements(count, next, o);
+        }
+        at = next + 1;
+    }
+}
+
+// A boolean's byte for its letter, 0 for no letter: constants by keys, which the compiler makes one load.
+fn truth_letter(c: u8) -> u8
+    ensures { λ r. ⌜ r ≡ truthOf c ⌝ }
+{
+    match c {
+        b'T' | b't' | b'1' => b'T',
+        b'F' | b'f' | b'0' => b'F',
+        b'?' => b'?',
+        _ => 0,
+    }
+}
+
+fn read_truths(s: &[u8], from: usize, row: &mut [u8], first: usize) -> Content
+    requires { ⌜ (from ≤ length (now s)) × (first ≤ length (now row)) ⌝ }
+    ensures { λ r. ⌜ MovesContent (InText Truths (now (s .entry)) from) (AsBinary Truths) (now (row .entry)) first (now (row .exit)) r ⌝ }
+{
+    let mut at = from;
+    let mut o = first;
+    let mut count: usize = 0;
+    loop {
+        if s.len() - at < 2 {
+            return Content::Careful;
+        }
+        if row.len() <= o {
+            return Content::Careful;
+        }
+        let b = truth_letter(s[at]);
+        if b == 0 {
+            return Content::Careful;
+        }
+        row[o] = b;
+        o += 1;
+        count += 1;
+        if s[at + 1] != b' ' {
+            return Content::Elements(count, at + 1, o);
+        }
+        at += 2;
+    }
+}
+
 // ---- the elements of a cell
 
 // The elements of a kind from a place on, up to what ends them: the end tag, or what is for the careful way.
@@ -251,9 +320,9 @@ pub fn read_content(kind: Kind, s: &[u8], at: usize, row: &mut [u8], o: usize) -
     ensures { λ r. ⌜ MovesContent (InText (shape kind) (now (s .entry)) at) (AsBinary (shape kind)) (now (row .entry)) o (now (row .exit)) r ⌝ }
 {
     match elements_of(kind) {
-        Elements::Truths => Content::Careful,
+        Elements::Truths => read_truths(s, at, row, o),
         Elements::Bits => read_bits(s, at, row, o),
-        Elements::Whole(_) => Content::Careful,
+        Elements::Whole(integer) => read_integers(s, at, integer, row, o),
         Elements::Text => read_text(s, at, row, o),
     }
 }
