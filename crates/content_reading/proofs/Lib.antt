@@ -5,3 +5,4 @@ pub mod Chars
 pub mod Figures
 pub mod Packing
 pub mod Words
+pub mod Digits

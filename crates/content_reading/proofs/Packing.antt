@@ -1,13 +1,13 @@
 -- The bits of a cell: characters that are bits, eight to a byte, the last filled with 0.
 use Prim.Native.Nat.{_%_, _*_, _+_, _-_, _/_, _<_, _^_, _≤_, suc, zero, ℕ}
-use native.Mathlib.Nat.{add-zero, mod-eq-of-lt, zero-add}
+use native.Mathlib.Nat.{add-zero, mod-eq-of-lt}
 use native.Mathlib.Omega.{arith}
 use mathlib.Core.Bool.{true}
 use mathlib.Core.List.{List, [], _++_, _∷_, append-assoc, append-nil, map}
 use mathlib.Core.Path.{_∙_, _≡_, ap, ap₂, refl, subst, sym}
 use lib.Bits.{bitXor}
 use lib.Dec.{eqb, lit<}
-use lib.IntN.{pos, ℤ}
+use lib.IntN.{pos}
 use lib.ListN.{drop, length, length-append, length-drop, length-map, length-replicate, replicate, set, take}
 use lib.Pow.{shl-exact, shl-lt}
 use lib.Seq.{drop-append-le, drop-at, drop-drop, length-take-le, take-all, take-append-le, take-take}
@@ -27,7 +27,6 @@ use Rattle.number.specs.Number.{ofDigits}
 use Rattle.table.proofs.Laws.{all-append, all-drop, all-take, all-weaken, between-is, each-below, no-white}
 use Rattle.table.proofs.Words.{words-one}
 use Rattle.table.specs.All.{All, AreBytes}
-use Rattle.table.specs.Bytes.{between}
 use Rattle.table.specs.Result.{every, good}
 use Rattle.table.specs.Shape.{Bits}
 use Rattle.tabledata.specs.TableData.{bitLetter, bitWords, textElements}
@@ -103,7 +102,7 @@ pub length-figures : (w : List ℕ) → length (figures w) ≡ length w
 unfolding figures
 length-figures w = length-map w (λ (c : ℕ). c - 48)
 
-figures-join : (w v : List ℕ) → figures (w ++ v) ≡ figures w ++ figures v
+pub figures-join : (w v : List ℕ) → figures (w ++ v) ≡ figures w ++ figures v
 unfolding figures
 figures-join w v = map-join (λ (c : ℕ). c - 48) w v
 

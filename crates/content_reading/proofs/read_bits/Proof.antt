@@ -4,15 +4,13 @@ use native.Mathlib.Omega.{arith}
 use mathlib.Core.List.{List}
 use mathlib.Core.Path.{_≡_}
 use denote.Ref.{now}
-use lib.ListN.{drop, length, length-drop, set, take}
-use lib.Seq.{length-take-le}
-use Rattle.content_reading.proofs.Chars.{run-ahead}
+use lib.ListN.{drop, length, set, take}
+use Rattle.content_reading.proofs.Chars.{run-ahead, run-marked}
 use Rattle.content_reading.proofs.Packing.{BitsTo, bits-more, bits-moved, bits-start}
 use Rattle.content_reading.specs.Figures.{isBit}
 use Rattle.eights.proofs.Fronts.{are-bytes}
 use Rattle.eights.specs.Marks.{run}
 use Rattle.moving.proofs.Puts.{puts-before}
-use Rattle.table.proofs.Laws.{all-drop, all-take}
 use Rattle.table.specs.All.{AreBytes}
 use borrow.Author.Needs.{needs}
 use Rattle.content_reading.proofs.read_bits.Statement.{statement}
@@ -75,10 +73,7 @@ module _ (c : tie.After-first-of Inv-loop μ-loop) where
   inside = omega (arith, at-loop .loop .inv .0 .spells .inside)
 
   counted : c .first-of .result ≡ run isBit (take 8 (drop (at-loop .loop .at) s))
-  counted =
-      let p : List ℕ = take 8 (drop (at-loop .loop .at) s) in
-      let l : length p ≡ 8 = length-take-le 8 (drop (at-loop .loop .at) s) (simp length-drop (omega (arith, inside))) in
-      c .first-of .ensures .first isBit p l (c .before .no-bits .ensures .marked p l (all-take _ 8 (drop (at-loop .loop .at) s) (all-drop _ (at-loop .loop .at) s bytes)) (c .before .before .eight-bytes .ensures))
+  counted = run-marked isBit s (at-loop .loop .at) bytes inside (c .before .before .eight-bytes .ensures) (c .before .no-bits .ensures) (c .first-of .ensures)
 
   few : c .first-of .result ≤ 8
   few = run-ahead isBit s (at-loop .loop .at) (c .first-of .result) inside counted .0

@@ -1,7 +1,7 @@
 -- `content_reading::read_integers` meets its contract: before each turn the words passed over stand in the buffer, each in the bytes of its kind.
-use Prim.Native.Nat.{_-_, _≤_, ℕ}
+use Prim.Native.Nat.{_-_}
 use native.Mathlib.Omega.{arith}
-use mathlib.Core.List.{List, [], _∷_}
+use mathlib.Core.List.{[], _∷_}
 use mathlib.Core.Path.{_∙_, _≡_, subst}
 use denote.Ref.{now}
 use lib.IntN.{ℤ}
