@@ -16,7 +16,7 @@ use Rattle.binary.proofs.Digits.{map-join}
 use Rattle.binary.specs.Binary.{bitBytes, bitOf, bytesOf, number, pack, packed}
 use Rattle.content_reading.proofs.Chars.{run-ahead}
 use Rattle.content_reading.proofs.Figures.{of-zeros}
-use Rattle.content_reading.proofs.Spelling.{spells-none, spells-run, spells-then}
+use Rattle.content_reading.proofs.Spelling.{Itself, spells-none, spells-run, spells-then}
 use Rattle.content_reading.specs.Figures.{BitByte, Leading, ReadIn, figures, isBit}
 use Rattle.eights.specs.Marks.{run}
 use Rattle.moving.proofs.Puts.{puts-as, puts-none, puts-then, puts-wrote}
@@ -78,6 +78,9 @@ IsBits w = All (λ (c : ℕ). isBit c ≡ true) w
 bit-is : (c : ℕ) → isBit c ≡ true → (48 ≤ c) × (c ≤ 49)
 unfolding isBit
 bit-is c h = between-is 48 49 c h
+
+bit-itself : (c : ℕ) → isBit c ≡ true → Itself c
+bit-itself c h = let i = bit-is c h in (λ e. omega arith, λ e. omega arith, λ e. omega arith)
 
 bit-figure : (c : ℕ) → isBit c ≡ true → bitXor c 48 ≡ c - 48
 bit-figure c h = by c (bit-is c h .0) (bit-is c h .1)
@@ -164,7 +167,7 @@ bits-more {s} {from} {at} {old} {first} {new} {o} {x} {n} {b} r whole are h room
     record {
       w = r .w ++ v;
       bits = all-append _ (r .w) v (r .bits) (ahead .1);
-      spells = spells-then (r .spells) (spells-run s at n (omega (arith, ahead .0)) (all-weaken _ _ v (λ c g. let i = bit-is c g in (λ f. omega arith, λ f. omega arith, λ f. omega arith)) (ahead .1)));
+      spells = spells-then (r .spells) (spells-run s at n (omega (arith, ahead .0)) (all-weaken _ _ v bit-itself (ahead .1)));
       puts = puts-as
           (ap (λ (y : ℕ). pack (figures (r .w)) ++ (y ∷ [])) is
           ∙ sym (ap pack (figures-join (r .w) v) ∙ pack-more (figures (r .w)) bs (omega (arith, length-figures (r .w), r .count)) (omega (arith, k)) (omega (arith, k, ahead .0))))

@@ -150,12 +150,13 @@ module _ {k : Shape} {f : List ℕ → Result ℕ ℤ} (q : (u : List ℕ) → t
   pub words-more : {place : ℕ} → next < length s → getD s next 0 ≡ 32 → place ≡ next + 1 → WordsTo f h w s from place old first new' e (count + 1)
   unfolding isWhite
   words-more {place} l b is =
-      let cut : (v : List ℕ) → words (r .text ++ u .word ++ (32 ∷ v)) ≡ words (r .text ++ u .word) ++ words v = λ v. words-cut (r .text ++ u .word) 32 v refl in
-      let whole : words (r .text ++ u .word ++ (32 ∷ [])) ≡ words (r .text ++ u .word) = cut [] ∙ ap (λ (t : List (List ℕ)). words (r .text ++ u .word) ++ t) words-none ∙ append-nil (words (r .text ++ u .word)) in
+      let both : List ℕ = r .text ++ u .word in
+      let cut : (v : List ℕ) → words (both ++ (32 ∷ v)) ≡ words both ++ words v = λ v. words-cut both 32 v refl in
+      let whole : words (both ++ (32 ∷ [])) ≡ words both = cut [] ∙ ap (λ (t : List (List ℕ)). words both ++ t) words-none ∙ append-nil (words both) in
       record {
-        text = r .text ++ u .word ++ (32 ∷ []);
+        text = both ++ (32 ∷ []);
         es = r .es ++ (z ∷ []);
-        clean = λ v. ap words (append-assoc (r .text ++ u .word) (32 ∷ []) v) ∙ cut v ∙ ap (λ (t : List (List ℕ)). t ++ words v) (sym whole);
+        clean = λ v. ap words (append-assoc both (32 ∷ []) v) ∙ cut v ∙ ap (λ (t : List (List ℕ)). t ++ words v) (sym whole);
         spells =
             spells-then (spells-then (r .spells) (u .spells))
             (subst₂ (λ (c i : ℕ). Spells s next i (c ∷ [])) b (sym is) (spells-one s next l (λ g. omega arith, λ g. omega arith, λ g. omega arith)));

@@ -77,6 +77,7 @@ fn eight_at(s: &[u8], at: usize) -> Run
     }
 }
 
+// A power of ten, which the compiler looks up.
 fn power(n: usize) -> u64
     requires { ⌜ n ≤ 8 ⌝ }
     ensures { λ r. ⌜ r ≡ 10 ^ n ⌝ }
@@ -160,6 +161,7 @@ fn digits_at(s: &[u8], at: usize) -> Run
 
 // ---- one element by its value
 
+// The place of the first digit, behind a minus if the kind has a sign.
 fn after_minus(s: &[u8], at: usize, signed: bool) -> usize
     requires { ⌜ at + 1 ≤ length (now s) ⌝ }
     ensures { λ r. ⌜ AfterMinus signed (now (s .entry)) at r ⌝ }
@@ -275,6 +277,7 @@ enum Letter {
     Careful,
 }
 
+// A line's end or a tab, which stand for themselves too.
 fn line_end(s: &[u8], at: usize) -> Letter
     requires { ⌜ at + 1 ≤ length (now s) ⌝ }
     ensures { λ r. ⌜ LetterIs (now (s .entry)) at r ⌝ }
@@ -361,6 +364,7 @@ fn binary_of(t: u64) -> u64
     b - (b >> 32) * 4294967280
 }
 
+// The byte of the first n of eight letters that are bits.
 fn bit_byte(x: u64, n: usize) -> u8
     requires { ⌜ (1 ≤ n) × (n ≤ 8) ⌝ }
     ensures { λ r. ⌜ BitByte x n r ⌝ }
@@ -401,6 +405,7 @@ fn read_bits(s: &[u8], from: usize, row: &mut [u8], first: usize) -> Content
 
 // ---- words with one space between
 
+// Each word's integer in the bytes of its kind.
 fn read_integers(s: &[u8], from: usize, integer: Integer, row: &mut [u8], first: usize) -> Content
     requires { ⌜ (from ≤ length (now s)) × (first ≤ length (now row)) ⌝ }
     ensures { λ r. ⌜ MovesContent (InText (Whole (isSigned integer) (widthOf integer)) (now (s .entry)) from) (AsBinary (Whole (isSigned integer) (widthOf integer))) (now (row .entry)) first (now (row .exit)) r ⌝ }
@@ -439,6 +444,7 @@ fn truth_letter(c: u8) -> u8
     }
 }
 
+// Each letter's byte.
 fn read_truths(s: &[u8], from: usize, row: &mut [u8], first: usize) -> Content
     requires { ⌜ (from ≤ length (now s)) × (first ≤ length (now row)) ⌝ }
     ensures { λ r. ⌜ MovesContent (InText Truths (now (s .entry)) from) (AsBinary Truths) (now (row .entry)) first (now (row .exit)) r ⌝ }

@@ -44,16 +44,16 @@ eight c = omega (arith, c .before .before .eight-at .ensures .1)
 
 last-digits-requires : tie.Need-last-digits-requires
 last-digits-requires c κs =
-    let b = c .before in (
-      omega arith,
-      subst (λ (n : ℕ). high b * p b + low b < 10 ^ (8 + n)) (eight c)
-          (subst (λ (q : ℕ). high b * q + low b < 10 ^ (8 + count b)) (sym (b .power .ensures)) (joined-lt (high b) (low b) 8 (count b) (omega arith) (figures-lt (b .before .eight-at .ensures .0)))),
-    )
+    let b = c .before in
+    let joined : high b * 10 ^ count b + low b < 10 ^ (8 + count b) = joined-lt (high b) (low b) 8 (count b) (omega arith) (figures-lt (b .before .eight-at .ensures .0)) in
+    (omega arith, subst (λ (n : ℕ). high b * p b + low b < 10 ^ (8 + n)) (eight c) (subst (λ (q : ℕ). high b * q + low b < 10 ^ (8 + count b)) (sym (b .power .ensures)) joined))
 
 returns-2 : tie.Need-returns-2
 returns-2 c =
-    let b = c .before .before in
-    (behind-then (subst (λ (n : ℕ). FiguresBehind (high b) (now (b .before .before .before .args .s)) (b .before .before .before .args .at) n (high b * p b + low b)) (eight (c .before)) (behind b)) (c .last-digits .ensures .0), omega (arith, c .last-digits .ensures .1))
+    let b = c .before .before in let a = b .before .before .before .args in
+    let first : FiguresBehind (high b) (now (a .s)) (a .at) 8 (high b * p b + low b) =
+    subst (λ (n : ℕ). FiguresBehind (high b) (now (a .s)) (a .at) n (high b * p b + low b)) (eight (c .before)) (behind b) in
+    (behind-then first (c .last-digits .ensures .0), omega (arith, c .last-digits .ensures .1))
 
 pub more-digits-spec : {M : Type 1} → statement M
 more-digits-spec =

@@ -15,8 +15,9 @@ past k h d = omega arith
 returns-9 : tie.Need-returns-9
 returns-9 c =
     let n = c .match .rest in
-    let large : 8 ≤ c .before .args .n = past 7 (past 6 (past 5 (past 4 (past 3 (past 2 (past 1 (past 0 (zero-le) (n .0 .0 .0 .0 .0 .0 .0 .1)) (n .0 .0 .0 .0 .0 .0 .1)) (n .0 .0 .0 .0 .0 .1)) (n .0 .0 .0 .0 .1)) (n .0 .0 .0 .1)) (n .0 .0 .1)) (n .0 .1)) (n .1) in
-    of {m = 8} (omega (arith, large))
+    let four : 4 ≤ c .before .args .n = past 3 (past 2 (past 1 (past 0 zero-le (n .0 .0 .0 .0 .0 .0 .0 .1)) (n .0 .0 .0 .0 .0 .0 .1)) (n .0 .0 .0 .0 .0 .1)) (n .0 .0 .0 .0 .1) in
+    let eight : 8 ≤ c .before .args .n = past 7 (past 6 (past 5 (past 4 four (n .0 .0 .0 .1)) (n .0 .0 .1)) (n .0 .1)) (n .1) in
+    of {m = 8} (omega (arith, eight))
 
 pub power-spec : {M : Type 1} → statement M
 power-spec =

@@ -82,11 +82,11 @@ bit-byte-requires : tie.Need-bit-byte-requires Inv-loop μ-loop
 bit-byte-requires c κs = (omega arith, few (c .before))
 
 -- and their byte
-turned : (c : tie.After-bit-byte Inv-loop μ-loop) → let l = c .before .before .before .before .before .before .before .loop in let a = c .before .before .before .before .before .before .before .before .before .before .args in
-    BitsTo (now (a .s)) (a .from) (l .at + c .before .before .first-of .result) (now (a .row)) (a .first) (set (l .row) (l .o) (c .bit-byte .result)) (l .o + 1)
+turned : (c : tie.After-bit-byte Inv-loop μ-loop) → let f = c .before .before in let l = at-loop f .loop in let a = at-loop f .before .before .before .args in
+    BitsTo (now (a .s)) (a .from) (l .at + f .first-of .result) (now (a .row)) (a .first) (set (l .row) (l .o) (c .bit-byte .result)) (l .o + 1)
 turned c =
-    let f = c .before .before in
-    bits-more (c .before .before .before .before .before .before .before .loop .inv .0) (c .before .before .before .before .before .before .before .loop .inv .1) (bytes f) (inside f) (omega arith) (f .before .before .eight-bytes .ensures) (counted f) (c .before .if3 .left) (c .bit-byte .ensures)
+    let f = c .before .before in let r = at-loop f .loop .inv in
+    bits-more (r .0) (r .1) (bytes f) (inside f) (omega arith) (f .before .before .eight-bytes .ensures) (counted f) (c .before .if3 .left) (c .bit-byte .ensures)
 
 slice-write-row : tie.Need-slice-write-row Inv-loop μ-loop
 slice-write-row c = search needs
@@ -104,13 +104,16 @@ same-length-5 : tie.Need-same-length-5 Inv-loop μ-loop
 same-length-5 c = turned (c .before) .puts .long
 
 returns-5 : tie.Need-returns-5 Inv-loop μ-loop
-returns-5 c = bits-moved (turned (c .before)) (λ e. omega (arith, c .before .before .before .before .before .before .before .before .loop .inv .0 .spells .onward, e, c .before .before .if3 .left))
+returns-5 c =
+    let f = c .before .before .before in
+    bits-moved (turned (c .before)) (λ e. omega (arith, at-loop f .loop .inv .0 .spells .onward, e, c .before .before .if3 .left))
 
 loop-less : tie.Need-loop-less Inv-loop μ-loop
 loop-less c = omega (arith, inside (c .before .before .before))
 
 loop-again : tie.Need-loop-again Inv-loop μ-loop
-loop-again c = (turned (c .before), omega (arith, c .before .before .before .before .before .before .before .before .loop .inv .1, c .before .before .before .before .before .before .before .before .loop .inv .0 .spells .onward, few (c .before .before .before)))
+loop-again c =
+    let f = c .before .before .before in let r = at-loop f .loop .inv in (turned (c .before), omega (arith, r .1, r .0 .spells .onward, few f))
 
 pub read-bits-spec : {M : Type 1} → statement M
 read-bits-spec =

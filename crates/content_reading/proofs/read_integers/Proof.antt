@@ -16,6 +16,7 @@ use Rattle.moving.specs.Puts.{Puts}
 use Rattle.number.proofs.Laws.{size-le}
 use Rattle.number.specs.Contracts.{isSigned, size, widthOf}
 use Rattle.number.specs.Number.{pattern, toDigits}
+use Rattle.number.specs.declared.Integer.{Integer}
 use Rattle.table.specs.Shape.{Whole}
 use Rattle.table.specs.Wrote.{Wrote}
 use Rattle.tabledata.specs.TableData.{integerWord}
@@ -58,29 +59,36 @@ returns-3 : tie.Need-returns-3 Inv-loop μ-loop
 returns-3 c = puts-before (c .before .before .before .before .before .before .loop .inv .puts)
 
 write-integer-requires : tie.Need-write-integer-requires Inv-loop μ-loop
-write-integer-requires c κs = let p = c .before .before .before .before .before .before .before .loop .inv .puts in omega (arith, p .room, p .long, size-le (c .before .before .before .before .before .before .before .before .before .before .args .integer))
+write-integer-requires c κs =
+    let at-loop = c .before .before .before .before .before .before .before in
+    let p = at-loop .loop .inv .puts in omega (arith, p .room, p .long, size-le (at-loop .before .before .before .args .integer))
 
 -- the word, and its bytes
 module _ (c : tie.After-write-integer Inv-loop μ-loop) where
   abbrev at-loop : tie.At-loop Inv-loop μ-loop
   at-loop = c .before .before .before .before .before .before .before .before
 
-  found : let a = at-loop .before .before .before .args in InText (Whole (isSigned (a .integer)) (widthOf (a .integer))) (now (a .s)) (at-loop .loop .at) (c .before .before .before .before .before .z .given .0 .1 .0) (c .before .before .before .before .before .z .given .0 .0 ∷ [])
+  abbrev z : ℤ
+  z = c .before .before .before .before .before .z .given .0 .0
+
+  abbrev k : Integer
+  k = at-loop .before .before .before .args .integer
+
+  found : InText (Whole (isSigned k) (widthOf k)) (now (at-loop .before .before .before .args .s)) (at-loop .loop .at) (c .before .before .before .before .before .z .given .0 .1 .0) (z ∷ [])
   found = subst (FindsOne _) (c .before .before .before .before .before .z .given .1) (c .before .before .before .before .before .before .before .text-integer .ensures)
 
-  put : let a = at-loop .before .before .before .args in let z = c .before .before .before .before .before .z .given .0 .0 in
-      Puts (at-loop .loop .row) (at-loop .loop .o) (toDigits 256 (size (a .integer)) (number (Whole (isSigned (a .integer)) (widthOf (a .integer))) z)) (c .write-integer .last .0) (c .write-integer .result)
+  put : Puts (at-loop .loop .row) (at-loop .loop .o) (toDigits 256 (size k) (number (Whole (isSigned k) (widthOf k)) z)) (c .write-integer .last .0) (c .write-integer .result)
   put =
-      let a = at-loop .before .before .before .args in
-      let z = c .before .before .before .before .before .z .given .0 .0 in
-      let q = at-loop .loop .inv .puts in
+      let l = at-loop .loop in
       let e : toZ w64 (ofZ w64 z) ≡ z = search needs in
-      whole-puts (isSigned (a .integer)) (widthOf (a .integer)) z
-      (subst (λ (y : ℤ). Wrote (at-loop .loop .row) (at-loop .loop .o) (toDigits 256 (size (a .integer)) (pattern 8 y)) (c .write-integer .last .0) (c .write-integer .result)) e (c .write-integer .ensures))
-      (omega (arith, q .room, q .long))
+      whole-puts (isSigned k) (widthOf k) z
+      (subst (λ (y : ℤ). Wrote (l .row) (l .o) (toDigits 256 (size k) (pattern 8 y)) (c .write-integer .last .0) (c .write-integer .result)) e (c .write-integer .ensures))
+      (omega (arith, l .inv .puts .room, l .inv .puts .long))
 
 add-count : tie.Need-add-count Inv-loop μ-loop
-add-count c = let h = c .before .before .before .before .before .before .before .before .before .before .loop .inv .few in let k = c .before .before .before .before .before .before .before .before .before .before .loop .inv .spells .inside in search needs
+add-count c =
+    let r = c .before .before .before .before .before .before .before .before .before .before .loop .inv in
+    let h = r .few in let k = r .spells .inside in search needs
 
 shared-slice-read-if3 : tie.Need-shared-slice-read-if3 Inv-loop μ-loop
 shared-slice-read-if3 c = search needs
@@ -89,7 +97,10 @@ same-length-4 : tie.Need-same-length-4 Inv-loop μ-loop
 same-length-4 c = put (c .before .before .before .before) .long ∙ c .before .before .before .before .before .before .before .before .before .before .before .before .loop .inv .puts .long
 
 returns-4 : tie.Need-returns-4 Inv-loop μ-loop
-returns-4 c = let a = c .before .before .before .before .before .before .before .before .before .before .before .before .before .before .before .args in words-moved (whole-words _ _) (c .before .before .before .before .before .before .before .before .before .before .before .before .loop .inv) (found (c .before .before .before .before)) (put (c .before .before .before .before)) (whole-form (isSigned (a .integer)) (widthOf (a .integer)))
+returns-4 c =
+    let at-write = c .before .before .before .before in let at-loop = at-write .before .before .before .before .before .before .before .before in
+    let k = at-loop .before .before .before .args .integer in
+    words-moved (whole-words _ _) (at-loop .loop .inv) (found at-write) (put at-write) (whole-form (isSigned k) (widthOf k))
 
 add-at : tie.Need-add-at Inv-loop μ-loop
 add-at c = search needs
@@ -98,7 +109,9 @@ loop-less : tie.Need-loop-less Inv-loop μ-loop
 loop-less c = omega (arith, found (c .before .before .before .before) .spells .onward)
 
 loop-again : tie.Need-loop-again Inv-loop μ-loop
-loop-again c = words-more (whole-words _ _) (c .before .before .before .before .before .before .before .before .before .before .before .before .loop .inv) (found (c .before .before .before .before)) (put (c .before .before .before .before)) (omega arith) (c .if3 .left) (omega arith)
+loop-again c =
+    let at-write = c .before .before .before .before in
+    words-more (whole-words _ _) (at-write .before .before .before .before .before .before .before .before .loop .inv) (found at-write) (put at-write) (omega arith) (c .if3 .left) (omega arith)
 
 pub read-integers-spec : {M : Type 1} → statement M
 read-integers-spec =

@@ -67,7 +67,8 @@ module _ (c : tie.Else3 Inv-loop μ-loop) where
   found : InText Truths (now (at-loop .before .before .before .args .s)) (at-loop .loop .at) (at-loop .loop .at + 1) (pos (truthNumber letter) ∷ [])
   found = truth-in-text _ _ (omega (arith, at-loop .loop .inv .spells .inside)) (truth-some letter some)
 
-  put : Puts (at-loop .loop .row) (at-loop .loop .o) (toDigits 256 1 (number Truths (pos (truthNumber letter)))) (set (at-loop .loop .row) (at-loop .loop .o) (c .before .truth-letter .result)) (at-loop .loop .o + 1)
+  put : let l = at-loop .loop in
+      Puts (l .row) (l .o) (toDigits 256 1 (number Truths (pos (truthNumber letter)))) (set (l .row) (l .o) (c .before .truth-letter .result)) (l .o + 1)
   put = truth-puts letter some (at-loop .loop .row) (at-loop .loop .o) (c .before .truth-letter .result) (c .before .truth-letter .ensures) (omega arith)
 
 add-o : tie.Need-add-o Inv-loop μ-loop
@@ -99,7 +100,8 @@ loop-less c = omega (arith, c .before .before .before .before .before .before .b
 
 loop-again : tie.Need-loop-again Inv-loop μ-loop
 loop-again c =
-    words-more truth-words (c .before .before .before .before .before .before .before .loop .inv) (found (c .before .before)) (put (c .before .before)) (omega (arith, c .before .before .before .before .before .before .before .loop .inv .spells .inside)) (c .if4 .left) (omega arith)
+    let e = c .before .before in let r = at-loop e .loop .inv in
+    words-more truth-words r (found e) (put e) (omega (arith, r .spells .inside)) (c .if4 .left) (omega arith)
 
 pub read-truths-spec : {M : Type 1} → statement M
 read-truths-spec =

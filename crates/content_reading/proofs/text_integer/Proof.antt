@@ -33,8 +33,10 @@ returns-4 c =
     let k = a .integer in
     let first = c .before .before .before .before .before .after-minus in
     let run = c .before .before .before .before .digits-at in
-    let minus : AfterMinus (isSigned k) (now (a .s)) (a .at) (first .result) = subst (λ (g : Bool). AfterMinus g (now (a .s)) (a .at) (first .result)) (c .before .before .before .before .before .before .is-signed .ensures) (first .ensures) in
-    let value : toZ w64 (ofZ w64 (c .with-sign .result)) ≡ withSign (not (eqb (first .result) (a .at))) (run .result .number) = toZ-ofZ (record { sfits = c .with-sign .ok }) ∙ c .with-sign .ensures in
+    let minus : AfterMinus (isSigned k) (now (a .s)) (a .at) (first .result) =
+    subst (λ (g : Bool). AfterMinus g (now (a .s)) (a .at) (first .result)) (c .before .before .before .before .before .before .is-signed .ensures) (first .ensures) in
+    let value : toZ w64 (ofZ w64 (c .with-sign .result)) ≡ withSign (not (eqb (first .result) (a .at))) (run .result .number) =
+    toZ-ofZ (record { sfits = c .with-sign .ok }) ∙ c .with-sign .ensures in
     subst (λ (z : ℤ). InText (Whole (isSigned k) (widthOf k)) (now (a .s)) (a .at) (first .result + run .result .count) (z ∷ [])) (sym value)
     (integer-in-text k minus (run .ensures .0) (c .before .before .before .if2 .left) (run .ensures .1) (omega (arith, c .before .before .top-of .ensures)))
 
