@@ -1,21 +1,21 @@
 -- The characters of a char cell: runs of bytes that stand for themselves, references, and what they come to: each character is a byte of the content.
-use Prim.Native.Nat.{_%_, _+_, _-_, _<_, _^_, _≤_, suc, ℕ}
+use Prim.Native.Nat.{_+_, _-_, _<_, _≤_, suc, ℕ}
 use native.Mathlib.Nat.{le-refl, mod-eq-of-lt}
 use native.Mathlib.Omega.{arith}
-use mathlib.Core.Bool.{Bool, _&&_, cond, true}
+use mathlib.Core.Bool.{Bool, _&&_, true}
 use mathlib.Core.List.{List, [], _++_, _∷_, append-nil, map}
 use mathlib.Core.Path.{_∙_, _≡_, ap, ap₂, refl, subst, sym}
 use lib.Dec.{lit<, ltb}
 use borrow.Author.Tests.{ltb-true}
-use lib.IntN.{pos, ℤ}
+use lib.IntN.{pos}
 use lib.ListN.{drop, getD, length, length-drop, length-map, replicate, set, take, take-append-drop}
 use lib.Seq.{drop-drop, getD-drop, length-take-le, take-add, take-suc, take-take}
 use Rattle.binary.specs.Binary.{bytesOf, number}
 use Rattle.content_reading.proofs.Spelling.{before-none, before-cons, spells-none, spells-one, spells-then, spells-to}
 use Rattle.content_reading.specs.Letters.{PlainTo}
-use Rattle.eights.specs.Marks.{run}
+use Rattle.eights.specs.Marks.{FirstIs, Marks, run}
 use Rattle.moving.proofs.Puts.{puts-none, puts-then, puts-wrote}
-use Rattle.moving.specs.Contents.{AsBinary, ContentMoved, InText, Spells, before, contentForm}
+use Rattle.moving.specs.Contents.{AsBinary, ContentMoved, InText, Spells, contentForm}
 use Rattle.moving.specs.Puts.{Puts}
 use Rattle.number.proofs.Laws.{to-of}
 use Rattle.number.specs.Number.{ofDigits, pattern, toDigits}
@@ -46,6 +46,14 @@ run-ahead test s at r h e =
     let l : length (take 8 (drop at s)) ≡ 8 = length-take-le 8 (drop at s) (simp length-drop (omega arith)) in
     let few : r ≤ 8 = omega (arith, e, run-le test (take 8 (drop at s))) in
     (few, subst (All (λ (c : ℕ). test c ≡ true)) (ap (λ (n : ℕ). take n (take 8 (drop at s))) (sym e) ∙ take-take r 8 (drop at s) few) (run-all test (take 8 (drop at s))))
+
+-- how many there are, by the first mark
+pub run-marked : (test : ℕ → Bool) (s : List ℕ) (at : ℕ) {x m r : ℕ} → AreBytes s → at + 8 ≤ length s → x ≡ ofDigits 256 0 (take 8 (drop at s)) → Marks test x m → FirstIs m r
+    → r ≡ run test (take 8 (drop at s))
+run-marked test s at a h e marks first =
+    let p : List ℕ = take 8 (drop at s) in
+    let l : length p ≡ 8 = length-take-le 8 (drop at s) (simp length-drop (omega arith)) in
+    first .first test p l (marks .marked p l (all-take _ 8 (drop at s) (all-drop _ at s a)) e)
 
 pub plain-ahead : (s : List ℕ) (at r : ℕ) → at + 8 ≤ length s → r ≡ run isPlain (take 8 (drop at s)) → PlainTo s at (at + r) × (r ≤ 8)
 plain-ahead s at r h e =

@@ -1,23 +1,21 @@
 -- Digits, eight at once: those at the front of eight characters, and the number that they spell in another base. In a pair of digits of base 256 the
 -- upper one counts 256 - b times too much for base b; what is so for digits is so for pairs, and for fours.
-use Prim.Native.Nat.{_%_, _*_, _+_, _-_, _/_, _<_, _^_, _≤_, suc, zero, ℕ}
+use Prim.Native.Nat.{_*_, _+_, _-_, _/_, _<_, _^_, _≤_, suc, zero, ℕ}
 use native.Mathlib.Nat.{add-zero, zero-mul}
 use native.Mathlib.Omega.{arith}
-use mathlib.Core.Bool.{true}
 use mathlib.Core.List.{List, [], _++_, _∷_, map}
 use mathlib.Core.Path.{_∙_, _≡_, ap, ap₂, refl, sym}
 use lib.Arith.{digits-div}
 use lib.Bits.{and-block, and-mask, bitAnd, bitXor}
 use lib.Dec.{lit<}
 use lib.ListN.{drop, length, length-append, length-drop, length-map, length-replicate, replicate, take, take-append-drop}
-use lib.Seq.{length-take-le}
 use Rattle.binary.proofs.Digits.{take-map}
-use Rattle.content_reading.proofs.Lanes.{Bytewise, differing, eight, own}
+use Rattle.content_reading.proofs.Lanes.{differing, eight, own}
 use Rattle.eights.proofs.Lanes.{pow-bytes}
 use Rattle.number.proofs.Laws.{of-append, of-from, of-lt}
 use Rattle.number.specs.Number.{ofDigits}
 use Rattle.table.proofs.Laws.{all-append, all-drop, all-replicate}
-use Rattle.table.specs.All.{All, AreBytes}
+use Rattle.table.specs.All.{AreBytes}
 
 -- ---- the first of eight digits
 

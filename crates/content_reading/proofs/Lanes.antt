@@ -7,7 +7,7 @@ use lib.Bits.{and-lt, bitAnd, bitOr, bitXor, or-lt, xor-lt}
 use lib.Dec.{eqb, lit<, ltb}
 use lib.ListN.{length, replicate}
 use borrow.Author.Tests.{eqb-true, ltb-true}
-use Rattle.content_reading.specs.Figures.{isBit}
+use Rattle.content_reading.specs.Figures.{isBit, isDigit}
 use Rattle.eights.proofs.Lanes.{add-lanes, and-lanes, eight-of, map-agree, or-lanes, themselves, xor-lanes}
 use Rattle.eights.specs.Marks.{mark}
 use Rattle.number.specs.Number.{ofDigits}
@@ -76,3 +76,12 @@ module _ (ds : List ℕ) (l : length ds ≡ 8) (a : AreBytes ds) where
   bits-marked x e =
       let t = differing (own e) (eight 48 refl (lit< tt)) in
       marked isBit (both (either (sum (both t rest) (eight 126 refl (lit< tt)) refl) t) tops) refl
+
+  -- ---- which bytes are digits
+
+  pub digits-marked : (x : ℕ) → x ≡ ofDigits 256 0 ds
+      → bitAnd (bitOr (bitAnd (bitXor x 3472328296227680304) 9187201950435737471 + 8536140394893047414) (bitXor x 3472328296227680304)) 9259542123273814144 ≡ ofDigits 256 0 (map (mark isDigit) ds)
+  unfolding ofDigits mark isDigit between
+  digits-marked x e =
+      let t = differing (own e) (eight 48 refl (lit< tt)) in
+      marked isDigit (both (either (sum (both t rest) (eight 118 refl (lit< tt)) refl) t) tops) refl

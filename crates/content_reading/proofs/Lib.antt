@@ -4,3 +4,5 @@ pub mod Lanes
 pub mod Chars
 pub mod Figures
 pub mod Packing
+pub mod Words
+pub mod Digits

@@ -1,13 +1,13 @@
 -- The bits of a cell: characters that are bits, eight to a byte, the last filled with 0.
 use Prim.Native.Nat.{_%_, _*_, _+_, _-_, _/_, _<_, _^_, _≤_, suc, zero, ℕ}
-use native.Mathlib.Nat.{add-zero, mod-eq-of-lt, zero-add}
+use native.Mathlib.Nat.{add-zero, mod-eq-of-lt}
 use native.Mathlib.Omega.{arith}
 use mathlib.Core.Bool.{true}
 use mathlib.Core.List.{List, [], _++_, _∷_, append-assoc, append-nil, map}
 use mathlib.Core.Path.{_∙_, _≡_, ap, ap₂, refl, subst, sym}
 use lib.Bits.{bitXor}
 use lib.Dec.{eqb, lit<}
-use lib.IntN.{pos, ℤ}
+use lib.IntN.{pos}
 use lib.ListN.{drop, length, length-append, length-drop, length-map, length-replicate, replicate, set, take}
 use lib.Pow.{shl-exact, shl-lt}
 use lib.Seq.{drop-append-le, drop-at, drop-drop, length-take-le, take-all, take-append-le, take-take}
@@ -16,7 +16,7 @@ use Rattle.binary.proofs.Digits.{map-join}
 use Rattle.binary.specs.Binary.{bitBytes, bitOf, bytesOf, number, pack, packed}
 use Rattle.content_reading.proofs.Chars.{run-ahead}
 use Rattle.content_reading.proofs.Figures.{of-zeros}
-use Rattle.content_reading.proofs.Spelling.{spells-none, spells-run, spells-then}
+use Rattle.content_reading.proofs.Spelling.{Itself, spells-none, spells-run, spells-then}
 use Rattle.content_reading.specs.Figures.{BitByte, Leading, ReadIn, figures, isBit}
 use Rattle.eights.specs.Marks.{run}
 use Rattle.moving.proofs.Puts.{puts-as, puts-none, puts-then, puts-wrote}
@@ -27,7 +27,6 @@ use Rattle.number.specs.Number.{ofDigits}
 use Rattle.table.proofs.Laws.{all-append, all-drop, all-take, all-weaken, between-is, each-below, no-white}
 use Rattle.table.proofs.Words.{words-one}
 use Rattle.table.specs.All.{All, AreBytes}
-use Rattle.table.specs.Bytes.{between}
 use Rattle.table.specs.Result.{every, good}
 use Rattle.table.specs.Shape.{Bits}
 use Rattle.tabledata.specs.TableData.{bitLetter, bitWords, textElements}
@@ -80,6 +79,9 @@ bit-is : (c : ℕ) → isBit c ≡ true → (48 ≤ c) × (c ≤ 49)
 unfolding isBit
 bit-is c h = between-is 48 49 c h
 
+bit-itself : (c : ℕ) → isBit c ≡ true → Itself c
+bit-itself c h = let i = bit-is c h in (λ e. omega arith, λ e. omega arith, λ e. omega arith)
+
 bit-figure : (c : ℕ) → isBit c ≡ true → bitXor c 48 ≡ c - 48
 bit-figure c h = by c (bit-is c h .0) (bit-is c h .1)
   where
@@ -103,7 +105,7 @@ pub length-figures : (w : List ℕ) → length (figures w) ≡ length w
 unfolding figures
 length-figures w = length-map w (λ (c : ℕ). c - 48)
 
-figures-join : (w v : List ℕ) → figures (w ++ v) ≡ figures w ++ figures v
+pub figures-join : (w v : List ℕ) → figures (w ++ v) ≡ figures w ++ figures v
 unfolding figures
 figures-join w v = map-join (λ (c : ℕ). c - 48) w v
 
@@ -165,7 +167,7 @@ bits-more {s} {from} {at} {old} {first} {new} {o} {x} {n} {b} r whole are h room
     record {
       w = r .w ++ v;
       bits = all-append _ (r .w) v (r .bits) (ahead .1);
-      spells = spells-then (r .spells) (spells-run s at n (omega (arith, ahead .0)) (all-weaken _ _ v (λ c g. let i = bit-is c g in (λ f. omega arith, λ f. omega arith, λ f. omega arith)) (ahead .1)));
+      spells = spells-then (r .spells) (spells-run s at n (omega (arith, ahead .0)) (all-weaken _ _ v bit-itself (ahead .1)));
       puts = puts-as
           (ap (λ (y : ℕ). pack (figures (r .w)) ++ (y ∷ [])) is
           ∙ sym (ap pack (figures-join (r .w) v) ∙ pack-more (figures (r .w)) bs (omega (arith, length-figures (r .w), r .count)) (omega (arith, k)) (omega (arith, k, ahead .0))))

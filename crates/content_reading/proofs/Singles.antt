@@ -1,54 +1,25 @@
 -- One element by its value: its word spells itself, has no white space, and reads as the element.
-use Prim.Native.Nat.{_+_, _-_, _<_, _≤_, suc, ℕ}
-use native.Mathlib.Omega.{arith}
+use Prim.Native.Nat.{_+_, _-_, _<_, _≤_, ℕ}
 use mathlib.Core.Bool.{Bool, _||_, cond, false, true}
 use mathlib.Core.List.{List, [], _∷_}
-use mathlib.Core.Path.{_∙_, _≡_, ap, refl, sym}
+use mathlib.Core.Path.{_∙_, _≡_, ap, refl}
 use lib.Dec.{eqb, lit≤}
 use lib.IntN.{pos, ℤ}
-use lib.ListN.{drop, getD, length, length-drop, take}
-use lib.Seq.{length-take-le}
-use Rattle.content_reading.proofs.Spelling.{Itself, spells-one, spells-to}
+use lib.ListN.{getD, length}
+use Rattle.content_reading.proofs.Spelling.{Itself, spells-one}
 use Rattle.content_reading.specs.Letters.{truthNumber}
 use Rattle.moving.specs.Contents.{InText}
-use Rattle.number.specs.Contracts.{isSigned, size, widthOf}
-use Rattle.number.specs.declared.Integer.{Integer}
 use Rattle.table.proofs.Bytes.{white-no}
-use Rattle.table.proofs.Laws.{IsWord, all-weaken, cond-cases, no-white}
+use Rattle.table.proofs.Laws.{cond-cases}
 use Rattle.table.proofs.Words.{words-one}
 use Rattle.table.specs.Bytes.{isWhite}
-use Rattle.table.specs.Result.{Result, bad, every, good, refusedAs}
-use Rattle.table.specs.Shape.{Truths, Whole}
-use Rattle.tabledata.specs.TableData.{faultNumber, integerWord, textElements, truthLetter, truthWord}
-use Rattle.words.specs.Contracts.{IsPlain, QuickAt}
+use Rattle.table.specs.Result.{Result, bad, every, good}
+use Rattle.table.specs.Shape.{Truths}
+use Rattle.tabledata.specs.TableData.{textElements, truthLetter, truthWord}
 
-every-one : (f : List ℕ → Result ℕ ℤ) (w : List ℕ) (z : ℤ) → f w ≡ good z → every f (w ∷ []) ≡ good (z ∷ [])
+pub every-one : (f : List ℕ → Result ℕ ℤ) (w : List ℕ) (z : ℤ) → f w ≡ good z → every f (w ∷ []) ≡ good (z ∷ [])
 unfolding every
 every-one f w z e = rw e
-
--- ---- integers
-
--- the word that the quick way read
-module _ {k : Integer} {s : List ℕ} {at next : ℕ} {z : ℤ} (q : QuickAt k s at z next) where
-  pub quick-is-word : IsWord (take (next - at) (drop at s))
-  quick-is-word = (
-    omega (arith, length-take-le (next - at) (drop at s) (simp length-drop (omega (arith, q .later, q .within))), q .later),
-    all-weaken IsPlain _ (take (next - at) (drop at s)) (λ b h. no-white b (omega (arith, h .0))) (q .plain),
-  )
-
-  pub quick-reads : integerWord (isSigned k) (size k) (take (next - at) (drop at s)) ≡ good z
-  unfolding integerWord
-  quick-reads = ap (refusedAs faultNumber) (q .reads)
-
-  pub quick-in-text : InText (Whole (isSigned k) (widthOf k)) s at next (z ∷ [])
-  unfolding textElements
-  quick-in-text = record {
-    word = take (next - at) (drop at s);
-    spells =
-        spells-to s at next (omega (arith, q .later)) (q .within)
-        (all-weaken IsPlain Itself (take (next - at) (drop at s)) (λ b h. (λ e. omega (arith, h .1), λ e. omega (arith, h .0), λ e. omega (arith, h .0))) (q .plain));
-    elements = ap (every (integerWord (isSigned k) (size k))) (words-one (take (next - at) (drop at s)) quick-is-word) ∙ every-one _ _ z quick-reads;
-  }
 
 -- ---- truths
 

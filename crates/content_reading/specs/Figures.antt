@@ -1,10 +1,10 @@
 -- What the contracts of the functions on eight characters say: digits, and the number that they spell.
-use Prim.Native.Nat.{_-_, _≤_, ℕ}
+use Prim.Native.Nat.{_*_, _+_, _-_, _<_, _^_, _≤_, ℕ}
 use mathlib.Core.Bool.{Bool, true}
 use mathlib.Core.List.{List, _++_, map}
 use mathlib.Core.Path.{_≡_}
 use lib.Bits.{bitXor}
-use lib.ListN.{length, replicate, take}
+use lib.ListN.{drop, getD, length, replicate, take}
 use Rattle.number.specs.Number.{ofDigits}
 use Rattle.table.specs.All.{All, AreBytes}
 use Rattle.table.specs.Bytes.{between, byte}
@@ -12,6 +12,9 @@ use Rattle.table.specs.Bytes.{between, byte}
 -- "bit: `0` and `1` only"
 unfoldable pub isBit : ℕ → Bool
 isBit c = between (byte "0") (byte "1") c
+
+unfoldable pub isDigit : ℕ → Bool
+isDigit c = between (byte "0") (byte "9") c
 
 -- what digits stand for
 unfoldable pub figures : List ℕ → List ℕ
@@ -29,3 +32,21 @@ pub record ReadIn (base t r : ℕ) : Type 0 where
 pub record BitByte (x n r : ℕ) : Type 0 where
   pub padded : (p : List ℕ) → length p ≡ 8 → AreBytes p → x ≡ ofDigits 256 0 p → All (λ (c : ℕ). isBit c ≡ true) (take n p)
       → r ≡ ofDigits 2 0 (figures (take n p) ++ replicate (8 - n) 0)
+
+-- ---- a run of digits at a place: how many, and their number
+
+pub record FiguresAt (s : List ℕ) (place count number : ℕ) : Type 0 where
+  pub inside : place + count ≤ length s
+  pub digits : All (λ (c : ℕ). isDigit c ≡ true) (take count (drop place s))
+  pub number-is : number ≡ ofDigits 10 0 (figures (take count (drop place s)))
+
+-- with a number before it
+pub record FiguresBehind (high : ℕ) (s : List ℕ) (place count number : ℕ) : Type 0 where
+  pub low : ℕ
+  pub run : FiguresAt s place count low
+  pub number-is : number ≡ high * 10 ^ count + low
+
+-- the place after a minus, which only the signed kinds have
+pub data AfterMinus (signed : Bool) (s : List ℕ) (place : ℕ) : ℕ → Type 0 where
+  no-minus : AfterMinus signed s place place
+  a-minus : signed ≡ true → place < length s → getD s place 0 ≡ byte "-" → AfterMinus signed s place (place + 1)

@@ -4,26 +4,187 @@ use eights::copy_wide;
 use eights::first_of;
 use integers::eight_bytes;
 use integers::four_bytes;
+use integers::write_integer;
 use moving::Content;
 use moving::One;
 use number::Elements;
 use number::Integer;
 use number::elements_of;
 use table::Kind;
-use words::Quick;
-use words::quick_integer;
+use words::is_signed;
+use words::top_of;
 ghost use mathlib.Core.Path.{_≡_};
-ghost use Prim.Native.Nat.{_+_, _≤_};
+ghost use Prim.Native.Nat.{_+_, _<_, _^_, _≤_};
 ghost use lib.ListN.{length};
-ghost use Rattle.content_reading.specs.Figures.{BitByte, Leading, ReadIn, isBit};
-ghost use Rattle.content_reading.specs.Letters.{LetterIs, PlainTo, truthNumber};
+ghost use Rattle.content_reading.specs.Figures.{AfterMinus, BitByte, FiguresAt, FiguresBehind, Leading, ReadIn, isBit, isDigit};
+ghost use Rattle.content_reading.specs.Letters.{LetterIs, PlainTo, truthNumber, truthOf};
 ghost use Rattle.eights.specs.Marks.{Marks};
 ghost use Rattle.moving.specs.Contents.{AsBinary, FindsOne, InText, MovesContent};
 ghost use Rattle.number.specs.Contracts.{isSigned, widthOf};
+ghost use Rattle.number.specs.Number.{withSign};
 ghost use Rattle.table.specs.Shape.{Bits, Text, Truths, Whole, shape};
 ghost use Rattle.tabledata.specs.Contracts.{isPlain};
 
+// ---- digits, eight at once
+
+// The first n of eight characters, without what makes them characters.
+fn leading_figures(x: u64, n: usize) -> u64
+    requires { ⌜ (1 ≤ n) × (n ≤ 8) ⌝ }
+    ensures { λ r. ⌜ Leading x n r ⌝ }
+{
+    (x ^ 0x3030303030303030) >> (64 - 8 * n)
+}
+
+// The high bit of each byte that is no digit.
+fn no_digits(x: u64) -> u64
+    ensures { λ r. ⌜ Marks isDigit x r ⌝ }
+{
+    let t = x ^ 0x3030303030303030;
+    (((t & 0x7f7f7f7f7f7f7f7f) + 0x7676767676767676) | t) & 0x8080808080808080
+}
+
+// Pairs of digits, then fours, then all eight: what the upper half counts too much is taken off.
+fn decimal_of(t: u64) -> u64
+    ensures { λ r. ⌜ ReadIn 10 t r ⌝ }
+{
+    let a = t - ((t >> 8) & 0x00ff00ff00ff00ff) * 246;
+    let b = a - ((a >> 16) & 0x0000ffff0000ffff) * 65436;
+    b - (b >> 32) * 4294957296
+}
+
+// A run of digits: their number, and how many they are.
+struct Run {
+    pub number: u64,
+    pub count: usize,
+}
+
+// The digits at a place, at most eight.
+fn eight_at(s: &[u8], at: usize) -> Run
+    requires { ⌜ at + 8 ≤ length (now s) ⌝ }
+    ensures { λ r. ⌜ FiguresAt (now (s .entry)) at (r .count) (r .number) × (r .count ≤ 8) ⌝ }
+{
+    let x = eight_bytes(s, at);
+    let count = first_of(no_digits(x));
+    if count == 0 {
+        return Run {
+            number: 0,
+            count: 0,
+        };
+    }
+    Run {
+        number: decimal_of(leading_figures(x, count)),
+        count,
+    }
+}
+
+// A power of ten, which the compiler looks up.
+fn power(n: usize) -> u64
+    requires { ⌜ n ≤ 8 ⌝ }
+    ensures { λ r. ⌜ r ≡ 10 ^ n ⌝ }
+{
+    match n {
+        0 => 1,
+        1 => 10,
+        2 => 100,
+        3 => 1000,
+        4 => 10000,
+        5 => 100000,
+        6 => 1000000,
+        7 => 10000000,
+        _ => 100000000,
+    }
+}
+
+// At most three digits behind a number of sixteen. Where there are more, none is taken: what follows is then no end of a word.
+fn last_digits(s: &[u8], at: usize, high: u64) -> Run
+    requires { ⌜ (at + 8 ≤ length (now s)) × (high < 10 ^ 16) ⌝ }
+    ensures { λ r. ⌜ FiguresBehind high (now (s .entry)) at (r .count) (r .number) × (r .count ≤ 3) ⌝ }
+{
+    let run = eight_at(s, at);
+    let number = run.number;
+    let count = run.count;
+    if 3 < count {
+        return Run {
+            number: high,
+            count: 0,
+        };
+    }
+    Run {
+        number: high * power(count) + number,
+        count,
+    }
+}
+
+// The digits behind a number of eight, at most eleven.
+fn more_digits(s: &[u8], at: usize, high: u64) -> Run
+    requires { ⌜ (at + 16 ≤ length (now s)) × (high < 10 ^ 8) ⌝ }
+    ensures { λ r. ⌜ FiguresBehind high (now (s .entry)) at (r .count) (r .number) × (r .count ≤ 11) ⌝ }
+{
+    let run = eight_at(s, at);
+    let low = run.number;
+    let count = run.count;
+    let number = high * power(count) + low;
+    if count < 8 {
+        return Run { number, count };
+    }
+    let last = last_digits(s, at + 8, number);
+    let whole = last.number;
+    let more = last.count;
+    Run {
+        number: whole,
+        count: 8 + more,
+    }
+}
+
+// The digits at a place, at most nineteen.
+fn digits_at(s: &[u8], at: usize) -> Run
+    requires { ⌜ at + 24 ≤ length (now s) ⌝ }
+    ensures { λ r. ⌜ FiguresAt (now (s .entry)) at (r .count) (r .number) × (r .count ≤ 19) ⌝ }
+{
+    let run = eight_at(s, at);
+    let high = run.number;
+    let count = run.count;
+    if count < 8 {
+        return Run {
+            number: high,
+            count,
+        };
+    }
+    let behind = more_digits(s, at + 8, high);
+    let number = behind.number;
+    let more = behind.count;
+    Run {
+        number,
+        count: 8 + more,
+    }
+}
+
 // ---- one element by its value
+
+// The place of the first digit, behind a minus if the kind has a sign.
+fn after_minus(s: &[u8], at: usize, signed: bool) -> usize
+    requires { ⌜ at + 1 ≤ length (now s) ⌝ }
+    ensures { λ r. ⌜ AfterMinus signed (now (s .entry)) at r ⌝ }
+{
+    if !signed {
+        return at;
+    }
+    if s[at] == b'-' {
+        return at + 1;
+    }
+    at
+}
+
+// The compiler makes the two ways one.
+fn with_sign(minus: bool, number: u64) -> i64
+    requires { ⌜ number < 2 ^ 63 ⌝ }
+    ensures { λ r. ⌜ r ≡ withSign minus number ⌝ }
+{
+    if minus {
+        return 0 - (number as i64);
+    }
+    number as i64
+}
 
 // A word of digits, with a minus before it or not; the byte after it is the caller's to look at.
 pub fn text_integer(s: &[u8], at: usize, integer: Integer) -> One
@@ -33,10 +194,17 @@ pub fn text_integer(s: &[u8], at: usize, integer: Integer) -> One
     if s.len() - at < 32 {
         return One::Careful;
     }
-    match quick_integer(s, at, integer) {
-        Quick::Value(z, next) => One::Element(z, next),
-        Quick::Careful => One::Careful,
+    let first = after_minus(s, at, is_signed(integer));
+    let run = digits_at(s, first);
+    let number = run.number;
+    let count = run.count;
+    if count == 0 {
+        return One::Careful;
     }
+    if top_of(integer) < number {
+        return One::Careful;
+    }
+    One::Element(with_sign(first != at, number), first + count)
 }
 
 // 1 for true, 0 for false, 2 for unknown, 3 for none: constants by keys, which the compiler makes one load.
@@ -109,6 +277,7 @@ enum Letter {
     Careful,
 }
 
+// A line's end or a tab, which stand for themselves too.
 fn line_end(s: &[u8], at: usize) -> Letter
     requires { ⌜ at + 1 ≤ length (now s) ⌝ }
     ensures { λ r. ⌜ LetterIs (now (s .entry)) at r ⌝ }
@@ -176,16 +345,6 @@ fn read_text(s: &[u8], from: usize, row: &mut [u8], first: usize) -> Content
     }
 }
 
-// ---- digits, eight at once
-
-// The first n of eight characters, without what makes them characters.
-fn leading_figures(x: u64, n: usize) -> u64
-    requires { ⌜ (1 ≤ n) × (n ≤ 8) ⌝ }
-    ensures { λ r. ⌜ Leading x n r ⌝ }
-{
-    (x ^ 0x3030303030303030) >> (64 - 8 * n)
-}
-
 // ---- bits
 
 // The high bit of each byte that is no bit's letter.
@@ -205,6 +364,7 @@ fn binary_of(t: u64) -> u64
     b - (b >> 32) * 4294967280
 }
 
+// The byte of the first n of eight letters that are bits.
 fn bit_byte(x: u64, n: usize) -> u8
     requires { ⌜ (1 ≤ n) × (n ≤ 8) ⌝ }
     ensures { λ r. ⌜ BitByte x n r ⌝ }
@@ -243,6 +403,76 @@ fn read_bits(s: &[u8], from: usize, row: &mut [u8], first: usize) -> Content
     }
 }
 
+// ---- words with one space between
+
+// Each word's integer in the bytes of its kind.
+fn read_integers(s: &[u8], from: usize, integer: Integer, row: &mut [u8], first: usize) -> Content
+    requires { ⌜ (from ≤ length (now s)) × (first ≤ length (now row)) ⌝ }
+    ensures { λ r. ⌜ MovesContent (InText (Whole (isSigned integer) (widthOf integer)) (now (s .entry)) from) (AsBinary (Whole (isSigned integer) (widthOf integer))) (now (row .entry)) first (now (row .exit)) r ⌝ }
+{
+    let mut at = from;
+    let mut o = first;
+    let mut count: usize = 0;
+    loop {
+        let One::Element(z, next) = text_integer(s, at, integer) else {
+            return Content::Careful;
+        };
+        if s.len() <= next {
+            return Content::Careful;
+        }
+        if row.len() - o < 8 {
+            return Content::Careful;
+        }
+        o = write_integer(row, o, integer, z);
+        count += 1;
+        if s[next] != b' ' {
+            return Content::Elements(count, next, o);
+        }
+        at = next + 1;
+    }
+}
+
+// A boolean's byte for its letter, 0 for no letter: constants by keys, which the compiler makes one load.
+fn truth_letter(c: u8) -> u8
+    ensures { λ r. ⌜ r ≡ truthOf c ⌝ }
+{
+    match c {
+        b'T' | b't' | b'1' => b'T',
+        b'F' | b'f' | b'0' => b'F',
+        b'?' => b'?',
+        _ => 0,
+    }
+}
+
+// Each letter's byte.
+fn read_truths(s: &[u8], from: usize, row: &mut [u8], first: usize) -> Content
+    requires { ⌜ (from ≤ length (now s)) × (first ≤ length (now row)) ⌝ }
+    ensures { λ r. ⌜ MovesContent (InText Truths (now (s .entry)) from) (AsBinary Truths) (now (row .entry)) first (now (row .exit)) r ⌝ }
+{
+    let mut at = from;
+    let mut o = first;
+    let mut count: usize = 0;
+    loop {
+        if s.len() - at < 2 {
+            return Content::Careful;
+        }
+        if row.len() <= o {
+            return Content::Careful;
+        }
+        let b = truth_letter(s[at]);
+        if b == 0 {
+            return Content::Careful;
+        }
+        row[o] = b;
+        o += 1;
+        count += 1;
+        if s[at + 1] != b' ' {
+            return Content::Elements(count, at + 1, o);
+        }
+        at += 2;
+    }
+}
+
 // ---- the elements of a cell
 
 // The elements of a kind from a place on, up to what ends them: the end tag, or what is for the careful way.
@@ -251,9 +481,9 @@ pub fn read_content(kind: Kind, s: &[u8], at: usize, row: &mut [u8], o: usize) -
     ensures { λ r. ⌜ MovesContent (InText (shape kind) (now (s .entry)) at) (AsBinary (shape kind)) (now (row .entry)) o (now (row .exit)) r ⌝ }
 {
     match elements_of(kind) {
-        Elements::Truths => Content::Careful,
+        Elements::Truths => read_truths(s, at, row, o),
         Elements::Bits => read_bits(s, at, row, o),
-        Elements::Whole(_) => Content::Careful,
+        Elements::Whole(integer) => read_integers(s, at, integer, row, o),
         Elements::Text => read_text(s, at, row, o),
     }
 }

@@ -132,7 +132,7 @@ module _ (s : List ℕ) (place number next : ℕ) (at-most : place ≤ length s)
   }
 
 -- after a minus
-minus-in : (k : Integer) (n : ℕ) → isSigned k ≡ true → n ≤ top k → inRange (isSigned k) (size k) (withSign true n) ≡ true
+pub minus-in : (k : Integer) (n : ℕ) → isSigned k ≡ true → n ≤ top k → inRange (isSigned k) (size k) (withSign true n) ≡ true
 unfolding withSign
 minus-in k zero g h = up-in k 0 zero-le
 minus-in k (suc n) g h = down-in k n g (omega arith)

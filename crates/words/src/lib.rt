@@ -11,7 +11,7 @@ use number::Integer;
 
 // ---- kinds
 
-fn is_signed(kind: Integer) -> bool
+pub fn is_signed(kind: Integer) -> bool
     ensures { λ r. ⌜ r ≡ isSigned kind ⌝ }
 {
     match kind {
@@ -23,7 +23,7 @@ fn is_signed(kind: Integer) -> bool
 }
 
 // The largest integer of a kind.
-fn top_of(kind: Integer) -> u64
+pub fn top_of(kind: Integer) -> u64
     ensures { λ r. ⌜ r ≡ top kind ⌝ }
 {
     match kind {

@@ -1,7 +1,7 @@
 -- `content_reading::no_plain` meets its contract: byte by byte, and of a byte by computation.
 use native.Mathlib.Omega.{arith}
 use Prim.Native.Nat.{_<_, _^_}
-use lib.Bits.{and-le-r, bitAnd, bitXor, xor-lt}
+use lib.Bits.{and-le-r, bitAnd, xor-lt}
 use lib.Dec.{lit<}
 use Rattle.content_reading.proofs.Lanes.{plain-marked}
 use Rattle.content_reading.proofs.no_plain.Statement.{statement}

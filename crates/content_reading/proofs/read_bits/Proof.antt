@@ -4,15 +4,13 @@ use native.Mathlib.Omega.{arith}
 use mathlib.Core.List.{List}
 use mathlib.Core.Path.{_≡_}
 use denote.Ref.{now}
-use lib.ListN.{drop, length, length-drop, set, take}
-use lib.Seq.{length-take-le}
-use Rattle.content_reading.proofs.Chars.{run-ahead}
+use lib.ListN.{drop, length, set, take}
+use Rattle.content_reading.proofs.Chars.{run-ahead, run-marked}
 use Rattle.content_reading.proofs.Packing.{BitsTo, bits-more, bits-moved, bits-start}
 use Rattle.content_reading.specs.Figures.{isBit}
 use Rattle.eights.proofs.Fronts.{are-bytes}
 use Rattle.eights.specs.Marks.{run}
 use Rattle.moving.proofs.Puts.{puts-before}
-use Rattle.table.proofs.Laws.{all-drop, all-take}
 use Rattle.table.specs.All.{AreBytes}
 use borrow.Author.Needs.{needs}
 use Rattle.content_reading.proofs.read_bits.Statement.{statement}
@@ -75,10 +73,7 @@ module _ (c : tie.After-first-of Inv-loop μ-loop) where
   inside = omega (arith, at-loop .loop .inv .0 .spells .inside)
 
   counted : c .first-of .result ≡ run isBit (take 8 (drop (at-loop .loop .at) s))
-  counted =
-      let p : List ℕ = take 8 (drop (at-loop .loop .at) s) in
-      let l : length p ≡ 8 = length-take-le 8 (drop (at-loop .loop .at) s) (simp length-drop (omega (arith, inside))) in
-      c .first-of .ensures .first isBit p l (c .before .no-bits .ensures .marked p l (all-take _ 8 (drop (at-loop .loop .at) s) (all-drop _ (at-loop .loop .at) s bytes)) (c .before .before .eight-bytes .ensures))
+  counted = run-marked isBit s (at-loop .loop .at) bytes inside (c .before .before .eight-bytes .ensures) (c .before .no-bits .ensures) (c .first-of .ensures)
 
   few : c .first-of .result ≤ 8
   few = run-ahead isBit s (at-loop .loop .at) (c .first-of .result) inside counted .0
@@ -87,11 +82,11 @@ bit-byte-requires : tie.Need-bit-byte-requires Inv-loop μ-loop
 bit-byte-requires c κs = (omega arith, few (c .before))
 
 -- and their byte
-turned : (c : tie.After-bit-byte Inv-loop μ-loop) → let l = c .before .before .before .before .before .before .before .loop in let a = c .before .before .before .before .before .before .before .before .before .before .args in
-    BitsTo (now (a .s)) (a .from) (l .at + c .before .before .first-of .result) (now (a .row)) (a .first) (set (l .row) (l .o) (c .bit-byte .result)) (l .o + 1)
+turned : (c : tie.After-bit-byte Inv-loop μ-loop) → let f = c .before .before in let l = at-loop f .loop in let a = at-loop f .before .before .before .args in
+    BitsTo (now (a .s)) (a .from) (l .at + f .first-of .result) (now (a .row)) (a .first) (set (l .row) (l .o) (c .bit-byte .result)) (l .o + 1)
 turned c =
-    let f = c .before .before in
-    bits-more (c .before .before .before .before .before .before .before .loop .inv .0) (c .before .before .before .before .before .before .before .loop .inv .1) (bytes f) (inside f) (omega arith) (f .before .before .eight-bytes .ensures) (counted f) (c .before .if3 .left) (c .bit-byte .ensures)
+    let f = c .before .before in let r = at-loop f .loop .inv in
+    bits-more (r .0) (r .1) (bytes f) (inside f) (omega arith) (f .before .before .eight-bytes .ensures) (counted f) (c .before .if3 .left) (c .bit-byte .ensures)
 
 slice-write-row : tie.Need-slice-write-row Inv-loop μ-loop
 slice-write-row c = search needs
@@ -109,13 +104,16 @@ same-length-5 : tie.Need-same-length-5 Inv-loop μ-loop
 same-length-5 c = turned (c .before) .puts .long
 
 returns-5 : tie.Need-returns-5 Inv-loop μ-loop
-returns-5 c = bits-moved (turned (c .before)) (λ e. omega (arith, c .before .before .before .before .before .before .before .before .loop .inv .0 .spells .onward, e, c .before .before .if3 .left))
+returns-5 c =
+    let f = c .before .before .before in
+    bits-moved (turned (c .before)) (λ e. omega (arith, at-loop f .loop .inv .0 .spells .onward, e, c .before .before .if3 .left))
 
 loop-less : tie.Need-loop-less Inv-loop μ-loop
 loop-less c = omega (arith, inside (c .before .before .before))
 
 loop-again : tie.Need-loop-again Inv-loop μ-loop
-loop-again c = (turned (c .before), omega (arith, c .before .before .before .before .before .before .before .before .loop .inv .1, c .before .before .before .before .before .before .before .before .loop .inv .0 .spells .onward, few (c .before .before .before)))
+loop-again c =
+    let f = c .before .before .before in let r = at-loop f .loop .inv in (turned (c .before), omega (arith, r .1, r .0 .spells .onward, few f))
 
 pub read-bits-spec : {M : Type 1} → statement M
 read-bits-spec =

@@ -87,8 +87,9 @@ returns-5 : tie.Need-returns-5 Inv-loop μ-loop
 returns-5 c = puts-before (copied (c .before .before .before .before .before .before .before) .puts)
 
 -- the character behind it
-letter : (c : tie.After-known-told Inv-loop μ-loop) → let at-letter = c .before .before .before in
-    LetterIs (now (at-letter .before .before .before .before .before .before .before .before .before .before .before .before .before .args .s)) (at-letter .before .before .before .before .before .before .before .before .before .plain-end .result) (Letter.Is (c .before .c .given .0 .0) (c .before .c .given .0 .1 .0))
+letter : (c : tie.After-known-told Inv-loop μ-loop) → let at-copy = c .before .before .before .before .before .before .before .before in
+    let at-plain = at-copy .before .before .before .before in
+    LetterIs (now (at-plain .before .before .before .before .args .s)) (at-plain .plain-end .result) (Letter.Is (c .before .c .given .0 .0) (c .before .c .given .0 .1 .0))
 letter c = subst (LetterIs _ _) (c .before .c .given .1) (c .before .before .before .letter-at .ensures)
 
 -- has room
@@ -105,10 +106,12 @@ add-o : tie.Need-add-o Inv-loop μ-loop
 add-o c = let h = copied (c .before .before .before .before .before .before .before .before) .puts .room in search needs
 
 loop-less : tie.Need-loop-less Inv-loop μ-loop
-loop-less c = let l = letter c in let p = c .before .before .before .before .before .before .before .before .before .before .before .before .plain-end .ensures in omega (arith, p .low, l .2, l .0 .inside)
+loop-less c =
+    let l = letter c in let p = c .before .before .before .before .before .before .before .before .before .before .before .before .plain-end .ensures in
+    omega (arith, p .low, l .2, l .0 .inside)
 
 loop-again : tie.Need-loop-again Inv-loop μ-loop
-loop-again c = text-letter (copied (c .before .before .before .before .before .before .before .before)) (letter c) (room (c .before .before .before .before .before .before .before .before))
+loop-again c = let at-copy = c .before .before .before .before .before .before .before .before in text-letter (copied at-copy) (letter c) (room at-copy)
 
 pub read-text-spec : {M : Type 1} → statement M
 read-text-spec =
