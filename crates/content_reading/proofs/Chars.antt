@@ -138,7 +138,7 @@ low-letter s at c h e k l =
 
 -- ---- what is read so far
 
-abbrev IsText : List ℕ → Type 0
+abbrev pub IsText : List ℕ → Type 0
 IsText w = All (λ (c : ℕ). isText c ≡ true) w
 
 pub record TextTo (s : List ℕ) (from at : ℕ) (old : List ℕ) (first : ℕ) (new : List ℕ) (o : ℕ) : Type 0 where
@@ -171,7 +171,7 @@ module _ {s : List ℕ} {from at : ℕ} {old : List ℕ} {first : ℕ} {new : Li
 
 -- ---- what it comes to
 
-all-text : (w : List ℕ) → IsText w → allText w ≡ true
+pub all-text : (w : List ℕ) → IsText w → allText w ≡ true
 unfolding allText
 all-text [] h = refl
 all-text (c ∷ w) h = rw (h .0, all-text w (h .1))

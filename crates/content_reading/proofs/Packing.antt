@@ -73,10 +73,10 @@ pack-more l v whole some few =
 
 -- ---- the byte of some bits
 
-abbrev IsBits : List ℕ → Type 0
+abbrev pub IsBits : List ℕ → Type 0
 IsBits w = All (λ (c : ℕ). isBit c ≡ true) w
 
-bit-is : (c : ℕ) → isBit c ≡ true → (48 ≤ c) × (c ≤ 49)
+pub bit-is : (c : ℕ) → isBit c ≡ true → (48 ≤ c) × (c ≤ 49)
 unfolding isBit
 bit-is c h = between-is 48 49 c h
 
@@ -94,7 +94,7 @@ unfolding figures
 bit-figures [] a = refl
 bit-figures (c ∷ w) a = ap₂ (λ (b : ℕ) (t : List ℕ). b ∷ t) (bit-figure c (a .0)) (bit-figures w (a .1))
 
-figures-bits : (w : List ℕ) → IsBits w → All (λ (b : ℕ). b < 2) (figures w)
+pub figures-bits : (w : List ℕ) → IsBits w → All (λ (b : ℕ). b < 2) (figures w)
 unfolding figures
 figures-bits [] a = tt
 figures-bits (c ∷ w) a = (omega (arith, bit-is c (a .0)), figures-bits w (a .1))
@@ -175,7 +175,7 @@ bits-more {s} {from} {at} {old} {first} {new} {o} {x} {n} {b} r whole are h room
 
 -- ---- what it comes to
 
-every-bit : (w : List ℕ) → IsBits w → every bitLetter w ≡ good (map pos (figures w))
+pub every-bit : (w : List ℕ) → IsBits w → every bitLetter w ≡ good (map pos (figures w))
 unfolding every bitLetter figures isBit
 every-bit [] a = refl
 every-bit (c ∷ w) a = rw (a .0, every-bit w (a .1))
