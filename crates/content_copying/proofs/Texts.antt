@@ -11,7 +11,7 @@ use borrow.Author.Tests.{eqb-false, not-true}
 use Rattle.binary.proofs.Digits.{map-join}
 use Rattle.content_copying.proofs.Runs.{pass-long}
 use Rattle.content_copying.specs.Passing.{PassTo}
-use Rattle.content_reading.proofs.Chars.{IsText, all-text}
+use Rattle.content_reading.proofs.Chars.{all-text}
 use Rattle.content_reading.proofs.Spelling.{Itself, spells-none, spells-one, spells-then, spells-to}
 use Rattle.content_showing.proofs.Text.{Formed, itself-formed, reference-formed}
 use Rattle.content_showing.specs.Showing.{isItself, reference}

@@ -138,7 +138,7 @@ low-letter s at c h e k l =
 
 -- ---- what is read so far
 
-abbrev pub IsText : List ℕ → Type 0
+abbrev IsText : List ℕ → Type 0
 IsText w = All (λ (c : ℕ). isText c ≡ true) w
 
 pub record TextTo (s : List ℕ) (from at : ℕ) (old : List ℕ) (first : ℕ) (new : List ℕ) (o : ℕ) : Type 0 where

@@ -73,7 +73,7 @@ pack-more l v whole some few =
 
 -- ---- the byte of some bits
 
-abbrev pub IsBits : List ℕ → Type 0
+abbrev IsBits : List ℕ → Type 0
 IsBits w = All (λ (c : ℕ). isBit c ≡ true) w
 
 pub bit-is : (c : ℕ) → isBit c ≡ true → (48 ≤ c) × (c ≤ 49)
@@ -94,7 +94,7 @@ unfolding figures
 bit-figures [] a = refl
 bit-figures (c ∷ w) a = ap₂ (λ (b : ℕ) (t : List ℕ). b ∷ t) (bit-figure c (a .0)) (bit-figures w (a .1))
 
-pub figures-bits : (w : List ℕ) → IsBits w → All (λ (b : ℕ). b < 2) (figures w)
+figures-bits : (w : List ℕ) → IsBits w → All (λ (b : ℕ). b < 2) (figures w)
 unfolding figures
 figures-bits [] a = tt
 figures-bits (c ∷ w) a = (omega (arith, bit-is c (a .0)), figures-bits w (a .1))

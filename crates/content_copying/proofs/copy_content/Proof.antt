@@ -1,7 +1,5 @@
 -- `content_copying::copy_content` meets its contract: by what the elements of the kind are.
-use native.Mathlib.Omega.{arith}
 use mathlib.Core.Path.{_≡_}
-use Rattle.moving.proofs.Puts.{puts-none}
 use Rattle.number.proofs.Laws.{shape-of}
 use Rattle.number.specs.Contracts.{shapeAs}
 use Rattle.number.specs.declared.Elements.{Elements}
@@ -14,18 +12,24 @@ kind-is : (c : tie.After-elements-of) {e : Elements} → c .elements-of .result 
 kind-is c told = shape-of (c .elements-of .ensures) told
 
 returns : tie.Need-returns
-returns c = puts-none _ _ (omega arith)
+returns c =
+    let at-told = c .before .before .before .before in
+    rw (kind-is (at-told .before .before) (at-told .enum-told .given .1)) (c .before .before .copy-truths .ensures)
 
 returns-2 : tie.Need-returns-2
-returns-2 c = puts-none _ _ (omega arith)
+returns-2 c =
+    let at-told = c .before .before .before .before in
+    rw (kind-is (at-told .before .before) (at-told .enum-told2 .given .1)) (c .before .before .copy-bits .ensures)
 
 returns-3 : tie.Need-returns-3
-returns-3 c = puts-none _ _ (omega arith)
+returns-3 c =
+    let at-known = c .before .before .before .before .before in
+    rw (kind-is (at-known .before .before) (at-known .integer .given .1)) (c .before .before .copy-integers .ensures)
 
 returns-4 : tie.Need-returns-4
 returns-4 c =
     let at-told = c .before .before .before .before in
-    rw (kind-is (at-told .before .before) (at-told .enum-told4 .given .1)) (c .before .before .copy-text .ensures)
+    rw (kind-is (at-told .before .before) (at-told .enum-told3 .given .1)) (c .before .before .copy-text .ensures)
 
 pub copy-content-spec : {M : Type 1} → statement M
 copy-content-spec =
@@ -33,12 +37,18 @@ copy-content-spec =
     (tie.spec
     (λ c κs. search needs)
     (λ c. search needs)
-    (λ c. search needs)
-    (λ c. search needs)
+    (λ c κs. search needs)
     (λ c. search needs)
     (λ c κs. search needs)
+    (λ c. search needs)
+    (λ c κs. search needs)
+    (λ c. search needs)
+    (λ c κs. search needs)
+    (λ c. search needs)
     returns
+    (λ c. search needs)
     returns-2
+    (λ c. search needs)
     returns-3
     (λ c. search needs)
     returns-4)

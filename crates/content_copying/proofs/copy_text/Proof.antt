@@ -1,7 +1,7 @@
 -- `content_copying::copy_text` meets its contract: before each turn the characters passed over stand in the buffer as they are written.
-use Prim.Native.Nat.{_+_, _-_, _<_, _≤_, ℕ}
+use Prim.Native.Nat.{_+_, _-_, _≤_}
 use native.Mathlib.Omega.{arith}
-use mathlib.Core.Path.{_∙_, _≡_, subst}
+use mathlib.Core.Path.{_∙_, subst}
 use denote.Ref.{now}
 use lib.ListN.{length}
 use Rattle.content_copying.proofs.Runs.{pass-copied}
@@ -61,7 +61,8 @@ module _ (c : tie.After-copy-wide Inv-loop μ-loop) where
   at-end = c .before .before .before .before
 
   copied : let l = at-end .before in let a = l .before .before .before .args in
-      TextTo (now (a .s)) (a .from) (at-end .itself-end .result) (now (a .row)) (a .first) (c .copy-wide .last .1 .1 .1 .0) (c .copy-wide .result) (l .loop .count + (at-end .itself-end .result - l .loop .at))
+      TextTo (now (a .s)) (a .from) (at-end .itself-end .result) (now (a .row)) (a .first) (c .copy-wide .last .1 .1 .1 .0) (c .copy-wide .result)
+      (l .loop .count + (at-end .itself-end .result - l .loop .at))
   copied = text-run (at-end .before .loop .inv) (at-end .itself-end .ensures) (c .copy-wide .ensures)
 
   -- with room for a reference
@@ -103,7 +104,8 @@ module _ (c : tie.After-put-reference Inv-loop μ-loop) where
   abbrev at-copied : tie.After-copy-wide Inv-loop μ-loop
   at-copied = c .before .before .before .before .before .before .before .before .before .before
 
-  letter : LetterIs (now (at-end at-copied .before .before .before .before .args .s)) (at-end at-copied .itself-end .result) (Letter.Is (c .before .before .before .c .given .0 .0) (c .before .before .before .c .given .0 .1 .0))
+  letter : LetterIs (now (at-end at-copied .before .before .before .before .args .s)) (at-end at-copied .itself-end .result)
+      (Letter.Is (c .before .before .before .c .given .0 .0) (c .before .before .before .c .given .0 .1 .0))
   letter = subst (LetterIs _ _) (c .before .before .before .c .given .1) (c .before .before .before .before .before .other-letter .ensures)
 
 same-length-6 : tie.Need-same-length-6 Inv-loop μ-loop

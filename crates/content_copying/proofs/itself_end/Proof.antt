@@ -26,7 +26,8 @@ text-ahead-requires : tie.Need-text-ahead-requires Inv-loop μ-loop
 text-ahead-requires c κs = omega (arith, c .before .loop .inv .high)
 
 -- eight more, or up to what is not
-more : (c : tie.After-text-ahead Inv-loop μ-loop) → let l = c .before .before in PassTo isItself (now (l .before .before .args .s)) (l .before .before .args .from) (l .loop .at + c .text-ahead .result)
+more : (c : tie.After-text-ahead Inv-loop μ-loop) → let l = c .before .before in
+    PassTo isItself (now (l .before .before .args .s)) (l .before .before .args .from) (l .loop .at + c .text-ahead .result)
 more c = pass-more (c .before .before .loop .inv) _ (omega (arith, c .before .before .loop .inv .high)) (c .text-ahead .ensures) .0
 
 add-at : tie.Need-add-at Inv-loop μ-loop
