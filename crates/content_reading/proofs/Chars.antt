@@ -179,7 +179,7 @@ module _ {s : List ℕ} {from at : ℕ} {old : List ℕ} {first : ℕ} {new : Li
 
 -- ---- what it comes to
 
-all-text : (w : List ℕ) → IsText w → allText w ≡ true
+pub all-text : (w : List ℕ) → IsText w → allText w ≡ true
 unfolding allText
 all-text [] h = refl
 all-text (c ∷ w) h = rw (h .0, all-text w (h .1))

@@ -75,7 +75,7 @@ pack-more l v whole some few =
 abbrev IsBits : List ℕ → Type 0
 IsBits w = All (λ (c : ℕ). isBit c ≡ true) w
 
-bit-is : (c : ℕ) → isBit c ≡ true → (48 ≤ c) × (c ≤ 49)
+pub bit-is : (c : ℕ) → isBit c ≡ true → (48 ≤ c) × (c ≤ 49)
 unfolding isBit
 bit-is c h = between-is 48 49 c h
 
@@ -177,7 +177,7 @@ bits-more {s} {from} {at} {old} {first} {new} {o} {x} {n} {b} r whole are h room
 
 -- ---- what it comes to
 
-every-bit : (w : List ℕ) → IsBits w → every bitLetter w ≡ good (map pos (figures w))
+pub every-bit : (w : List ℕ) → IsBits w → every bitLetter w ≡ good (map pos (figures w))
 unfolding every bitLetter figures isBit
 every-bit [] a = refl
 every-bit (c ∷ w) a = rw (a .0, every-bit w (a .1))

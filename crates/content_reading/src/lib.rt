@@ -272,7 +272,7 @@ fn plain_end(s: &[u8], from: usize) -> usize
 }
 
 // A character and the place after it; or it is for the careful way.
-enum Letter {
+pub enum Letter {
     Is(u8, usize),
     Careful,
 }
@@ -293,7 +293,7 @@ fn line_end(s: &[u8], at: usize) -> Letter
 }
 
 // The references that are written, and what else stands for itself.
-fn letter_at(s: &[u8], at: usize) -> Letter
+pub fn letter_at(s: &[u8], at: usize) -> Letter
     requires { ⌜ at + 8 ≤ length (now s) ⌝ }
     ensures { λ r. ⌜ LetterIs (now (s .entry)) at r ⌝ }
 {
@@ -348,7 +348,7 @@ fn read_text(s: &[u8], from: usize, row: &mut [u8], first: usize) -> Content
 // ---- bits
 
 // The high bit of each byte that is no bit's letter.
-fn no_bits(x: u64) -> u64
+pub fn no_bits(x: u64) -> u64
     ensures { λ r. ⌜ Marks isBit x r ⌝ }
 {
     let t = x ^ 0x3030303030303030;

@@ -73,7 +73,7 @@ either : {P : Type 0} (a b : Bool) → (not a || b) ≡ true → a ≡ true → 
 either true b h e f = f h
 either false b h e f = absurd (false≢true e)
 
-itself-formed : (c : ℕ) → isItself c ≡ true → Formed c (c ∷ [])
+pub itself-formed : (c : ℕ) → isItself c ≡ true → Formed c (c ∷ [])
 unfolding isItself isText escaped between same
 itself-formed c e =
     let u = and-both (between 32 127 c && not (eqb c 38) && not (eqb c 60)) _ e in

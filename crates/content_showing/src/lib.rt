@@ -127,7 +127,7 @@ fn no_text(x: u64) -> u64
 }
 
 // How many of the next eight bytes are written as themselves, up to the first that is not.
-fn text_ahead(s: &[u8], at: usize) -> usize
+pub fn text_ahead(s: &[u8], at: usize) -> usize
     requires { ⌜ at + 8 ≤ length (now s) ⌝ }
     ensures { λ r. ⌜ r ≡ run isItself (take 8 (drop at (now (s .entry)))) ⌝ }
 {
@@ -179,7 +179,7 @@ fn reference_size(b: u8) -> usize
         + ((b == 10) as usize)
 }
 
-fn put_reference(b: u8, row: &mut [u8], o: usize) -> usize
+pub fn put_reference(b: u8, row: &mut [u8], o: usize) -> usize
     requires { ⌜ o + 8 ≤ length (now row) ⌝ }
     ensures { λ r. ⌜ Puts (now (row .entry)) o (reference b) (now (row .exit)) r ⌝ }
 {
@@ -219,7 +219,7 @@ fn show_text(n: usize, s: &[u8], at: usize, row: &mut [u8], o: usize) -> Content
 // ---- integers, "one space between"
 
 // An integer and a space behind it.
-fn put_word(z: i64, row: &mut [u8], o: usize) -> usize
+pub fn put_word(z: i64, row: &mut [u8], o: usize) -> usize
     requires { ⌜ o + 33 ≤ length (now row) ⌝ }
     ensures { λ r. ⌜ Puts (now (row .entry)) o (shortest z ++ (32 ∷ [])) (now (row .exit)) r ⌝ }
 {

@@ -1,0 +1,61 @@
+-- `content_copying::itself_end` meets its contract: the bytes passed over are read and written as themselves, eight more at a turn.
+use Prim.Native.Nat.{_+_, _-_}
+use native.Mathlib.Omega.{arith}
+use denote.Ref.{now}
+use lib.ListN.{length}
+use Rattle.content_copying.proofs.Runs.{pass-more, pass-none}
+use Rattle.content_copying.specs.Passing.{PassTo}
+use Rattle.content_showing.specs.Showing.{isItself}
+use borrow.Author.Needs.{needs}
+use Rattle.content_copying.proofs.itself_end.Statement.{statement}
+use Rattle.content_copying.proofs.itself_end.Tie as tie
+
+abbrev Inv-loop : tie.InvT-loop
+Inv-loop s from at₀ at = PassTo isItself s from at
+
+abbrev μ-loop : tie.MeasureT-loop
+μ-loop s from at₀ at = length s - at
+
+loop-holds : tie.Need-loop-holds Inv-loop μ-loop
+loop-holds c = pass-none isItself _ _ (omega arith)
+
+sub-loop : tie.Need-sub-loop Inv-loop μ-loop
+sub-loop c = c .loop .inv .high
+
+text-ahead-requires : tie.Need-text-ahead-requires Inv-loop μ-loop
+text-ahead-requires c κs = omega (arith, c .before .loop .inv .high)
+
+-- eight more, or up to what is not
+more : (c : tie.After-text-ahead Inv-loop μ-loop) → let l = c .before .before in
+    PassTo isItself (now (l .before .before .args .s)) (l .before .before .args .from) (l .loop .at + c .text-ahead .result)
+more c = pass-more (c .before .before .loop .inv) _ (omega (arith, c .before .before .loop .inv .high)) (c .text-ahead .ensures) .0
+
+add-at : tie.Need-add-at Inv-loop μ-loop
+add-at c = let h = more c .high in search needs
+
+returns : tie.Need-returns Inv-loop μ-loop
+returns c = more (c .before)
+
+loop-less : tie.Need-loop-less Inv-loop μ-loop
+loop-less c = omega (arith, more (c .before) .high)
+
+loop-again : tie.Need-loop-again Inv-loop μ-loop
+loop-again c = more (c .before)
+
+returns-2 : tie.Need-returns-2 Inv-loop μ-loop
+returns-2 c = c .before .loop .inv
+
+pub itself-end-spec : {M : Type 1} → statement M
+itself-end-spec =
+    tie.close
+    (tie.spec
+    Inv-loop
+    μ-loop
+    loop-holds
+    sub-loop
+    text-ahead-requires
+    add-at
+    returns
+    loop-less
+    loop-again
+    returns-2)
