@@ -50,7 +50,7 @@ fn count_up_to(s: &[u8], at: usize, most: usize) -> Count
     Count::Elements(n, at + 4)
 }
 
-fn read_count(s: &[u8], at: usize, len: Len) -> Count
+pub fn read_count(s: &[u8], at: usize, len: Len) -> Count
     requires { ⌜ at ≤ length (now s) ⌝ }
     ensures { λ r. ⌜ Counts (countIn len (drop at (now (s .entry)))) (now (s .entry)) at (bound len) r ⌝ }
 {

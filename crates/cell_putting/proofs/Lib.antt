@@ -1,2 +1,3 @@
 pub mod Stores
 pub mod Cells
+pub mod Elements

@@ -3,14 +3,16 @@ use Prim.Native.Nat.{_≤_, ℕ}
 use mathlib.Core.Bool.{Bool}
 use mathlib.Core.List.{List, []}
 use mathlib.Core.Path.{_≡_}
+use lib.IntN.{ℤ}
 use lib.ListN.{drop, length}
 use Rattle.moving.specs.Puts.{Puts}
 use Rattle.moving.specs.declared.Moved.{Moved}
 use Rattle.rows.specs.Stream.{readCell, writeCell}
-use Rattle.table.specs.Cell.{Cell, isNull}
+use Rattle.table.specs.Cell.{Cell, emptyIsNull, isNull, show}
 use Rattle.table.specs.Result.{good}
 use Rattle.table.specs.declared.Column.{Column}
 use Rattle.table.specs.declared.Rows.{Rows}
+use Rattle.table.specs.declared.Rows.the-variants.{Binary, Binary2, TableData}
 
 -- it reads at its place, and its bytes as the other kind has them stand in the buffer
 pub record CellMoved (from to : Rows) (c : Column) (flagged : Bool) (s : List ℕ) (place : ℕ) (old : List ℕ) (o : ℕ) (new : List ℕ) (next e : ℕ) (null : Bool) : Type 0 where
@@ -39,3 +41,21 @@ pub record CellPut (to : Rows) (c : Column) (x : Cell) (next : ℕ) (old : List 
 abbrev pub PutsCell : Rows → Column → Cell → ℕ → List ℕ → ℕ → List ℕ → Moved → Type 0
 PutsCell to c x next old o new (Moved.Cell next′ e null′) = CellPut to c x next old o new next′ e null′
 PutsCell to c x next old o new Moved.Careful = Puts old o [] new o
+
+-- ---- elements that were read
+
+-- what elements that stand in a cell show, by the kind of rows: "In TABLEDATA and BINARY an empty cell is null"
+unfoldable pub shownAs : Rows → Column → List ℤ → Cell
+shownAs TableData c es = emptyIsNull (show c es)
+shownAs Binary c es = emptyIsNull (show c es)
+shownAs Binary2 c es = show c es
+
+-- elements, where Reads says which stand up to a place of the input, and what they show put as it is written
+pub record ReadMoved (Reads : ℕ → List ℤ → Type 0) (from to : Rows) (c : Column) (old : List ℕ) (o : ℕ) (new : List ℕ) (next e : ℕ) (null : Bool) : Type 0 where
+  pub es : List ℤ
+  pub reads : Reads next es
+  pub put : CellPut to c (shownAs from c es) next old o new next e null
+
+abbrev pub MovesRead : (ℕ → List ℤ → Type 0) → Rows → Rows → Column → List ℕ → ℕ → List ℕ → Moved → Type 0
+MovesRead Reads from to c old o new (Moved.Cell next e null) = ReadMoved Reads from to c old o new next e null
+MovesRead Reads from to c old o new Moved.Careful = Puts old o [] new o
