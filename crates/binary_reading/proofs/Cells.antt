@@ -39,7 +39,7 @@ unfolding numbers ofDigits
 numbers-bytes [] = refl
 numbers-bytes (b ∷ s) = ap₂ (λ (x : ℕ) (xs : List ℕ). x ∷ xs) (let e : 0 * 256 + b ≡ b = omega arith in e) (numbers-bytes s)
 
-none-in : (k : Shape) (s : List ℕ) → length s ≡ contentBytes k 0 → content k 0 s ≡ good []
+pub none-in : (k : Shape) (s : List ℕ) → length s ≡ contentBytes k 0 → content k 0 s ≡ good []
 unfolding allZero beforeNul bitBytes bitsOf content contentBytes every numbers numbersIn unpack
 none-in Truths s h = refl
 none-in Bits [] h = refl

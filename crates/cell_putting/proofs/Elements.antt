@@ -1,29 +1,26 @@
 -- What elements show, and what that is written as: cited by everything that moves elements.
-use Prim.Native.Nat.{_+_, _≤_, ℕ}
+use Prim.Native.Nat.{_≤_, ℕ}
 use native.Mathlib.Omega.{arith}
 use mathlib.Core.Bool.{Bool, _&&_, false, true}
 use mathlib.Core.List.{List, [], _∷_}
-use mathlib.Core.Path.{_∙_, _≡_, ap, refl, subst, sym}
+use mathlib.Core.Path.{_≡_, refl, subst, sym}
 use lib.IntN.{ℤ}
 use lib.ListN.{length}
 use Rattle.binary.specs.Binary.{elementsBytes, writeBinary, writeBinary2}
 use Rattle.cell_putting.specs.Contracts.{PutsElements}
-use Rattle.moving.specs.Cells.{CellPut, MovesRead, PutsCell, shownAs}
+use Rattle.moving.specs.Cells.{MovesRead, NeverNull, PutsCell, shownAs}
 use Rattle.moving.specs.Puts.{Puts}
 use Rattle.moving.specs.declared.Moved.{Moved}
 use Rattle.rows.specs.Stream.{writeCell}
-use Rattle.table.specs.Cell.{Cell, emptyIsNull, isNull, isNullList, isScalar, null, show, shown, standsForNull}
-use Rattle.table.specs.Result.{_>>=_, good}
-use Rattle.table.specs.Shape.{Bits, Shape, Text, shape}
+use Rattle.table.specs.Cell.{emptyIsNull, isNull, isNullList, isScalar, show, shown, standsForNull}
+use Rattle.table.specs.Result.{good}
+use Rattle.table.specs.Shape.{Bits, Text, shape}
 use Rattle.table.specs.declared.Column.{Column}
 use Rattle.table.specs.declared.Rows.{Rows}
 use Rattle.table.specs.declared.Rows.the-variants.{Binary, Binary2, TableData}
 use Rattle.tabledata.specs.TableData.{elementText, tagged, writeText}
 
 -- ---- which columns have no element that stands for null
-
-abbrev pub NeverNull : Column → Type 0
-NeverNull c = (es : List ℤ) → isNullList (standsForNull c) es ≡ false
 
 none-stands : (c : Column) → ((e : ℤ) → standsForNull c e ≡ false) → NeverNull c
 unfolding isNullList

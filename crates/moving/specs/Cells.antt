@@ -1,6 +1,6 @@
 -- A cell moved from the input into a row's buffer.
 use Prim.Native.Nat.{_≤_, ℕ}
-use mathlib.Core.Bool.{Bool}
+use mathlib.Core.Bool.{Bool, false}
 use mathlib.Core.List.{List, []}
 use mathlib.Core.Path.{_≡_}
 use lib.IntN.{ℤ}
@@ -8,7 +8,7 @@ use lib.ListN.{drop, length}
 use Rattle.moving.specs.Puts.{Puts}
 use Rattle.moving.specs.declared.Moved.{Moved}
 use Rattle.rows.specs.Stream.{readCell, writeCell}
-use Rattle.table.specs.Cell.{Cell, emptyIsNull, isNull, show}
+use Rattle.table.specs.Cell.{Cell, emptyIsNull, isNull, isNullList, show, standsForNull}
 use Rattle.table.specs.Result.{good}
 use Rattle.table.specs.declared.Column.{Column}
 use Rattle.table.specs.declared.Rows.{Rows}
@@ -49,6 +49,10 @@ unfoldable pub shownAs : Rows → Column → List ℤ → Cell
 shownAs TableData c es = emptyIsNull (show c es)
 shownAs Binary c es = emptyIsNull (show c es)
 shownAs Binary2 c es = show c es
+
+-- no element of the column stands for null
+abbrev pub NeverNull : Column → Type 0
+NeverNull c = (es : List ℤ) → isNullList (standsForNull c) es ≡ false
 
 -- elements, where Reads says which stand up to a place of the input, and what they show put as it is written
 pub record ReadMoved (Reads : ℕ → List ℤ → Type 0) (from to : Rows) (c : Column) (old : List ℕ) (o : ℕ) (new : List ℕ) (next e : ℕ) (null : Bool) : Type 0 where
