@@ -317,7 +317,9 @@ fn show_whole(integer: Integer, n: usize, s: &[u8], at: usize, row: &mut [u8], o
 {
     match integer {
         Integer::UnsignedByte => show_bytes(n, s, at, row, o),
-        Integer::Short | Integer::Int | Integer::Long => show_integers(integer, n, s, at, row, o),
+        Integer::Short => show_integers(Integer::Short, n, s, at, row, o),
+        Integer::Int => show_integers(Integer::Int, n, s, at, row, o),
+        Integer::Long => show_integers(Integer::Long, n, s, at, row, o),
     }
 }
 

@@ -28,7 +28,8 @@ put-eight-digits-requires c κs =
     let p = c .before .before .before .before .before .before .before .put-short .ensures in
     let q = c .before .before .before .put-middle .ensures in
     let s = c .before .before .before .before .before .before .before .before .before .before .before in
-    (omega arith, omega (arith, p .next-is, p .long, short-long _ (small (c .before .before .before .before .before .before .before .before .before)), q .next-is, q .long, middle-long (s .args .v), s .pre .1))
+    let few = short-long _ (small (c .before .before .before .before .before .before .before .before .before)) in
+    (omega arith, omega (arith, p .next-is, p .long, few, q .next-is, q .long, middle-long (s .args .v), s .pre .1))
 
 returns : tie.Need-returns
 returns c =
@@ -36,7 +37,9 @@ returns c =
     let v : ℕ = s .args .v in
     let first = c .before .before .before .before .before .before .before .before .before .before .before .before .first-part in
     puts-as (ap (λ (x : ℕ). digits 20 x ++ middlePart v ++ numerals 8 (v % 100000000)) (first .ensures) ∙ sym (long-parts v (s .pre .0) (omega arith)))
-    (puts-then (puts-then (c .before .before .before .before .before .before .before .before .before .before .put-short .ensures) (c .before .before .before .before .before .before .put-middle .ensures)) (c .before .before .put-eight-digits .ensures))
+    (puts-then
+    (puts-then (c .before .before .before .before .before .before .before .before .before .before .put-short .ensures) (c .before .before .before .before .before .before .put-middle .ensures))
+    (c .before .before .put-eight-digits .ensures))
 
 pub put-long-spec : {M : Type 1} → statement M
 put-long-spec =
