@@ -3,7 +3,7 @@ use Prim.Native.Nat.{_%_, _*_, _+_, _-_, _/_, _<_, _^_, _≤_, suc, zero, ℕ}
 use native.Mathlib.Nat.{div-eq-of-lt, div-lt-iff-lt-mul, le-div-iff-mul-le, mod-eq-of-lt, mod-lt, mul-le-mul-right, one-le-pow, pow-succ', zero-div, zero-mod}
 use native.Mathlib.Omega.{arith}
 use mathlib.Core.Bool.{Bool, false, true}
-use mathlib.Core.List.{List, [], _++_, _∷_, map}
+use mathlib.Core.List.{List, [], _++_, _∷_, append-nil, map}
 use mathlib.Core.Path.{_∙_, _≡_, ap, ap₂, refl, subst, sym}
 use lib.Bits.{bitOr, or-add-and, or-lt, and-le-l, and-le-r}
 use lib.Count.{leading-top, leadingZeros}
@@ -12,9 +12,9 @@ use lib.IntN.{natAbs, negsuc, pos, ℤ}
 use lib.ListN.{length}
 use lib.Pow.{pow-mono, shl-shr}
 use lib.Signed.{mag}
-use borrow.Author.Tests.{ltb-false, ltb-true}
+use borrow.Author.Tests.{le-ltb, lt-ltb, ltb-false, ltb-true}
 use Rattle.binary.proofs.Digits.{map-join}
-use Rattle.content_showing.specs.Showing.{sign}
+use Rattle.content_showing.specs.Showing.{firstPart, middlePart, sign}
 use Rattle.decimals.proofs.Numerals.{digits-numerals, length-numerals}
 use Rattle.decimals.specs.Contracts.{numerals}
 use Rattle.eights.proofs.Lanes.{pow-bytes}
@@ -202,17 +202,46 @@ short-put {l} {l₁} {o} {r} v t z h e q w room =
 
 -- ---- a long number: its upper digits, then eight
 
-pub long-digits : (v : ℕ) → 100000000 ≤ v → v < 10 ^ 20 → digits 20 v ≡ digits 20 (v / 100000000) ++ numerals 8 (v % 100000000)
+long-digits : (v : ℕ) → 100000000 ≤ v → v < 10 ^ 20 → digits 20 v ≡ digits 20 (v / 100000000) ++ numerals 8 (v % 100000000)
 long-digits v l h =
     let n : length (digits 20 v) ≡ length (digits 20 (v / 100000000)) + 8 = omega (arith, count-above 8 v l h) in
     digits-numerals 20 v ∙ ap (λ (k : ℕ). numerals k v) n
     ∙ numerals-join (length (digits 20 (v / 100000000))) 8 v
     ∙ ap₂ (λ (a b : List ℕ). a ++ b) (sym (digits-numerals 20 (v / 100000000))) (sym (numerals-low 8 v))
 
-pub longer-digits : (v : ℕ) → 10000000000000000 ≤ v → v < 10 ^ 20
+longer-digits : (v : ℕ) → 10000000000000000 ≤ v → v < 10 ^ 20
     → digits 20 v ≡ digits 20 (v / 100000000 / 100000000) ++ numerals 8 (v / 100000000 % 100000000) ++ numerals 8 (v % 100000000)
 longer-digits v l h =
     long-digits v (omega arith) h ∙ ap (λ (a : List ℕ). a ++ numerals 8 (v % 100000000)) (long-digits (v / 100000000) (omega arith) (omega arith))
+
+pub long-parts : (v : ℕ) → 100000000 ≤ v → v < 10 ^ 20 → digits 20 v ≡ digits 20 (firstPart v) ++ middlePart v ++ numerals 8 (v % 100000000)
+unfolding firstPart middlePart
+long-parts v l h =
+    lt-or v 10000000000000000
+    (λ k. rw (lt-ltb v 10000000000000000 k, append-nil (digits 20 (v / 100000000))) (long-digits v l h))
+    (λ k. let e : v / 100000000 / 100000000 ≡ v / 10000000000000000 = omega arith in rw (le-ltb v 10000000000000000 k, ← e) (longer-digits v k h))
+
+pub first-small : (v : ℕ) → v < 18446744073709551616 → firstPart v < 100000000
+unfolding firstPart
+first-small v h =
+    lt-or v 10000000000000000 (λ k. rw (lt-ltb v 10000000000000000 k) (omega arith)) (λ k. rw (le-ltb v 10000000000000000 k) (omega arith))
+
+pub middle-none : (v : ℕ) → v < 10000000000000000 → middlePart v ≡ []
+unfolding middlePart
+middle-none v k = rw (lt-ltb v 10000000000000000 k)
+
+pub middle-some : (v : ℕ) → 10000000000000000 ≤ v → middlePart v ≡ numerals 8 (v / 100000000 % 100000000)
+unfolding middlePart
+middle-some v k = rw (le-ltb v 10000000000000000 k)
+
+pub middle-long : (v : ℕ) → length (middlePart v) ≤ 8
+middle-long v =
+    lt-or v 10000000000000000 (λ k. omega (arith, ap length (middle-none v k)))
+    (λ k. omega (arith, ap length (middle-some v k), length-numerals 8 (v / 100000000 % 100000000)))
+
+pub first-is : (v : ℕ) → (v < 10000000000000000 → v / 100000000 ≡ firstPart v) × (10000000000000000 ≤ v → v / 10000000000000000 ≡ firstPart v)
+unfolding firstPart
+first-is v = ((λ k. rw (lt-ltb v 10000000000000000 k)), (λ k. rw (le-ltb v 10000000000000000 k)))
 
 -- what is put takes no more than its room
 pub short-long : (v : ℕ) → v < 100000000 → length (digits 20 v) ≤ 8

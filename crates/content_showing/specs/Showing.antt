@@ -1,12 +1,13 @@
 -- What the contracts speak of beside the definitions: the parts of what is put.
 use mathlib.Core.List.{List, [], _++_, _∷_, map}
-use Prim.Native.Nat.{_+_, _-_, ℕ}
+use Prim.Native.Nat.{_%_, _+_, _-_, _/_, ℕ}
 use lib.ListN.{length, replicate}
 use lib.IntN.{negsuc, pos, ℤ}
 use mathlib.Core.Bool.{Bool, _&&_, _||_, cond, not}
 use mathlib.Core.Path.{_≡_}
-use lib.Dec.{eqb}
+use lib.Dec.{eqb, ltb}
 use Rattle.binary.specs.Binary.{bitsOf}
+use Rattle.decimals.specs.Contracts.{numerals}
 use Rattle.moving.specs.Puts.{Puts}
 use Rattle.number.specs.Number.{shortest}
 use Rattle.table.specs.All.{All}
@@ -16,6 +17,13 @@ use Rattle.table.specs.Bytes.{between, byte, bytes}
 unfoldable pub sign : ℤ → List ℕ
 sign (pos n) = []
 sign (negsuc n) = byte "-" ∷ []
+
+-- a number from 100,000,000 on in parts of eight digits: the first, of as many as are left, and the one between it and the last, where there is one
+unfoldable pub firstPart : ℕ → ℕ
+firstPart v = cond (ltb v 10000000000000000) (v / 100000000) (v / 10000000000000000)
+
+unfoldable pub middlePart : ℕ → List ℕ
+middlePart v = cond (ltb v 10000000000000000) [] (numerals 8 (v / 100000000 % 100000000))
 
 -- ---- characters
 

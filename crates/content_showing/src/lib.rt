@@ -14,7 +14,7 @@ use number::integer_bytes;
 use table::Kind;
 ghost use Prim.Native.Nat.{_*_, _+_, _-_, _<_, _≤_};
 ghost use Rattle.binary.specs.Binary.{allZero, bitBytes, bitsOf, contentBytes};
-ghost use Rattle.content_showing.specs.Showing.{TruthsPut, bitLetters, byteWord, filled, isItself, reference, sign, truthShown};
+ghost use Rattle.content_showing.specs.Showing.{TruthsPut, bitLetters, byteWord, filled, firstPart, isItself, middlePart, reference, sign, truthShown};
 ghost use Rattle.decimals.specs.Contracts.{numerals};
 ghost use Rattle.eights.specs.Marks.{Marks, run};
 ghost use Rattle.moving.specs.Contents.{AsText, InBinary, MovesContent};
@@ -50,17 +50,33 @@ fn put_eight_digits(v: u64, row: &mut [u8], o: usize) -> usize
     put_eight(row, o, eight_digits(v) + 0x3030303030303030)
 }
 
+// The digits of a long number above its last eight or sixteen.
+fn first_part(v: u64) -> u64
+    ensures { λ r. ⌜ r ≡ firstPart v ⌝ }
+{
+    if v < 10000000000000000 {
+        return v / 100000000;
+    }
+    v / 10000000000000000
+}
+
+fn put_middle(v: u64, row: &mut [u8], o: usize) -> usize
+    requires { ⌜ o + 8 ≤ length (now row) ⌝ }
+    ensures { λ r. ⌜ Puts (now (row .entry)) o (middlePart v) (now (row .exit)) r ⌝ }
+{
+    if v < 10000000000000000 {
+        return o;
+    }
+    put_eight_digits(v / 100000000 % 100000000, row, o)
+}
+
+// Between two stores of eight bytes stands a branch: the compiler makes one instruction of the first such store in a run of code, and of that alone.
 fn put_long(v: u64, row: &mut [u8], o: usize) -> usize
     requires { ⌜ (100000000 ≤ v) × (o + 24 ≤ length (now row)) ⌝ }
     ensures { λ r. ⌜ Puts (now (row .entry)) o (digits 20 v) (now (row .exit)) r ⌝ }
 {
-    let high = v / 100000000;
-    if high < 100000000 {
-        let next = put_short(high, row, o);
-        return put_eight_digits(v % 100000000, row, next);
-    }
-    let next = put_short(high / 100000000, row, o);
-    let after = put_eight_digits(high % 100000000, row, next);
+    let next = put_short(first_part(v), row, o);
+    let after = put_middle(v, row, next);
     put_eight_digits(v % 100000000, row, after)
 }
 
@@ -301,7 +317,9 @@ fn show_whole(integer: Integer, n: usize, s: &[u8], at: usize, row: &mut [u8], o
 {
     match integer {
         Integer::UnsignedByte => show_bytes(n, s, at, row, o),
-        Integer::Short | Integer::Int | Integer::Long => show_integers(integer, n, s, at, row, o),
+        Integer::Short => show_integers(Integer::Short, n, s, at, row, o),
+        Integer::Int => show_integers(Integer::Int, n, s, at, row, o),
+        Integer::Long => show_integers(Integer::Long, n, s, at, row, o),
     }
 }
 
