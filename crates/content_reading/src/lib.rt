@@ -15,13 +15,15 @@ use words::is_signed;
 use words::top_of;
 ghost use mathlib.Core.Path.{_≡_};
 ghost use Prim.Native.Nat.{_+_, _<_, _^_, _≤_};
+ghost use lib.IntN.{pos};
 ghost use lib.ListN.{length};
 ghost use Rattle.content_reading.specs.Figures.{AfterMinus, BitByte, FiguresAt, FiguresBehind, Leading, ReadIn, isBit, isDigit};
-ghost use Rattle.content_reading.specs.Letters.{LetterIs, PlainTo, truthNumber, truthOf};
+ghost use Rattle.content_reading.specs.Letters.{LetterIs, PlainTo, truthNumber};
 ghost use Rattle.eights.specs.Marks.{Marks};
 ghost use Rattle.moving.specs.Contents.{AsBinary, FindsOne, InText, MovesContent};
 ghost use Rattle.number.specs.Contracts.{isSigned, widthOf};
 ghost use Rattle.number.specs.Number.{withSign};
+ghost use Rattle.table.specs.Cell.{truthByte};
 ghost use Rattle.table.specs.Shape.{Bits, Text, Truths, Whole, shape};
 ghost use Rattle.tabledata.specs.Contracts.{isPlain};
 
@@ -207,16 +209,14 @@ pub fn text_integer(s: &[u8], at: usize, integer: Integer) -> One
     One::Element(with_sign(first != at, number), first + count)
 }
 
-// 1 for true, 0 for false, 2 for unknown, 3 for none: constants by keys, which the compiler makes one load.
+// 1 for true, 0 for false, 2 for unknown, 3 for none: sums of tests, and no branch.
 fn truth_number(c: u8) -> u8
     ensures { λ r. ⌜ r ≡ truthNumber c ⌝ }
 {
-    match c {
-        b'T' | b't' | b'1' => 1,
-        b'F' | b'f' | b'0' => 0,
-        b'?' => 2,
-        _ => 3,
-    }
+    let lower = c | 32;
+    let truth = ((lower == b't') as u8) + ((c == b'1') as u8);
+    let lie = ((lower == b'f') as u8) + ((c == b'0') as u8);
+    3 - truth * 2 - lie * 3 - ((c == b'?') as u8)
 }
 
 // One of `T t 1 F f 0 ?`; the byte after it is the caller's to look at.
@@ -263,10 +263,10 @@ fn plain_end(s: &[u8], from: usize) -> usize
     let mut at = from;
     while 8 <= s.len() - at {
         let n = plain_ahead(s, at);
-        at += n;
         if n < 8 {
-            return at;
+            return at + n;
         }
+        at += 8;
     }
     at
 }
@@ -389,18 +389,20 @@ fn read_bits(s: &[u8], from: usize, row: &mut [u8], first: usize) -> Content
         let x = eight_bytes(s, at);
         let n = first_of(no_bits(x));
         if n == 0 {
-            if at == from {
-                return Content::Careful;
-            }
-            return Content::Elements(at - from, at, o);
+            break;
         }
-        row[o] = bit_byte(x, n);
-        o += 1;
-        at += n;
         if n < 8 {
-            return Content::Elements(at - from, at, o);
+            row[o] = bit_byte(x, n);
+            return Content::Elements(at + n - from, at + n, o + 1);
         }
+        row[o] = bit_byte(x, 8);
+        o += 1;
+        at += 8;
     }
+    if at == from {
+        return Content::Careful;
+    }
+    Content::Elements(at - from, at, o)
 }
 
 // ---- words with one space between
@@ -432,16 +434,12 @@ fn read_integers(s: &[u8], from: usize, integer: Integer, row: &mut [u8], first:
     }
 }
 
-// A boolean's byte for its letter, 0 for no letter: constants by keys, which the compiler makes one load.
-fn truth_letter(c: u8) -> u8
-    ensures { λ r. ⌜ r ≡ truthOf c ⌝ }
+// `F`, `T` and `?` for 0, 1 and 2.
+fn truth_byte(number: u8) -> u8
+    requires { ⌜ number < 3 ⌝ }
+    ensures { λ r. ⌜ r ≡ truthByte (pos number) ⌝ }
 {
-    match c {
-        b'T' | b't' | b'1' => b'T',
-        b'F' | b'f' | b'0' => b'F',
-        b'?' => b'?',
-        _ => 0,
-    }
+    ((0x3f5446u32 >> (8 * number)) % 256) as u8
 }
 
 // Each letter's byte.
@@ -459,11 +457,11 @@ fn read_truths(s: &[u8], from: usize, row: &mut [u8], first: usize) -> Content
         if row.len() <= o {
             return Content::Careful;
         }
-        let b = truth_letter(s[at]);
-        if b == 0 {
+        let z = truth_number(s[at]);
+        if z == 3 {
             return Content::Careful;
         }
-        row[o] = b;
+        row[o] = truth_byte(z);
         o += 1;
         count += 1;
         if s[at + 1] != b' ' {

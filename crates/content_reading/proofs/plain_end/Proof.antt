@@ -1,5 +1,7 @@
 -- `content_reading::plain_end` meets its contract: the bytes passed over stand for themselves, eight more at a turn.
-use Prim.Native.Nat.{_-_}
+use Prim.Native.Nat.{_+_, _-_, ℕ}
+use mathlib.Core.Path.{_≡_, subst}
+use denote.Ref.{now}
 use native.Mathlib.Omega.{arith}
 use lib.ListN.{length}
 use Rattle.content_reading.proofs.Chars.{plain-none, plain-then}
@@ -23,17 +25,26 @@ sub-loop c = omega (arith, c .loop .inv .high)
 plain-ahead-requires : tie.Need-plain-ahead-requires Inv-loop μ-loop
 plain-ahead-requires c κs = omega (arith, c .before .loop .inv .high)
 
-add-at : tie.Need-add-at Inv-loop μ-loop
-add-at c = let h = c .plain-ahead .ensures .0 .high in search needs
+add-result : tie.Need-add-result Inv-loop μ-loop
+add-result c = let h = c .before .plain-ahead .ensures .0 .high in search needs
 
 returns : tie.Need-returns Inv-loop μ-loop
 returns c = plain-then (c .before .before .before .loop .inv) (c .before .plain-ahead .ensures .0)
 
+-- all eight
+eight : (c : tie.Else1 Inv-loop μ-loop) → PlainTo (now (c .before .before .before .before .before .args .s)) (c .before .before .before .loop .at) (c .before .before .before .loop .at + 8)
+eight c =
+    let n : c .before .plain-ahead .result ≡ 8 = omega (arith, c .before .plain-ahead .ensures .1) in
+    subst (λ (k : ℕ). PlainTo (now (c .before .before .before .before .before .args .s)) (c .before .before .before .loop .at) (c .before .before .before .loop .at + k)) n (c .before .plain-ahead .ensures .0)
+
+add-at : tie.Need-add-at Inv-loop μ-loop
+add-at c = let h = eight c .high in search needs
+
 loop-less : tie.Need-loop-less Inv-loop μ-loop
-loop-less c = omega (arith, c .before .plain-ahead .ensures .0 .high)
+loop-less c = omega (arith, eight c .high)
 
 loop-again : tie.Need-loop-again Inv-loop μ-loop
-loop-again c = plain-then (c .before .before .before .loop .inv) (c .before .plain-ahead .ensures .0)
+loop-again c = plain-then (c .before .before .before .loop .inv) (eight c)
 
 returns-2 : tie.Need-returns-2 Inv-loop μ-loop
 returns-2 c = c .before .loop .inv
@@ -47,8 +58,9 @@ plain-end-spec =
     loop-holds
     sub-loop
     plain-ahead-requires
-    add-at
+    add-result
     returns
+    add-at
     loop-less
     loop-again
     returns-2)
