@@ -1,7 +1,7 @@
 -- Digits, eight at once: those at the front of eight characters, and the number that they spell in another base. In a pair of digits of base 256 the
 -- upper one counts 256 - b times too much for base b; what is so for digits is so for pairs, and for fours.
 use Prim.Native.Nat.{_*_, _+_, _-_, _/_, _<_, _^_, _≤_, suc, zero, ℕ}
-use native.Mathlib.Nat.{add-zero, zero-mul}
+use native.Mathlib.Nat.{add-zero, div-div-eq-div-mul, zero-mul}
 use native.Mathlib.Omega.{arith}
 use mathlib.Core.List.{List, [], _++_, _∷_, map}
 use mathlib.Core.Path.{_∙_, _≡_, ap, ap₂, refl, sym}
@@ -9,6 +9,7 @@ use lib.Arith.{digits-div}
 use lib.Bits.{and-block, and-mask, bitAnd, bitXor}
 use lib.Dec.{lit<}
 use lib.ListN.{drop, length, length-append, length-drop, length-map, length-replicate, replicate, take, take-append-drop}
+use lib.Pow.{pow-add}
 use Rattle.binary.proofs.Digits.{take-map}
 use Rattle.content_reading.proofs.Lanes.{differing, eight, own}
 use Rattle.eights.proofs.Lanes.{pow-bytes}
@@ -42,6 +43,15 @@ leading-law x n p h l a e =
     ap₂ (λ (y k : ℕ). y / k) (turned .is) (ap (λ (k : ℕ). 2 ^ k) places ∙ pow-bytes (8 - n))
     ∙ front-digits q n (bytes-map _ (turned .small) p a) (length-map p (λ (c : ℕ). bitXor c 48) ∙ l) h
     ∙ ap (ofDigits 256 0) (take-map (λ (c : ℕ). bitXor c 48) n p)
+
+-- fewer than eight: in two steps, since a shift by all of them is none
+pub few-law : (x n : ℕ) (p : List ℕ) → n ≤ 7 → length p ≡ 8 → AreBytes p → x ≡ ofDigits 256 0 p
+    → bitXor x 3472328296227680304 / 256 / 2 ^ (56 - 8 * n) ≡ ofDigits 256 0 (map (λ (c : ℕ). bitXor c 48) (take n p))
+few-law x n p h l a e =
+    let places : 8 + (56 - 8 * n) ≡ 64 - 8 * n = omega arith in
+    div-div-eq-div-mul (bitXor x 3472328296227680304) 256 (2 ^ (56 - 8 * n))
+    ∙ ap (λ (k : ℕ). bitXor x 3472328296227680304 / k) (sym (pow-add 2 8 (56 - 8 * n)) ∙ ap (λ (k : ℕ). 2 ^ k) places)
+    ∙ leading-law x n p (omega arith) l a e
 
 -- ---- the upper half of each pair
 

@@ -17,7 +17,7 @@ ghost use mathlib.Core.Path.{_≡_};
 ghost use Prim.Native.Nat.{_+_, _<_, _^_, _≤_};
 ghost use lib.IntN.{pos};
 ghost use lib.ListN.{length};
-ghost use Rattle.content_reading.specs.Figures.{AfterMinus, BitByte, FiguresAt, FiguresBehind, Leading, ReadIn, isBit, isDigit};
+ghost use Rattle.content_reading.specs.Figures.{AfterMinus, BitByte, DigitsFrom, EightAt, FiguresAt, Leading, ReadIn, isBit, isDigit};
 ghost use Rattle.content_reading.specs.Letters.{LetterIs, PlainTo, truthNumber};
 ghost use Rattle.eights.specs.Marks.{Marks};
 ghost use Rattle.moving.specs.Contents.{AsBinary, FindsOne, InText, MovesContent};
@@ -35,6 +35,14 @@ fn leading_figures(x: u64, n: usize) -> u64
     ensures { λ r. ⌜ Leading x n r ⌝ }
 {
     (x ^ 0x3030303030303030) >> (64 - 8 * n)
+}
+
+// The same of fewer than eight, or none.
+fn few_figures(x: u64, n: usize) -> u64
+    requires { ⌜ n ≤ 7 ⌝ }
+    ensures { λ r. ⌜ Leading x n r ⌝ }
+{
+    ((x ^ 0x3030303030303030) >> 8) >> (56 - 8 * n)
 }
 
 // The high bit of each byte that is no digit.
@@ -60,82 +68,49 @@ struct Run {
     pub count: usize,
 }
 
-// The digits at a place, at most eight.
-fn eight_at(s: &[u8], at: usize) -> Run
-    requires { ⌜ at + 8 ≤ length (now s) ⌝ }
-    ensures { λ r. ⌜ FiguresAt (now (s .entry)) at (r .count) (r .number) × (r .count ≤ 8) ⌝ }
+// The number of m + 8 digits: the first m, and the eight behind them. x is what was loaded at the place: a second load would take both apart.
+fn two_runs(x: u64, s: &[u8], at: usize, m: usize) -> u64
+    requires { ⌜ (m ≤ 7) × DigitsFrom (now s) at (m + 8) × EightAt (now s) at x ⌝ }
+    ensures { λ r. ⌜ FiguresAt (now (s .entry)) at (m + 8) r ⌝ }
 {
-    let x = eight_bytes(s, at);
-    let count = first_of(no_digits(x));
-    if count == 0 {
+    let high = decimal_of(few_figures(x, m));
+    let low = decimal_of(leading_figures(eight_bytes(s, at + m), 8));
+    high * 100000000 + low
+}
+
+// Sixteen to nineteen digits. Where there are more, none is taken.
+fn long_run(x: u64, s: &[u8], at: usize) -> Run
+    requires { ⌜ (at + 24 ≤ length (now s)) × DigitsFrom (now s) at 16 × EightAt (now s) at x ⌝ }
+    ensures { λ r. ⌜ FiguresAt (now (s .entry)) at (r .count) (r .number) × (r .count ≤ 19) ⌝ }
+{
+    let m = first_of(no_digits(eight_bytes(s, at + 16)));
+    if 3 < m {
         return Run {
             number: 0,
             count: 0,
         };
     }
+    let high = two_runs(x, s, at, m);
+    let low = decimal_of(leading_figures(eight_bytes(s, at + m + 8), 8));
     Run {
-        number: decimal_of(leading_figures(x, count)),
-        count,
+        number: high * 100000000 + low,
+        count: m + 16,
     }
 }
 
-// A power of ten, which the compiler looks up.
-fn power(n: usize) -> u64
-    requires { ⌜ n ≤ 8 ⌝ }
-    ensures { λ r. ⌜ r ≡ 10 ^ n ⌝ }
+// Eight digits or more.
+fn more_digits(x: u64, s: &[u8], at: usize) -> Run
+    requires { ⌜ (at + 24 ≤ length (now s)) × DigitsFrom (now s) at 8 × EightAt (now s) at x ⌝ }
+    ensures { λ r. ⌜ FiguresAt (now (s .entry)) at (r .count) (r .number) × (r .count ≤ 19) ⌝ }
 {
-    match n {
-        0 => 1,
-        1 => 10,
-        2 => 100,
-        3 => 1000,
-        4 => 10000,
-        5 => 100000,
-        6 => 1000000,
-        7 => 10000000,
-        _ => 100000000,
-    }
-}
-
-// At most three digits behind a number of sixteen. Where there are more, none is taken: what follows is then no end of a word.
-fn last_digits(s: &[u8], at: usize, high: u64) -> Run
-    requires { ⌜ (at + 8 ≤ length (now s)) × (high < 10 ^ 16) ⌝ }
-    ensures { λ r. ⌜ FiguresBehind high (now (s .entry)) at (r .count) (r .number) × (r .count ≤ 3) ⌝ }
-{
-    let run = eight_at(s, at);
-    let number = run.number;
-    let count = run.count;
-    if 3 < count {
+    let m = first_of(no_digits(eight_bytes(s, at + 8)));
+    if m < 8 {
         return Run {
-            number: high,
-            count: 0,
+            number: two_runs(x, s, at, m),
+            count: m + 8,
         };
     }
-    Run {
-        number: high * power(count) + number,
-        count,
-    }
-}
-
-// The digits behind a number of eight, at most eleven.
-fn more_digits(s: &[u8], at: usize, high: u64) -> Run
-    requires { ⌜ (at + 16 ≤ length (now s)) × (high < 10 ^ 8) ⌝ }
-    ensures { λ r. ⌜ FiguresBehind high (now (s .entry)) at (r .count) (r .number) × (r .count ≤ 11) ⌝ }
-{
-    let run = eight_at(s, at);
-    let low = run.number;
-    let count = run.count;
-    let number = high * power(count) + low;
-    if count < 8 {
-        return Run { number, count };
-    }
-    let last = last_digits(s, at + 8, number);
-    let whole = last.number;
-    let more = last.count;
-    Run {
-        number: whole,
-        count: 8 + more,
-    }
+    long_run(x, s, at)
 }
 
 // The digits at a place, at most nineteen.
@@ -143,22 +118,15 @@ fn digits_at(s: &[u8], at: usize) -> Run
     requires { ⌜ at + 24 ≤ length (now s) ⌝ }
     ensures { λ r. ⌜ FiguresAt (now (s .entry)) at (r .count) (r .number) × (r .count ≤ 19) ⌝ }
 {
-    let run = eight_at(s, at);
-    let high = run.number;
-    let count = run.count;
+    let x = eight_bytes(s, at);
+    let count = first_of(no_digits(x));
     if count < 8 {
         return Run {
-            number: high,
+            number: decimal_of(few_figures(x, count)),
             count,
         };
     }
-    let behind = more_digits(s, at + 8, high);
-    let number = behind.number;
-    let more = behind.count;
-    Run {
-        number,
-        count: 8 + more,
-    }
+    more_digits(x, s, at)
 }
 
 // ---- one element by its value
