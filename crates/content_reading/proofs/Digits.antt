@@ -9,20 +9,20 @@ use lib.Bits.{bitXor}
 use lib.Dec.{eqb, lit<}
 use lib.IntN.{pos}
 use lib.ListN.{drop, getD, length, length-drop, take}
-use lib.Seq.{drop-append-seam, drop-drop, length-take-le, take-add, take-take}
-use borrow.Author.Tests.{eq-eqb, eqb-true, ne-eqb}
-use Rattle.content_reading.proofs.Chars.{run-ahead, run-marked}
-use Rattle.content_reading.proofs.Packing.{figures-join, length-figures}
+use lib.Seq.{drop-drop, length-take-le, take-add, take-take}
+use borrow.Author.Tests.{eq-eqb, ne-eqb}
+use Rattle.content_reading.proofs.Runs.{passes-length, passes-none, passes-then}
+use Rattle.content_reading.proofs.Figures.{InBase, figures-are, figures-below, figures-join, length-figures}
 use Rattle.content_reading.proofs.Singles.{every-one}
 use Rattle.content_reading.proofs.Spelling.{Itself, spells-one, spells-run, spells-then}
-use Rattle.content_reading.specs.Figures.{AfterMinus, DigitsFrom, EightAt, FiguresAt, Leading, ReadIn, a-minus, figures, isDigit, no-minus}
-use Rattle.eights.specs.Marks.{FirstIs, Marks}
+use Rattle.content_reading.specs.Figures.{AfterMinus, EightAt, FiguresAt, Leading, ReadIn, a-minus, figures, isDigit, no-minus}
+use Rattle.content_reading.specs.Runs.{Passes}
 use Rattle.moving.specs.Contents.{InText, Spells}
 use Rattle.number.proofs.Laws.{IsDigit, digit-yes, of-append, of-from, of-lt, plain-read}
 use Rattle.number.specs.Contracts.{isSigned, size, widthOf}
 use Rattle.number.specs.Number.{decimal, digit, numeral, ofDigits, ranged, readInteger, withSign}
 use Rattle.number.specs.declared.Integer.{Integer}
-use Rattle.table.proofs.Laws.{all-append, all-drop, all-take, all-weaken, between-is, between-yes, each-below, no-white}
+use Rattle.table.proofs.Laws.{all-drop, all-take, all-weaken, between-is, between-yes, no-white}
 use Rattle.table.proofs.Words.{words-one}
 use Rattle.table.specs.All.{All, AreBytes}
 use Rattle.table.specs.Result.{every, good, refusedAs}
@@ -38,54 +38,21 @@ digit-is : (c : ℕ) → isDigit c ≡ true → IsDigit c
 unfolding isDigit
 digit-is c h = between-is 48 57 c h
 
-digit-figure : (c : ℕ) → isDigit c ≡ true → bitXor c 48 ≡ c - 48
-digit-figure c h = eqb-true _ _ (low (c - 48) (omega (arith, digit-is c h)) c (omega (arith, digit-is c h)))
-  where
-    low : (d : ℕ) → d < 10 → (c : ℕ) → c ≡ d + 48 → eqb (bitXor c 48) (c - 48) ≡ true
-    low d h c e = rw e (each-below (λ (d : ℕ). eqb (bitXor (d + 48) 48) (d + 48 - 48)) 10 refl d h)
-
 module _ (w : List ℕ) (a : All (λ (c : ℕ). isDigit c ≡ true) w) where
   are-digits : All IsDigit w
   are-digits = all-weaken _ IsDigit w digit-is a
 
-digit-figures : (w : List ℕ) → All (λ (c : ℕ). isDigit c ≡ true) w → map (λ (c : ℕ). bitXor c 48) w ≡ figures w
-unfolding figures
-digit-figures [] a = refl
-digit-figures (c ∷ w) a = ap₂ (λ (b : ℕ) (t : List ℕ). b ∷ t) (digit-figure c (a .0)) (digit-figures w (a .1))
+  in-base : All (InBase 10) w
+  in-base = all-weaken _ (InBase 10) w (λ c h. (digit-is c h .0, omega (arith, digit-is c h .1))) a
 
-figures-small : (w : List ℕ) → All (λ (c : ℕ). isDigit c ≡ true) w → All (λ (d : ℕ). d < 10) (figures w)
-unfolding figures
-figures-small [] a = tt
-figures-small (c ∷ w) a = (omega (arith, digit-is c (a .0)), figures-small w (a .1))
+  figures-small : All (λ (d : ℕ). d < 10) (figures w)
+  figures-small = figures-below 10 w in-base
 
 -- ---- runs
 
--- a run behind a run, and a run within a run
 module _ {s : List ℕ} {at : ℕ} where
-  pub digits-then : {m n : ℕ} → DigitsFrom s at m → DigitsFrom s (at + m) n → DigitsFrom s at (m + n)
-  digits-then {m} {n} p q =
-      let both : take (m + n) (drop at s) ≡ take m (drop at s) ++ take n (drop (at + m) s) = take-add m n (drop at s) ∙ ap (λ (t : List ℕ). take m (drop at s) ++ take n t) (drop-drop m at s) in
-      record {
-        inside = omega (arith, q .inside);
-        all = subst (All (λ (c : ℕ). isDigit c ≡ true)) (sym both) (all-append _ (take m (drop at s)) (take n (drop (at + m) s)) (p .all) (q .all));
-      }
-
-  pub digits-front : {k : ℕ} (n : ℕ) → DigitsFrom s at k → n ≤ k → DigitsFrom s at n
-  digits-front {k} n d h =
-      record { inside = omega (arith, d .inside); all = subst (All (λ (c : ℕ). isDigit c ≡ true)) (take-take n k (drop at s) h) (all-take _ n (take k (drop at s)) (d .all)) }
-
-  pub digits-part : {k : ℕ} (i n : ℕ) → DigitsFrom s at k → i + n ≤ k → DigitsFrom s (at + i) n
-  digits-part {k} i n d h =
-      let l : List ℕ = drop at s in
-      let whole : All (λ (c : ℕ). isDigit c ≡ true) (take i l ++ take n (drop i l)) = subst (All (λ (c : ℕ). isDigit c ≡ true)) (take-add i n l) (digits-front (i + n) d h .all) in
-      let behind : All (λ (c : ℕ). isDigit c ≡ true) (take n (drop i l)) =
-      subst (All (λ (c : ℕ). isDigit c ≡ true)) (drop-append-seam (take i l) (take n (drop i l))) (all-drop _ (length (take i l)) (take i l ++ take n (drop i l)) whole) in
-      record { inside = omega (arith, d .inside); all = subst (λ (t : List ℕ). All (λ (c : ℕ). isDigit c ≡ true) (take n t)) (drop-drop i at s) behind }
-
-  -- ---- with their number
-
   pub figures-length : {n x : ℕ} → FiguresAt s at n x → length (take n (drop at s)) ≡ n
-  figures-length {n} r = length-take-le n (drop at s) (simp length-drop (omega (arith, r .digits .inside)))
+  figures-length r = passes-length (r .digits)
 
   pub figures-lt : {n x : ℕ} → FiguresAt s at n x → x < 10 ^ n
   figures-lt {n} {x} r =
@@ -95,28 +62,22 @@ module _ {s : List ℕ} {at : ℕ} where
 
   pub figures-none : at ≤ length s → FiguresAt s at 0 0
   unfolding ofDigits figures
-  figures-none h = record { digits = record { inside = omega arith; all = tt }; number-is = refl }
+  figures-none h = record { digits = passes-none h; number-is = refl }
 
   -- some of eight characters, read at once
-  pub figures-read : {x n t r : ℕ} → AreBytes s → at + 8 ≤ length s → EightAt s at x → n ≤ 8 → DigitsFrom s at n → Leading x n t → ReadIn 10 t r → FiguresAt s at n r
+  pub figures-read : {x n t r : ℕ} → AreBytes s → at + 8 ≤ length s → EightAt s at x → n ≤ 8 → Passes isDigit s at n → Leading x n t → ReadIn 10 t r → FiguresAt s at n r
   figures-read {x} {n} {t} {r} a h e few d lead read =
       let p : List ℕ = take 8 (drop at s) in
       let l : length p ≡ 8 = length-take-le 8 (drop at s) (simp length-drop (omega arith)) in
       let v : List ℕ = take n (drop at s) in
-      let m : length v ≡ n = length-take-le n (drop at s) (simp length-drop (omega (arith, d .inside))) in
+      let m : length v ≡ n = passes-length d in
       record {
         digits = d;
         number-is =
             read .read (figures v) (omega (arith, length-figures v, m)) (all-weaken _ _ (figures v) (λ d k. omega arith) (figures-small v (d .all)))
             (lead .leading p l (all-take _ 8 (drop at s) (all-drop _ at s a)) e
-            ∙ ap (ofDigits 256 0) (ap (map (λ (c : ℕ). bitXor c 48)) (take-take n 8 (drop at s) few) ∙ digit-figures v (d .all)));
+            ∙ ap (ofDigits 256 0) (ap (map (λ (c : ℕ). bitXor c 48)) (take-take n 8 (drop at s) few) ∙ figures-are 10 v (omega arith) (in-base v (d .all))));
       }
-
--- the digits of the next eight characters, by the first mark
-pub digits-ahead : (s : List ℕ) (at : ℕ) {x m n : ℕ} → AreBytes s → at + 8 ≤ length s → EightAt s at x → Marks isDigit x m → FirstIs m n → DigitsFrom s at n × (n ≤ 8)
-digits-ahead s at {n = n} a h e marks first =
-    let ahead = run-ahead isDigit s at n h (run-marked isDigit s at a h e marks first) in
-    (record { inside = omega (arith, ahead .0); all = ahead .1 }, ahead .0)
 
 -- a run behind a run: the place, the count and the number are what the code has for them
 pub figures-then : {s : List ℕ} {at place m n count x y number : ℕ} → FiguresAt s at m x → FiguresAt s place n y → place ≡ at + m → count ≡ m + n → number ≡ x * 10 ^ n + y
@@ -128,7 +89,7 @@ figures-then {s} {at} {place} {m} {n} {count} {x} {y} {number} p q here counted 
     take-add m n (drop at s) ∙ ap (λ (t : List ℕ). u ++ take n t) (drop-drop m at s ∙ ap (λ (k : ℕ). drop k s) (sym here)) in
     subst₂ (FiguresAt s at) (sym counted) (sym is)
     (record {
-      digits = digits-then (p .digits) (subst (λ (k : ℕ). DigitsFrom s k n) here (q .digits));
+      digits = passes-then (p .digits) (q .digits) here refl;
       number-is = sym
           (ap (λ (t : List ℕ). ofDigits 10 0 (figures t)) both ∙ ap (ofDigits 10 0) (figures-join u v) ∙ of-append 10 0 (figures u) (figures v)
           ∙ of-from 10 (ofDigits 10 0 (figures u)) (figures v)

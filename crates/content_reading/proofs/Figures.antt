@@ -3,20 +3,52 @@
 use Prim.Native.Nat.{_*_, _+_, _-_, _/_, _<_, _^_, _≤_, suc, zero, ℕ}
 use native.Mathlib.Nat.{add-zero, div-div-eq-div-mul, zero-mul}
 use native.Mathlib.Omega.{arith}
+use mathlib.Core.Bool.{true}
 use mathlib.Core.List.{List, [], _++_, _∷_, map}
 use mathlib.Core.Path.{_∙_, _≡_, ap, ap₂, refl, sym}
 use lib.Arith.{digits-div}
 use lib.Bits.{and-block, and-mask, bitAnd, bitXor}
-use lib.Dec.{lit<}
+use lib.Dec.{eqb, lit<}
+use borrow.Author.Tests.{eqb-true}
 use lib.ListN.{drop, length, length-append, length-drop, length-map, length-replicate, replicate, take, take-append-drop}
 use lib.Pow.{pow-add}
-use Rattle.binary.proofs.Digits.{take-map}
+use Rattle.binary.proofs.Digits.{map-join, take-map}
 use Rattle.content_reading.proofs.Lanes.{differing, eight, own}
+use Rattle.content_reading.specs.Figures.{figures}
 use Rattle.eights.proofs.Lanes.{pow-bytes}
 use Rattle.number.proofs.Laws.{of-append, of-from, of-lt}
 use Rattle.number.specs.Number.{ofDigits}
-use Rattle.table.proofs.Laws.{all-append, all-drop, all-replicate}
-use Rattle.table.specs.All.{AreBytes}
+use Rattle.table.proofs.Laws.{all-append, all-drop, all-replicate, each-below}
+use Rattle.table.specs.All.{All, AreBytes}
+
+-- ---- digits of a base that has no letters, and what they stand for
+
+abbrev pub InBase : ℕ → ℕ → Type 0
+InBase b c = (48 ≤ c) × (c < 48 + b)
+
+figure-is : (b c : ℕ) → b ≤ 10 → InBase b c → bitXor c 48 ≡ c - 48
+figure-is b c h i = eqb-true _ _ (low (c - 48) (omega arith) c (omega arith))
+  where
+    low : (d : ℕ) → d < 10 → (c : ℕ) → c ≡ d + 48 → eqb (bitXor c 48) (c - 48) ≡ true
+    low d h c e = rw e (each-below (λ (d : ℕ). eqb (bitXor (d + 48) 48) (d + 48 - 48)) 10 refl d h)
+
+pub figures-are : (b : ℕ) (w : List ℕ) → b ≤ 10 → All (InBase b) w → map (λ (c : ℕ). bitXor c 48) w ≡ figures w
+unfolding figures
+figures-are b [] h a = refl
+figures-are b (c ∷ w) h a = ap₂ (λ (d : ℕ) (t : List ℕ). d ∷ t) (figure-is b c h (a .0)) (figures-are b w h (a .1))
+
+pub figures-below : (b : ℕ) (w : List ℕ) → All (InBase b) w → All (λ (d : ℕ). d < b) (figures w)
+unfolding figures
+figures-below b [] a = tt
+figures-below b (c ∷ w) a = (omega (arith, a .0), figures-below b w (a .1))
+
+pub length-figures : (w : List ℕ) → length (figures w) ≡ length w
+unfolding figures
+length-figures w = length-map w (λ (c : ℕ). c - 48)
+
+pub figures-join : (w v : List ℕ) → figures (w ++ v) ≡ figures w ++ figures v
+unfolding figures
+figures-join w v = map-join (λ (c : ℕ). c - 48) w v
 
 -- ---- the first of eight digits
 

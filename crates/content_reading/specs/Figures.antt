@@ -5,6 +5,7 @@ use mathlib.Core.List.{List, _++_, map}
 use mathlib.Core.Path.{_≡_}
 use lib.Bits.{bitXor}
 use lib.ListN.{drop, getD, length, replicate, take}
+use Rattle.content_reading.specs.Runs.{Passes}
 use Rattle.number.specs.Number.{ofDigits}
 use Rattle.table.specs.All.{All, AreBytes}
 use Rattle.table.specs.Bytes.{between, byte}
@@ -35,17 +36,13 @@ pub record BitByte (x n r : ℕ) : Type 0 where
 
 -- ---- a run of digits at a place
 
-pub record DigitsFrom (s : List ℕ) (place n : ℕ) : Type 0 where
-  pub inside : place + n ≤ length s
-  pub all : All (λ (c : ℕ). isDigit c ≡ true) (take n (drop place s))
-
 -- x has the eight bytes from a place on
 abbrev pub EightAt : List ℕ → ℕ → ℕ → Type 0
 EightAt s place x = x ≡ ofDigits 256 0 (take 8 (drop place s))
 
 -- how many there are, and their number
 pub record FiguresAt (s : List ℕ) (place count number : ℕ) : Type 0 where
-  pub digits : DigitsFrom s place count
+  pub digits : Passes isDigit s place count
   pub number-is : number ≡ ofDigits 10 0 (figures (take count (drop place s)))
 
 -- the place after a minus, which only the signed kinds have

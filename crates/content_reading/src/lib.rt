@@ -14,11 +14,12 @@ use table::Kind;
 use words::is_signed;
 use words::top_of;
 ghost use mathlib.Core.Path.{_≡_};
-ghost use Prim.Native.Nat.{_+_, _<_, _^_, _≤_};
+ghost use Prim.Native.Nat.{_+_, _-_, _<_, _^_, _≤_};
 ghost use lib.IntN.{pos};
 ghost use lib.ListN.{length};
-ghost use Rattle.content_reading.specs.Figures.{AfterMinus, BitByte, DigitsFrom, EightAt, FiguresAt, Leading, ReadIn, isBit, isDigit};
-ghost use Rattle.content_reading.specs.Letters.{LetterIs, PlainTo, truthNumber};
+ghost use Rattle.content_reading.specs.Figures.{AfterMinus, BitByte, EightAt, FiguresAt, Leading, ReadIn, isBit, isDigit};
+ghost use Rattle.content_reading.specs.Letters.{LetterIs, truthNumber};
+ghost use Rattle.content_reading.specs.Runs.{Passes};
 ghost use Rattle.eights.specs.Marks.{Marks};
 ghost use Rattle.moving.specs.Contents.{AsBinary, FindsOne, InText, MovesContent};
 ghost use Rattle.number.specs.Contracts.{isSigned, widthOf};
@@ -70,7 +71,7 @@ struct Run {
 
 // The number of m + 8 digits: the first m, and the eight behind them. x is what was loaded at the place: a second load would take both apart.
 fn two_runs(x: u64, s: &[u8], at: usize, m: usize) -> u64
-    requires { ⌜ (m ≤ 7) × DigitsFrom (now s) at (m + 8) × EightAt (now s) at x ⌝ }
+    requires { ⌜ (m ≤ 7) × Passes isDigit (now s) at (m + 8) × EightAt (now s) at x ⌝ }
     ensures { λ r. ⌜ FiguresAt (now (s .entry)) at (m + 8) r ⌝ }
 {
     let high = decimal_of(few_figures(x, m));
@@ -80,7 +81,7 @@ fn two_runs(x: u64, s: &[u8], at: usize, m: usize) -> u64
 
 // Sixteen to nineteen digits. Where there are more, none is taken.
 fn long_run(x: u64, s: &[u8], at: usize) -> Run
-    requires { ⌜ (at + 24 ≤ length (now s)) × DigitsFrom (now s) at 16 × EightAt (now s) at x ⌝ }
+    requires { ⌜ (at + 24 ≤ length (now s)) × Passes isDigit (now s) at 16 × EightAt (now s) at x ⌝ }
     ensures { λ r. ⌜ FiguresAt (now (s .entry)) at (r .count) (r .number) × (r .count ≤ 19) ⌝ }
 {
     let m = first_of(no_digits(eight_bytes(s, at + 16)));
@@ -100,7 +101,7 @@ fn long_run(x: u64, s: &[u8], at: usize) -> Run
 
 // Eight digits or more.
 fn more_digits(x: u64, s: &[u8], at: usize) -> Run
-    requires { ⌜ (at + 24 ≤ length (now s)) × DigitsFrom (now s) at 8 × EightAt (now s) at x ⌝ }
+    requires { ⌜ (at + 24 ≤ length (now s)) × Passes isDigit (now s) at 8 × EightAt (now s) at x ⌝ }
     ensures { λ r. ⌜ FiguresAt (now (s .entry)) at (r .count) (r .number) × (r .count ≤ 19) ⌝ }
 {
     let m = first_of(no_digits(eight_bytes(s, at + 8)));
@@ -218,7 +219,7 @@ fn no_plain(x: u64) -> u64
 // How many of the next eight bytes stand for themselves, up to the first that does not.
 fn plain_ahead(s: &[u8], at: usize) -> usize
     requires { ⌜ at + 8 ≤ length (now s) ⌝ }
-    ensures { λ r. ⌜ PlainTo (now (s .entry)) at (at + r) × (r ≤ 8) ⌝ }
+    ensures { λ r. ⌜ Passes isPlain (now (s .entry)) at r × (r ≤ 8) ⌝ }
 {
     first_of(no_plain(eight_bytes(s, at)))
 }
@@ -226,7 +227,7 @@ fn plain_ahead(s: &[u8], at: usize) -> usize
 // The end of the run of bytes that stand for themselves, or a place in the last eight bytes.
 fn plain_end(s: &[u8], from: usize) -> usize
     requires { ⌜ from ≤ length (now s) ⌝ }
-    ensures { λ r. ⌜ PlainTo (now (s .entry)) from r ⌝ }
+    ensures { λ r. ⌜ (from ≤ r) × Passes isPlain (now (s .entry)) from (r - from) ⌝ }
 {
     let mut at = from;
     while 8 <= s.len() - at {

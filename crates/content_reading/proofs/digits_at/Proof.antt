@@ -4,8 +4,10 @@ use native.Mathlib.Omega.{arith}
 use mathlib.Core.List.{List}
 use mathlib.Core.Path.{_≡_, subst}
 use denote.Ref.{now}
-use Rattle.content_reading.proofs.Digits.{digits-ahead, figures-read}
-use Rattle.content_reading.specs.Figures.{DigitsFrom}
+use Rattle.content_reading.proofs.Digits.{figures-read}
+use Rattle.content_reading.proofs.Runs.{passes-ahead}
+use Rattle.content_reading.specs.Figures.{isDigit}
+use Rattle.content_reading.specs.Runs.{Passes}
 use Rattle.eights.proofs.Fronts.{are-bytes}
 use Rattle.table.specs.All.{AreBytes}
 use borrow.Author.Needs.{needs}
@@ -23,8 +25,8 @@ module _ (c : tie.After-first-of) where
   bytes : AreBytes s
   bytes = are-bytes s (λ i. omega (arith, c .before .before .before .shared-slice-known .given i))
 
-  found : DigitsFrom s (start .args .at) (c .first-of .result) × (c .first-of .result ≤ 8)
-  found = digits-ahead s (start .args .at) bytes (omega arith) (c .before .before .eight-bytes .ensures) (c .before .no-digits .ensures) (c .first-of .ensures)
+  found : Passes isDigit s (start .args .at) (c .first-of .result) × (c .first-of .result ≤ 8)
+  found = passes-ahead s (start .args .at) bytes (omega arith) (c .before .before .eight-bytes .ensures) (c .before .no-digits .ensures) (c .first-of .ensures)
 
 returns : tie.Need-returns
 returns c =
@@ -35,7 +37,7 @@ more-digits-requires : tie.Need-more-digits-requires
 more-digits-requires c κs =
     let f = c .before in
     let n : f .first-of .result ≡ 8 = omega (arith, found f .1) in
-    (omega arith, subst (DigitsFrom (s f) (start f .args .at)) n (found f .0), f .before .before .eight-bytes .ensures)
+    (omega arith, subst (Passes isDigit (s f) (start f .args .at)) n (found f .0), f .before .before .eight-bytes .ensures)
 
 pub digits-at-spec : {M : Type 1} → statement M
 digits-at-spec =

@@ -4,8 +4,10 @@ use native.Mathlib.Omega.{arith}
 use mathlib.Core.List.{List}
 use mathlib.Core.Path.{_≡_, refl, subst}
 use denote.Ref.{now}
-use Rattle.content_reading.proofs.Digits.{digits-ahead, digits-front, digits-part, digits-then, figures-lt, figures-none, figures-read, figures-then, power-le}
-use Rattle.content_reading.specs.Figures.{DigitsFrom, FiguresAt}
+use Rattle.content_reading.proofs.Digits.{figures-lt, figures-none, figures-read, figures-then, power-le}
+use Rattle.content_reading.proofs.Runs.{passes-ahead, passes-front, passes-part, passes-then}
+use Rattle.content_reading.specs.Figures.{FiguresAt, isDigit}
+use Rattle.content_reading.specs.Runs.{Passes}
 use Rattle.eights.proofs.Fronts.{are-bytes}
 use Rattle.table.specs.All.{AreBytes}
 use borrow.Author.Needs.{needs}
@@ -23,18 +25,18 @@ module _ (c : tie.After-first-of) where
   bytes : AreBytes s
   bytes = are-bytes s (λ i. omega (arith, c .before .before .before .shared-slice-known .given i))
 
-  found : DigitsFrom s (start .args .at + 16) (c .first-of .result) × (c .first-of .result ≤ 8)
-  found = digits-ahead s (start .args .at + 16) bytes (omega arith) (c .before .before .eight-bytes .ensures) (c .before .no-digits .ensures) (c .first-of .ensures)
+  found : Passes isDigit s (start .args .at + 16) (c .first-of .result) × (c .first-of .result ≤ 8)
+  found = passes-ahead s (start .args .at + 16) bytes (omega arith) (c .before .before .eight-bytes .ensures) (c .before .no-digits .ensures) (c .first-of .ensures)
 
   -- behind the first sixteen
-  all : DigitsFrom s (start .args .at) (16 + c .first-of .result)
-  all = digits-then (start .pre .1) (found .0)
+  all : Passes isDigit s (start .args .at) (16 + c .first-of .result)
+  all = passes-then (start .pre .1) (found .0) refl refl
 
 returns : tie.Need-returns
 returns c = (figures-none (omega arith), omega arith)
 
 two-runs-requires : tie.Need-two-runs-requires
-two-runs-requires c κs = let f = c .before in (omega arith, digits-front (f .first-of .result + 8) (all f) (omega arith), start f .pre .2)
+two-runs-requires c κs = let f = c .before in (omega arith, passes-front (f .first-of .result + 8) (all f) (omega arith), start f .pre .2)
 
 -- the last eight
 module _ (c : tie.After-decimal-of) where
@@ -48,7 +50,7 @@ module _ (c : tie.After-decimal-of) where
   low =
       let here : start first .args .at + (m + 8) ≡ start first .args .at + m + 8 = omega arith in
       figures-read (bytes first) (omega arith) (c .before .before .eight-bytes2 .ensures) (omega arith)
-      (subst (λ (k : ℕ). DigitsFrom (s first) k 8) here (digits-part (m + 8) 8 (all first) (omega arith))) (c .before .leading-figures .ensures) (c .decimal-of .ensures)
+      (subst (λ (k : ℕ). Passes isDigit (s first) k 8) here (passes-part (m + 8) 8 (all first) (omega arith))) (c .before .leading-figures .ensures) (c .decimal-of .ensures)
 
 mul-t7 : tie.Need-mul-t7
 mul-t7 c = record { fits = omega (arith, figures-lt (c .before .before .before .two-runs .ensures), power-le (m c + 8) 11 (omega arith)) }

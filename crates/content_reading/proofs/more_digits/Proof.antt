@@ -2,10 +2,11 @@
 use Prim.Native.Nat.{_+_, _≤_, ℕ}
 use native.Mathlib.Omega.{arith}
 use mathlib.Core.List.{List}
-use mathlib.Core.Path.{_≡_, subst}
+use mathlib.Core.Path.{_≡_, refl, sym}
 use denote.Ref.{now}
-use Rattle.content_reading.proofs.Digits.{digits-ahead, digits-then}
-use Rattle.content_reading.specs.Figures.{DigitsFrom}
+use Rattle.content_reading.proofs.Runs.{passes-ahead, passes-then}
+use Rattle.content_reading.specs.Figures.{isDigit}
+use Rattle.content_reading.specs.Runs.{Passes}
 use Rattle.eights.proofs.Fronts.{are-bytes}
 use Rattle.table.specs.All.{AreBytes}
 use borrow.Author.Needs.{needs}
@@ -23,12 +24,12 @@ module _ (c : tie.After-first-of) where
   bytes : AreBytes s
   bytes = are-bytes s (λ i. omega (arith, c .before .before .before .shared-slice-known .given i))
 
-  found : DigitsFrom s (start .args .at + 8) (c .first-of .result) × (c .first-of .result ≤ 8)
-  found = digits-ahead s (start .args .at + 8) bytes (omega arith) (c .before .before .eight-bytes .ensures) (c .before .no-digits .ensures) (c .first-of .ensures)
+  found : Passes isDigit s (start .args .at + 8) (c .first-of .result) × (c .first-of .result ≤ 8)
+  found = passes-ahead s (start .args .at + 8) bytes (omega arith) (c .before .before .eight-bytes .ensures) (c .before .no-digits .ensures) (c .first-of .ensures)
 
   -- behind the first eight
-  all : (n : ℕ) → 8 + c .first-of .result ≡ n → DigitsFrom s (start .args .at) n
-  all n e = subst (DigitsFrom s (start .args .at)) e (digits-then (start .pre .1) (found .0))
+  all : (n : ℕ) → 8 + c .first-of .result ≡ n → Passes isDigit s (start .args .at) n
+  all n e = passes-then (start .pre .1) (found .0) refl (sym e)
 
 two-runs-requires : tie.Need-two-runs-requires
 two-runs-requires c κs = let f = c .before in (omega arith, all f (f .first-of .result + 8) (omega arith), start f .pre .2)

@@ -2,14 +2,14 @@
 use Prim.Native.Nat.{_%_, _+_, _-_, _≤_, ℕ}
 use native.Mathlib.Omega.{arith}
 use mathlib.Core.List.{List}
-use mathlib.Core.Path.{_∙_, _≡_, refl, sym}
+use mathlib.Core.Path.{_≡_, refl, subst}
 use denote.Ref.{now}
-use lib.ListN.{drop, length, set, take}
-use Rattle.content_reading.proofs.Chars.{run-ahead, run-marked}
+use lib.ListN.{length, set}
+use Rattle.content_reading.proofs.Runs.{passes-ahead}
 use Rattle.content_reading.proofs.Packing.{BitsTo, bits-more, bits-moved, bits-start}
 use Rattle.content_reading.specs.Figures.{BitByte, isBit}
 use Rattle.eights.proofs.Fronts.{are-bytes}
-use Rattle.eights.specs.Marks.{run}
+use Rattle.content_reading.specs.Runs.{Passes}
 use Rattle.moving.proofs.Puts.{puts-before}
 use Rattle.table.specs.All.{AreBytes}
 use borrow.Author.Needs.{needs}
@@ -57,21 +57,18 @@ module _ (c : tie.After-first-of Inv-loop μ-loop) where
   inside : at-loop .loop .at + 8 ≤ length s
   inside = omega (arith, at-loop .loop .inv .0 .spells .inside)
 
-  counted : c .first-of .result ≡ run isBit (take 8 (drop (at-loop .loop .at) s))
-  counted = run-marked isBit s (at-loop .loop .at) bytes inside (c .before .before .eight-bytes .ensures) (c .before .no-bits .ensures) (c .first-of .ensures)
-
-  few : c .first-of .result ≤ 8
-  few = run-ahead isBit s (at-loop .loop .at) (c .first-of .result) inside counted .0
+  found : Passes isBit s (at-loop .loop .at) (c .first-of .result) × (c .first-of .result ≤ 8)
+  found = passes-ahead s (at-loop .loop .at) bytes inside (c .before .before .eight-bytes .ensures) (c .before .no-bits .ensures) (c .first-of .ensures)
 
 bit-byte-requires : tie.Need-bit-byte-requires Inv-loop μ-loop
-bit-byte-requires c κs = (omega arith, few (c .before .before))
+bit-byte-requires c κs = (omega arith, found (c .before .before) .1)
 
 -- and their byte
 turned : (f : tie.After-first-of Inv-loop μ-loop) (n b : ℕ) → f .first-of .result ≡ n → (n ≡ 0 → ⊥) → BitByte (f .before .before .eight-bytes .result) n b → let l = at-loop f .loop in
     let a = at-loop f .before .before .before .args in BitsTo (now (a .s)) (a .from) (l .at + n) (now (a .row)) (a .first) (set (l .row) (l .o) b) (l .o + 1)
 turned f n b e some byte =
     let r = at-loop f .loop .inv in
-    bits-more (r .0) (r .1) (bytes f) (inside f) (omega arith) (f .before .before .eight-bytes .ensures) (sym e ∙ counted f) some byte
+    bits-more (r .0) (r .1) (bytes f) (inside f) (omega arith) (f .before .before .eight-bytes .ensures) (subst (Passes isBit _ _) e (found f .0)) (omega (arith, e, found f .1)) some byte
 
 -- fewer than eight
 module _ (c : tie.After-bit-byte Inv-loop μ-loop) where
@@ -107,7 +104,7 @@ module _ (c : tie.After-bit-byte2 Inv-loop μ-loop) where
 
   more : let f = all-eight in let l = at-loop f .loop in let a = at-loop f .before .before .before .args in
       BitsTo (now (a .s)) (a .from) (l .at + 8) (now (a .row)) (a .first) (set (l .row) (l .o) (c .bit-byte2 .result)) (l .o + 1)
-  more = turned all-eight 8 _ (omega (arith, few all-eight)) (λ e. omega arith) (c .bit-byte2 .ensures)
+  more = turned all-eight 8 _ (omega (arith, found all-eight .1)) (λ e. omega arith) (c .bit-byte2 .ensures)
 
 add-o : tie.Need-add-o Inv-loop μ-loop
 add-o c = let h = more c .puts .room in search needs

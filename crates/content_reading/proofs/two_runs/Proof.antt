@@ -3,7 +3,8 @@ use Prim.Native.Nat.{_+_}
 use native.Mathlib.Omega.{arith}
 use mathlib.Core.Path.{refl}
 use denote.Ref.{now}
-use Rattle.content_reading.proofs.Digits.{digits-front, digits-part, figures-lt, figures-read, figures-then, power-le}
+use Rattle.content_reading.proofs.Digits.{figures-lt, figures-read, figures-then, power-le}
+use Rattle.content_reading.proofs.Runs.{passes-front, passes-part}
 use Rattle.content_reading.specs.Figures.{FiguresAt}
 use Rattle.eights.proofs.Fronts.{are-bytes}
 use Rattle.table.specs.All.{AreBytes}
@@ -21,12 +22,12 @@ module _ (c : tie.After-decimal-of2) where
   high : FiguresAt (now (start .args .s)) (start .args .at) (start .args .m) (c .before .before .before .decimal-of .result)
   high =
       let h = start .pre in let d = h .1 in
-      figures-read bytes (omega (arith, d .inside)) (h .2) (omega (arith, h .0)) (digits-front (start .args .m) d (omega arith)) (c .before .before .before .before .few-figures .ensures) (c .before .before .before .decimal-of .ensures)
+      figures-read bytes (omega (arith, d .inside)) (h .2) (omega (arith, h .0)) (passes-front (start .args .m) d (omega arith)) (c .before .before .before .before .few-figures .ensures) (c .before .before .before .decimal-of .ensures)
 
   low : FiguresAt (now (start .args .s)) (start .args .at + start .args .m) 8 (c .decimal-of2 .result)
   low =
       let h = start .pre in let d = h .1 in
-      figures-read bytes (omega (arith, d .inside)) (c .before .before .eight-bytes .ensures) (omega arith) (digits-part (start .args .m) 8 d (omega arith)) (c .before .leading-figures .ensures) (c .decimal-of2 .ensures)
+      figures-read bytes (omega (arith, d .inside)) (c .before .before .eight-bytes .ensures) (omega arith) (passes-part (start .args .m) 8 d (omega arith)) (c .before .leading-figures .ensures) (c .decimal-of2 .ensures)
 
 mul-result : tie.Need-mul-result
 mul-result c = record { fits = omega (arith, figures-lt (high c), power-le (c .before .before .before .before .before .before .args .m) 7 (omega arith)) }
