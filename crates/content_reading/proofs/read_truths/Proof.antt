@@ -55,7 +55,9 @@ returns-3 : tie.Need-returns-3 Inv-loop μ-loop
 returns-3 c = puts-before (c .before .before .before .before .before .loop .inv .puts)
 
 truth-byte-requires : tie.Need-truth-byte-requires Inv-loop μ-loop
-truth-byte-requires c κs = omega (arith, c .before .truth-number .ensures, truth-small (getD (now (c .before .before .before .before .before .before .before .before .args .s)) (c .before .before .before .before .before .loop .at) 0))
+truth-byte-requires c κs =
+    let at-loop = c .before .before .before .before .before in
+    omega (arith, c .before .truth-number .ensures, truth-small (getD (now (at-loop .before .before .before .args .s)) (at-loop .loop .at) 0))
 
 -- the letter, and its byte
 module _ (c : tie.After-truth-byte Inv-loop μ-loop) where

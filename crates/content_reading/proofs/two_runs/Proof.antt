@@ -1,6 +1,7 @@
 -- `content_reading::two_runs` meets its contract: the digits at the front, and the eight behind them.
-use Prim.Native.Nat.{_+_}
+use Prim.Native.Nat.{_+_, ℕ}
 use native.Mathlib.Omega.{arith}
+use mathlib.Core.List.{List}
 use mathlib.Core.Path.{refl}
 use denote.Ref.{now}
 use Rattle.content_reading.proofs.Digits.{figures-lt, figures-read, figures-then, power-le}
@@ -19,15 +20,19 @@ module _ (c : tie.After-decimal-of2) where
   bytes : AreBytes (now (start .args .s))
   bytes = are-bytes (now (start .args .s)) (λ i. omega (arith, c .before .before .before .before .before .shared-slice-known .given i))
 
-  high : FiguresAt (now (start .args .s)) (start .args .at) (start .args .m) (c .before .before .before .decimal-of .result)
-  high =
-      let h = start .pre in let d = h .1 in
-      figures-read bytes (omega (arith, d .inside)) (h .2) (omega (arith, h .0)) (passes-front (start .args .m) d (omega arith)) (c .before .before .before .before .few-figures .ensures) (c .before .before .before .decimal-of .ensures)
+  abbrev s : List ℕ
+  s = now (start .args .s)
 
-  low : FiguresAt (now (start .args .s)) (start .args .at + start .args .m) 8 (c .decimal-of2 .result)
+  high : FiguresAt s (start .args .at) (start .args .m) (c .before .before .before .decimal-of .result)
+  high =
+      let h = start .pre in
+      figures-read bytes (omega (arith, h .1 .inside)) (h .2) (omega (arith, h .0)) (passes-front (start .args .m) (h .1) (omega arith)) (c .before .before .before .before .few-figures .ensures) (c .before .before .before .decimal-of .ensures)
+
+  low : FiguresAt s (start .args .at + start .args .m) 8 (c .decimal-of2 .result)
   low =
-      let h = start .pre in let d = h .1 in
-      figures-read bytes (omega (arith, d .inside)) (c .before .before .eight-bytes .ensures) (omega arith) (passes-part (start .args .m) 8 d (omega arith)) (c .before .leading-figures .ensures) (c .decimal-of2 .ensures)
+      let d = start .pre .1 in
+      figures-read bytes (omega (arith, d .inside)) (c .before .before .eight-bytes .ensures) (omega arith) (passes-part (start .args .m) 8 d (omega arith)) (c .before .leading-figures .ensures)
+      (c .decimal-of2 .ensures)
 
 mul-result : tie.Need-mul-result
 mul-result c = record { fits = omega (arith, figures-lt (high c), power-le (c .before .before .before .before .before .before .args .m) 7 (omega arith)) }
