@@ -1,6 +1,6 @@
 -- The characters of a char cell: runs of bytes that stand for themselves, references, and what they come to: each character is a byte of the content.
-use Prim.Native.Nat.{_+_, _-_, _<_, _≤_, suc, ℕ}
-use native.Mathlib.Nat.{le-refl, mod-eq-of-lt}
+use Prim.Native.Nat.{_+_, _-_, _<_, _≤_, ℕ}
+use native.Mathlib.Nat.{mod-eq-of-lt}
 use native.Mathlib.Omega.{arith}
 use mathlib.Core.Bool.{Bool, _&&_, true}
 use mathlib.Core.List.{List, [], _++_, _∷_, append-nil, map}
@@ -9,17 +9,17 @@ use lib.Dec.{lit<, ltb}
 use borrow.Author.Tests.{ltb-true}
 use lib.IntN.{pos}
 use lib.ListN.{drop, getD, length, length-drop, length-map, replicate, set, take, take-append-drop}
-use lib.Seq.{drop-drop, getD-drop, length-take-le, take-add, take-suc, take-take}
+use lib.Seq.{drop-drop, getD-drop, length-take-le, take-suc}
 use Rattle.binary.specs.Binary.{bytesOf, number}
 use Rattle.content_reading.proofs.Spelling.{before-none, before-cons, spells-none, spells-one, spells-then, spells-to}
-use Rattle.content_reading.specs.Letters.{PlainTo}
-use Rattle.eights.specs.Marks.{FirstIs, Marks, run}
+use Rattle.content_reading.specs.Runs.{Passes}
+use Rattle.eights.specs.Marks.{run}
 use Rattle.moving.proofs.Puts.{puts-none, puts-then, puts-wrote}
 use Rattle.moving.specs.Contents.{AsBinary, ContentMoved, InText, Spells, contentForm}
 use Rattle.moving.specs.Puts.{Puts}
 use Rattle.number.proofs.Laws.{to-of}
 use Rattle.number.specs.Number.{ofDigits, pattern, toDigits}
-use Rattle.table.proofs.Laws.{all-append, all-drop, all-take, all-weaken, and-both, cond-cases}
+use Rattle.table.proofs.Laws.{all-append, all-drop, all-take, all-weaken, and-both}
 use Rattle.table.specs.All.{All, AreBytes}
 use Rattle.table.specs.Bytes.{after, same}
 use Rattle.table.specs.Shape.{Text}
@@ -27,61 +27,6 @@ use Rattle.tabledata.proofs.Characters.{plain-is, text-low}
 use Rattle.tabledata.proofs.Laws.{text-lt}
 use Rattle.tabledata.specs.Contracts.{isPlain}
 use Rattle.tabledata.specs.TableData.{allText, characters, consText, emitted, expanded, follow, isText, named, names, plain, step, textElements}
-
--- ---- runs of bytes that pass a test
-
-run-all : (test : ℕ → Bool) (l : List ℕ) → All (λ (c : ℕ). test c ≡ true) (take (run test l) l)
-unfolding run
-run-all test [] = tt
-run-all test (b ∷ l) = cond-cases (λ (n : ℕ). All (λ (c : ℕ). test c ≡ true) (take n (b ∷ l))) (test b) (suc (run test l)) 0 (λ e. (e, run-all test l)) (λ _. tt)
-
-run-le : (test : ℕ → Bool) (l : List ℕ) → run test l ≤ length l
-unfolding run
-run-le test [] = le-refl 0
-run-le test (b ∷ l) = cond-cases (λ (n : ℕ). n ≤ suc (length l)) (test b) (suc (run test l)) 0 (λ _. omega (arith, run-le test l)) (λ _. omega arith)
-
--- of eight bytes
-pub run-ahead : (test : ℕ → Bool) (s : List ℕ) (at r : ℕ) → at + 8 ≤ length s → r ≡ run test (take 8 (drop at s)) → (r ≤ 8) × All (λ (c : ℕ). test c ≡ true) (take r (drop at s))
-run-ahead test s at r h e =
-    let l : length (take 8 (drop at s)) ≡ 8 = length-take-le 8 (drop at s) (simp length-drop (omega arith)) in
-    let few : r ≤ 8 = omega (arith, e, run-le test (take 8 (drop at s))) in
-    (few, subst (All (λ (c : ℕ). test c ≡ true)) (ap (λ (n : ℕ). take n (take 8 (drop at s))) (sym e) ∙ take-take r 8 (drop at s) few) (run-all test (take 8 (drop at s))))
-
--- how many there are, by the first mark
-pub run-marked : (test : ℕ → Bool) (s : List ℕ) (at : ℕ) {x m r : ℕ} → AreBytes s → at + 8 ≤ length s → x ≡ ofDigits 256 0 (take 8 (drop at s)) → Marks test x m → FirstIs m r
-    → r ≡ run test (take 8 (drop at s))
-run-marked test s at a h e marks first =
-    let p : List ℕ = take 8 (drop at s) in
-    let l : length p ≡ 8 = length-take-le 8 (drop at s) (simp length-drop (omega arith)) in
-    first .first test p l (marks .marked p l (all-take _ 8 (drop at s) (all-drop _ at s a)) e)
-
-pub plain-ahead : (s : List ℕ) (at r : ℕ) → at + 8 ≤ length s → r ≡ run isPlain (take 8 (drop at s)) → PlainTo s at (at + r) × (r ≤ 8)
-plain-ahead s at r h e =
-    let q = run-ahead isPlain s at r h e in
-    let n : r ≡ at + r - at = omega arith in
-    (record { low = omega arith; high = omega (arith, q .0); themselves = subst (λ (k : ℕ). All (λ (c : ℕ). isPlain c ≡ true) (take k (drop at s))) n (q .1) }, q .0)
-
-pub plain-none : (s : List ℕ) (at : ℕ) → at ≤ length s → PlainTo s at at
-plain-none s at h =
-    let n : 0 ≡ at - at = omega arith in
-    record { low = le-refl at; high = h; themselves = subst (λ (k : ℕ). All (λ (c : ℕ). isPlain c ≡ true) (take k (drop at s))) n tt }
-
-pub plain-then : {s : List ℕ} {i j k : ℕ} → PlainTo s i j → PlainTo s j k → PlainTo s i k
-plain-then {s} {i} {j} {k} p q =
-    let n : k - i ≡ j - i + (k - j) = omega (arith, p .low, q .low) in
-    let m : i + (j - i) ≡ j = omega (arith, p .low) in
-    record {
-      low = omega (arith, p .low, q .low);
-      high = q .high;
-      themselves = subst (All (λ (c : ℕ). isPlain c ≡ true))
-          (sym (ap (λ (x : ℕ). take x (drop i s)) n ∙ take-add (j - i) (k - j) (drop i s)
-          ∙ ap (λ (t : List ℕ). take (j - i) (drop i s) ++ take (k - j) t) (drop-drop (j - i) i s ∙ ap (λ (x : ℕ). drop x s) m)))
-          (all-append _ (take (j - i) (drop i s)) (take (k - j) (drop j s)) (p .themselves) (q .themselves));
-    }
-
--- what is copied of them
-pub plain-copied : {s : List ℕ} {i j : ℕ} {old : List ℕ} {o : ℕ} {new : List ℕ} {e : ℕ} → PlainTo s i j → Puts old o (take (j - i) (drop i s)) new e → e ≡ o + (j - i)
-plain-copied {s} {i} {j} p q = omega (arith, q .next-is, length-take-le (j - i) (drop i s) (simp length-drop (omega (arith, p .high))))
 
 -- ---- references that are written
 
@@ -160,11 +105,11 @@ text-start {s} {from} {old} {first} h k = record { w = []; text = tt; spells = s
 
 module _ {s : List ℕ} {from at : ℕ} {old : List ℕ} {first : ℕ} {new : List ℕ} {o : ℕ} (r : TextTo s from at old first new o) {next : ℕ} where
   -- a run of bytes that stand for themselves
-  pub text-run : {new' : List ℕ} {e : ℕ} → PlainTo s at next → Puts new o (take (next - at) (drop at s)) new' e → TextTo s from next old first new' e
-  text-run p q = record {
+  pub text-run : {new' : List ℕ} {e : ℕ} → at ≤ next → Passes isPlain s at (next - at) → Puts new o (take (next - at) (drop at s)) new' e → TextTo s from next old first new' e
+  text-run l p q = record {
     w = r .w ++ take (next - at) (drop at s);
-    text = all-append _ (r .w) (take (next - at) (drop at s)) (r .text) (all-weaken _ _ (take (next - at) (drop at s)) (λ c h. plain-is c h .1) (p .themselves));
-    spells = spells-then (r .spells) (spells-to s at next (p .low) (p .high) (all-weaken _ _ (take (next - at) (drop at s)) (λ c h. plain-is c h .0) (p .themselves)));
+    text = all-append _ (r .w) (take (next - at) (drop at s)) (r .text) (all-weaken _ _ (take (next - at) (drop at s)) (λ c h. plain-is c h .1) (p .all));
+    spells = spells-then (r .spells) (spells-to s at next l (omega (arith, p .inside)) (all-weaken _ _ (take (next - at) (drop at s)) (λ c h. plain-is c h .0) (p .all)));
     puts = puts-then (r .puts) q;
   }
 

@@ -1,30 +1,28 @@
 -- Runs of digits and the integers that they are: a run behind a run is one run, and a word of a run, or of a minus and a run, reads as its number.
 use Prim.Native.Nat.{_*_, _+_, _-_, _<_, _^_, _≤_, ℕ}
-use native.Mathlib.Nat.{add-zero, mul-assoc, mul-one, pow-le-pow-right}
+use native.Mathlib.Nat.{pow-le-pow-right}
 use native.Mathlib.Omega.{arith}
 use mathlib.Core.Bool.{Bool, false, not, true}
 use mathlib.Core.List.{List, [], _++_, _∷_, map}
-use mathlib.Core.Path.{_∙_, _≡_, ap, ap₂, refl, subst, sym}
-use lib.Arith.{digits-lt}
+use mathlib.Core.Path.{_∙_, _≡_, ap, ap₂, refl, subst, subst₂, sym}
 use lib.Bits.{bitXor}
 use lib.Dec.{eqb, lit<}
 use lib.IntN.{pos}
 use lib.ListN.{drop, getD, length, length-drop, take}
-use lib.Pow.{pow-add}
 use lib.Seq.{drop-drop, length-take-le, take-add, take-take}
-use borrow.Author.Tests.{eq-eqb, eqb-true, ne-eqb}
-use Rattle.content_reading.proofs.Chars.{run-ahead}
-use Rattle.content_reading.proofs.Packing.{figures-join, length-figures}
+use borrow.Author.Tests.{eq-eqb, ne-eqb}
+use Rattle.content_reading.proofs.Runs.{passes-length, passes-none, passes-then}
+use Rattle.content_reading.proofs.Figures.{InBase, figures-are, figures-below, figures-join, length-figures}
 use Rattle.content_reading.proofs.Singles.{every-one}
 use Rattle.content_reading.proofs.Spelling.{Itself, spells-one, spells-run, spells-then}
-use Rattle.content_reading.specs.Figures.{AfterMinus, FiguresAt, FiguresBehind, Leading, ReadIn, a-minus, figures, isDigit, no-minus}
-use Rattle.eights.specs.Marks.{run}
+use Rattle.content_reading.specs.Figures.{AfterMinus, EightAt, FiguresAt, Leading, ReadIn, a-minus, figures, isDigit, no-minus}
+use Rattle.content_reading.specs.Runs.{Passes}
 use Rattle.moving.specs.Contents.{InText, Spells}
 use Rattle.number.proofs.Laws.{IsDigit, digit-yes, of-append, of-from, of-lt, plain-read}
 use Rattle.number.specs.Contracts.{isSigned, size, widthOf}
 use Rattle.number.specs.Number.{decimal, digit, numeral, ofDigits, ranged, readInteger, withSign}
 use Rattle.number.specs.declared.Integer.{Integer}
-use Rattle.table.proofs.Laws.{all-append, all-drop, all-take, all-weaken, between-is, between-yes, each-below, no-white}
+use Rattle.table.proofs.Laws.{all-drop, all-take, all-weaken, between-is, between-yes, no-white}
 use Rattle.table.proofs.Words.{words-one}
 use Rattle.table.specs.All.{All, AreBytes}
 use Rattle.table.specs.Result.{every, good, refusedAs}
@@ -40,114 +38,67 @@ digit-is : (c : ℕ) → isDigit c ≡ true → IsDigit c
 unfolding isDigit
 digit-is c h = between-is 48 57 c h
 
-digit-figure : (c : ℕ) → isDigit c ≡ true → bitXor c 48 ≡ c - 48
-digit-figure c h = eqb-true _ _ (low (c - 48) (omega (arith, digit-is c h)) c (omega (arith, digit-is c h)))
-  where
-    low : (d : ℕ) → d < 10 → (c : ℕ) → c ≡ d + 48 → eqb (bitXor c 48) (c - 48) ≡ true
-    low d h c e = rw e (each-below (λ (d : ℕ). eqb (bitXor (d + 48) 48) (d + 48 - 48)) 10 refl d h)
-
 module _ (w : List ℕ) (a : All (λ (c : ℕ). isDigit c ≡ true) w) where
   are-digits : All IsDigit w
   are-digits = all-weaken _ IsDigit w digit-is a
 
-digit-figures : (w : List ℕ) → All (λ (c : ℕ). isDigit c ≡ true) w → map (λ (c : ℕ). bitXor c 48) w ≡ figures w
-unfolding figures
-digit-figures [] a = refl
-digit-figures (c ∷ w) a = ap₂ (λ (b : ℕ) (t : List ℕ). b ∷ t) (digit-figure c (a .0)) (digit-figures w (a .1))
+  in-base : All (InBase 10) w
+  in-base = all-weaken _ (InBase 10) w (λ c h. (digit-is c h .0, omega (arith, digit-is c h .1))) a
 
-figures-small : (w : List ℕ) → All (λ (c : ℕ). isDigit c ≡ true) w → All (λ (d : ℕ). d < 10) (figures w)
-unfolding figures
-figures-small [] a = tt
-figures-small (c ∷ w) a = (omega (arith, digit-is c (a .0)), figures-small w (a .1))
+  figures-small : All (λ (d : ℕ). d < 10) (figures w)
+  figures-small = figures-below 10 w in-base
 
 -- ---- runs
 
 module _ {s : List ℕ} {at : ℕ} where
   pub figures-length : {n x : ℕ} → FiguresAt s at n x → length (take n (drop at s)) ≡ n
-  figures-length {n} r = length-take-le n (drop at s) (simp length-drop (omega (arith, r .inside)))
+  figures-length r = passes-length (r .digits)
 
   pub figures-lt : {n x : ℕ} → FiguresAt s at n x → x < 10 ^ n
   figures-lt {n} {x} r =
       let w : List ℕ = take n (drop at s) in
       subst (λ (y : ℕ). y < 10 ^ n) (sym (r .number-is))
-      (subst (λ (k : ℕ). ofDigits 10 0 (figures w) < 10 ^ k) (length-figures w ∙ figures-length r) (of-lt 10 (lit< tt) (figures w) (figures-small w (r .digits))))
+      (subst (λ (k : ℕ). ofDigits 10 0 (figures w) < 10 ^ k) (length-figures w ∙ figures-length r) (of-lt 10 (lit< tt) (figures w) (figures-small w (r .digits .all))))
 
   pub figures-none : at ≤ length s → FiguresAt s at 0 0
   unfolding ofDigits figures
-  figures-none h = record { inside = omega arith; digits = tt; number-is = refl }
+  figures-none h = record { digits = passes-none h; number-is = refl }
 
-  -- eight characters read at once
-  pub figures-eight : {x n t r : ℕ} → AreBytes s → at + 8 ≤ length s → x ≡ ofDigits 256 0 (take 8 (drop at s)) → n ≡ run isDigit (take 8 (drop at s)) → Leading x n t → ReadIn 10 t r
-      → FiguresAt s at n r
-  figures-eight {x} {n} {t} {r} a h e q lead read =
+  -- some of eight characters, read at once
+  pub figures-read : {x n t r : ℕ} → AreBytes s → at + 8 ≤ length s → EightAt s at x → n ≤ 8 → Passes isDigit s at n → Leading x n t → ReadIn 10 t r → FiguresAt s at n r
+  figures-read {x} {n} {t} {r} a h e few d lead read =
       let p : List ℕ = take 8 (drop at s) in
       let l : length p ≡ 8 = length-take-le 8 (drop at s) (simp length-drop (omega arith)) in
-      let ahead = run-ahead isDigit s at n h q in
       let v : List ℕ = take n (drop at s) in
-      let m : length v ≡ n = length-take-le n (drop at s) (simp length-drop (omega (arith, ahead .0))) in
+      let m : length v ≡ n = passes-length d in
       record {
-        inside = omega (arith, ahead .0);
-        digits = ahead .1;
+        digits = d;
         number-is =
-            read .read (figures v) (omega (arith, length-figures v, m, ahead .0)) (all-weaken _ _ (figures v) (λ d k. omega arith) (figures-small v (ahead .1)))
+            read .read (figures v) (omega (arith, length-figures v, m)) (all-weaken _ _ (figures v) (λ d k. omega arith) (figures-small v (d .all)))
             (lead .leading p l (all-take _ 8 (drop at s) (all-drop _ at s a)) e
-            ∙ ap (ofDigits 256 0) (ap (map (λ (c : ℕ). bitXor c 48)) (take-take n 8 (drop at s) (ahead .0)) ∙ digit-figures v (ahead .1)));
+            ∙ ap (ofDigits 256 0) (ap (map (λ (c : ℕ). bitXor c 48)) (take-take n 8 (drop at s) few) ∙ figures-are 10 v (omega arith) (in-base v (d .all))));
       }
 
-  -- a run behind a run
-  pub figures-then : {m n x y : ℕ} → FiguresAt s at m x → FiguresAt s (at + m) n y → FiguresAt s at (m + n) (x * 10 ^ n + y)
-  figures-then {m} {n} {x} {y} p q =
-      let u : List ℕ = take m (drop at s) in
-      let v : List ℕ = take n (drop (at + m) s) in
-      let both : take (m + n) (drop at s) ≡ u ++ v = take-add m n (drop at s) ∙ ap (λ (t : List ℕ). u ++ take n t) (drop-drop m at s) in
-      record {
-        inside = omega (arith, q .inside);
-        digits = subst (All (λ (c : ℕ). isDigit c ≡ true)) (sym both) (all-append _ u v (p .digits) (q .digits));
-        number-is = sym
-            (ap (λ (t : List ℕ). ofDigits 10 0 (figures t)) both ∙ ap (ofDigits 10 0) (figures-join u v) ∙ of-append 10 0 (figures u) (figures v)
-            ∙ of-from 10 (ofDigits 10 0 (figures u)) (figures v)
-            ∙ ap₂ (λ (z k : ℕ). z * 10 ^ k + ofDigits 10 0 (figures v)) (sym (p .number-is)) (length-figures v ∙ figures-length' q)
-            ∙ ap (λ (z : ℕ). x * 10 ^ n + z) (sym (q .number-is)));
-      }
-    where
-      figures-length' : {s : List ℕ} {i n x : ℕ} → FiguresAt s i n x → length (take n (drop i s)) ≡ n
-      figures-length' {s} {i} {n} r = length-take-le n (drop i s) (simp length-drop (omega (arith, r .inside)))
+-- a run behind a run: the place, the count and the number are what the code has for them
+pub figures-then : {s : List ℕ} {at place m n count x y number : ℕ} → FiguresAt s at m x → FiguresAt s place n y → place ≡ at + m → count ≡ m + n → number ≡ x * 10 ^ n + y
+    → FiguresAt s at count number
+figures-then {s} {at} {place} {m} {n} {count} {x} {y} {number} p q here counted is =
+    let u : List ℕ = take m (drop at s) in
+    let v : List ℕ = take n (drop place s) in
+    let both : take (m + n) (drop at s) ≡ u ++ v =
+    take-add m n (drop at s) ∙ ap (λ (t : List ℕ). u ++ take n t) (drop-drop m at s ∙ ap (λ (k : ℕ). drop k s) (sym here)) in
+    subst₂ (FiguresAt s at) (sym counted) (sym is)
+    (record {
+      digits = passes-then (p .digits) (q .digits) here refl;
+      number-is = sym
+          (ap (λ (t : List ℕ). ofDigits 10 0 (figures t)) both ∙ ap (ofDigits 10 0) (figures-join u v) ∙ of-append 10 0 (figures u) (figures v)
+          ∙ of-from 10 (ofDigits 10 0 (figures u)) (figures v)
+          ∙ ap₂ (λ (z k : ℕ). z * 10 ^ k + ofDigits 10 0 (figures v)) (sym (p .number-is)) (length-figures v ∙ figures-length q)
+          ∙ ap (λ (z : ℕ). x * 10 ^ n + z) (sym (q .number-is)));
+    })
 
--- two numbers side by side
-pub joined-lt : (x y m n : ℕ) → x < 10 ^ m → y < 10 ^ n → x * 10 ^ n + y < 10 ^ (m + n)
-joined-lt x y m n h k = rw (pow-add 10 m n) (digits-lt h k)
-
--- at most nineteen digits
-pub joined-fits : (x y m n p : ℕ) → p ≡ 10 ^ n → x < 10 ^ m → y < 10 ^ n → m + n ≤ 19 → (x * p < 2 ^ 64) × (x * p + y < 2 ^ 64)
-joined-fits x y m n p e h k few =
-    let most : 10 ^ (m + n) ≤ 10 ^ 19 = pow-le-pow-right (lit< tt) few in
-    let below : x * p + y < 10 ^ (m + n) = subst (λ (q : ℕ). x * q + y < 10 ^ (m + n)) (sym e) (joined-lt x y m n h k) in
-    (omega (arith, most, below), omega (arith, most, below))
-
--- ---- behind a number
-
-module _ {s : List ℕ} {high at : ℕ} where
-  pub behind-none : at ≤ length s → FiguresBehind high s at 0 high
-  behind-none h = record { low = 0; run = figures-none h; number-is = sym (add-zero (high * 1) ∙ mul-one high) }
-
-  pub behind-run : {n x r : ℕ} → FiguresAt s at n x → r ≡ high * 10 ^ n + x → FiguresBehind high s at n r
-  behind-run {x = x} p e = record { low = x; run = p; number-is = e }
-
-  -- and more behind that
-  pub behind-then : {m n x y : ℕ} → FiguresBehind high s at m x → FiguresBehind x s (at + m) n y → FiguresBehind high s at (m + n) y
-  behind-then {m} {n} {x} {y} p q = record {
-    low = p .low * 10 ^ n + q .low;
-    run = figures-then (p .run) (q .run);
-    number-is =
-        q .number-is ∙ ap (λ (z : ℕ). z * 10 ^ n + q .low) (p .number-is)
-        ∙ rw (pow-add 10 m n) (spread high (10 ^ m) (10 ^ n) (p .low) (q .low));
-  }
-    where
-      spread : (h a b x y : ℕ) → (h * a + x) * b + y ≡ h * (a * b) + (x * b + y)
-      spread h a b x y = omega (arith, mul-assoc h a b)
-
-pub behind-all : {s : List ℕ} {at m n x y : ℕ} → FiguresAt s at m x → FiguresBehind x s (at + m) n y → FiguresAt s at (m + n) y
-behind-all {s} {at} {m} {n} p q = subst (FiguresAt s at (m + n)) (sym (q .number-is)) (figures-then p (q .run))
+pub power-le : (m n : ℕ) → m ≤ n → 10 ^ m ≤ 10 ^ n
+power-le m n h = pow-le-pow-right (lit< tt) h
 
 -- ---- what a run reads as
 
@@ -162,10 +113,10 @@ module _ {s : List ℕ} {at n x : ℕ} (r : FiguresAt s at n x) (some : n ≡ 0 
   run-decimal signed w negative h =
       let l : length (take n (drop at s)) ≡ n = figures-length r in
       decimal-parts signed w negative (take n (drop at s))
-      ∙ rw (between-yes 1 20 (length (take n (drop at s))) (omega (arith, l)) (omega (arith, l)), numeral-is (take n (drop at s)) 0 (r .digits), ← (r .number-is), h)
+      ∙ rw (between-yes 1 20 (length (take n (drop at s))) (omega (arith, l)) (omega (arith, l)), numeral-is (take n (drop at s)) 0 (r .digits .all), ← (r .number-is), h)
 
   run-itself : All Itself (take n (drop at s))
-  run-itself = all-weaken _ Itself (take n (drop at s)) (λ c h. let i = digit-is c h in (λ e. omega arith, λ e. omega arith, λ e. omega arith)) (r .digits)
+  run-itself = all-weaken _ Itself (take n (drop at s)) (λ c h. let i = digit-is c h in (λ e. omega arith, λ e. omega arith, λ e. omega arith)) (r .digits .all)
 
   pub run-in-text : (k : Integer) → x ≤ top k → InText (Whole (isSigned k) (widthOf k)) s at (at + n) (withSign false x ∷ [])
   unfolding textElements integerWord withSign
@@ -173,12 +124,12 @@ module _ {s : List ℕ} {at n x : ℕ} (r : FiguresAt s at n x) (some : n ≡ 0 
       let w : List ℕ = take n (drop at s) in
       record {
         word = w;
-        spells = spells-run s at n (r .inside) run-itself;
+        spells = spells-run s at n (r .digits .inside) run-itself;
         elements =
-            ap (every (integerWord (isSigned k) (size k))) (words-one w (omega (arith, figures-length r), all-weaken _ _ w (λ c i. no-white c (omega (arith, digit-is c i))) (r .digits)))
+            ap (every (integerWord (isSigned k) (size k))) (words-one w (omega (arith, figures-length r), all-weaken _ _ w (λ c i. no-white c (omega (arith, digit-is c i))) (r .digits .all)))
             ∙ every-one _ w (pos x)
             (ap (refusedAs faultNumber)
-            (plain-read (isSigned k) (size k) w (are-digits w (r .digits)) (omega (arith, figures-length r)) ∙ run-decimal (isSigned k) (size k) false (up-in k x h)));
+            (plain-read (isSigned k) (size k) w (are-digits w (r .digits .all)) (omega (arith, figures-length r)) ∙ run-decimal (isSigned k) (size k) false (up-in k x h)));
       }
 
 -- after a minus
@@ -190,10 +141,10 @@ minus-in-text {s} {at} {n} {x} k signed l b r some few h =
     let one = spells-one s at l (λ e. omega arith, λ e. omega arith, λ e. omega arith) in
     record {
       word = 45 ∷ w;
-      spells = subst (λ (c : ℕ). Spells s at (at + 1 + n) (c ∷ w)) b (spells-then one (spells-run s (at + 1) n (r .inside) (run-itself r some few)));
+      spells = subst (λ (c : ℕ). Spells s at (at + 1 + n) (c ∷ w)) b (spells-then one (spells-run s (at + 1) n (r .digits .inside) (run-itself r some few)));
       elements =
           ap (every (integerWord (isSigned k) (size k)))
-          (words-one (45 ∷ w) (omega arith, (no-white 45 (omega arith), all-weaken _ _ w (λ c i. no-white c (omega (arith, digit-is c i))) (r .digits))))
+          (words-one (45 ∷ w) (omega arith, (no-white 45 (omega arith), all-weaken _ _ w (λ c i. no-white c (omega (arith, digit-is c i))) (r .digits .all))))
           ∙ every-one _ (45 ∷ w) (withSign true x)
           (ap (refusedAs faultNumber)
           (ap (λ (g : Bool). readInteger g (size k) (45 ∷ w)) signed ∙ after-minus (size k) w ∙ ap (λ (g : Bool). decimal g (size k) true w) (sym signed)

@@ -1,21 +1,54 @@
 -- Digits, eight at once: those at the front of eight characters, and the number that they spell in another base. In a pair of digits of base 256 the
 -- upper one counts 256 - b times too much for base b; what is so for digits is so for pairs, and for fours.
 use Prim.Native.Nat.{_*_, _+_, _-_, _/_, _<_, _^_, _≤_, suc, zero, ℕ}
-use native.Mathlib.Nat.{add-zero, zero-mul}
+use native.Mathlib.Nat.{add-zero, div-div-eq-div-mul, zero-mul}
 use native.Mathlib.Omega.{arith}
+use mathlib.Core.Bool.{true}
 use mathlib.Core.List.{List, [], _++_, _∷_, map}
 use mathlib.Core.Path.{_∙_, _≡_, ap, ap₂, refl, sym}
 use lib.Arith.{digits-div}
 use lib.Bits.{and-block, and-mask, bitAnd, bitXor}
-use lib.Dec.{lit<}
+use lib.Dec.{eqb, lit<}
+use borrow.Author.Tests.{eqb-true}
 use lib.ListN.{drop, length, length-append, length-drop, length-map, length-replicate, replicate, take, take-append-drop}
-use Rattle.binary.proofs.Digits.{take-map}
+use lib.Pow.{pow-add}
+use Rattle.binary.proofs.Digits.{map-join, take-map}
 use Rattle.content_reading.proofs.Lanes.{differing, eight, own}
+use Rattle.content_reading.specs.Figures.{figures}
 use Rattle.eights.proofs.Lanes.{pow-bytes}
 use Rattle.number.proofs.Laws.{of-append, of-from, of-lt}
 use Rattle.number.specs.Number.{ofDigits}
-use Rattle.table.proofs.Laws.{all-append, all-drop, all-replicate}
-use Rattle.table.specs.All.{AreBytes}
+use Rattle.table.proofs.Laws.{all-append, all-drop, all-replicate, each-below}
+use Rattle.table.specs.All.{All, AreBytes}
+
+-- ---- digits of a base that has no letters, and what they stand for
+
+abbrev pub InBase : ℕ → ℕ → Type 0
+InBase b c = (48 ≤ c) × (c < 48 + b)
+
+figure-is : (b c : ℕ) → b ≤ 10 → InBase b c → bitXor c 48 ≡ c - 48
+figure-is b c h i = eqb-true _ _ (low (c - 48) (omega arith) c (omega arith))
+  where
+    low : (d : ℕ) → d < 10 → (c : ℕ) → c ≡ d + 48 → eqb (bitXor c 48) (c - 48) ≡ true
+    low d h c e = rw e (each-below (λ (d : ℕ). eqb (bitXor (d + 48) 48) (d + 48 - 48)) 10 refl d h)
+
+pub figures-are : (b : ℕ) (w : List ℕ) → b ≤ 10 → All (InBase b) w → map (λ (c : ℕ). bitXor c 48) w ≡ figures w
+unfolding figures
+figures-are b [] h a = refl
+figures-are b (c ∷ w) h a = ap₂ (λ (d : ℕ) (t : List ℕ). d ∷ t) (figure-is b c h (a .0)) (figures-are b w h (a .1))
+
+pub figures-below : (b : ℕ) (w : List ℕ) → All (InBase b) w → All (λ (d : ℕ). d < b) (figures w)
+unfolding figures
+figures-below b [] a = tt
+figures-below b (c ∷ w) a = (omega (arith, a .0), figures-below b w (a .1))
+
+pub length-figures : (w : List ℕ) → length (figures w) ≡ length w
+unfolding figures
+length-figures w = length-map w (λ (c : ℕ). c - 48)
+
+pub figures-join : (w v : List ℕ) → figures (w ++ v) ≡ figures w ++ figures v
+unfolding figures
+figures-join w v = map-join (λ (c : ℕ). c - 48) w v
 
 -- ---- the first of eight digits
 
@@ -42,6 +75,15 @@ leading-law x n p h l a e =
     ap₂ (λ (y k : ℕ). y / k) (turned .is) (ap (λ (k : ℕ). 2 ^ k) places ∙ pow-bytes (8 - n))
     ∙ front-digits q n (bytes-map _ (turned .small) p a) (length-map p (λ (c : ℕ). bitXor c 48) ∙ l) h
     ∙ ap (ofDigits 256 0) (take-map (λ (c : ℕ). bitXor c 48) n p)
+
+-- fewer than eight: in two steps, since a shift by all of them is none
+pub few-law : (x n : ℕ) (p : List ℕ) → n ≤ 7 → length p ≡ 8 → AreBytes p → x ≡ ofDigits 256 0 p
+    → bitXor x 3472328296227680304 / 256 / 2 ^ (56 - 8 * n) ≡ ofDigits 256 0 (map (λ (c : ℕ). bitXor c 48) (take n p))
+few-law x n p h l a e =
+    let places : 8 + (56 - 8 * n) ≡ 64 - 8 * n = omega arith in
+    div-div-eq-div-mul (bitXor x 3472328296227680304) 256 (2 ^ (56 - 8 * n))
+    ∙ ap (λ (k : ℕ). bitXor x 3472328296227680304 / k) (sym (pow-add 2 8 (56 - 8 * n)) ∙ ap (λ (k : ℕ). 2 ^ k) places)
+    ∙ leading-law x n p (omega arith) l a e
 
 -- ---- the upper half of each pair
 

@@ -1,4 +1,5 @@
 pub mod Spelling
+pub mod Runs
 pub mod Singles
 pub mod Lanes
 pub mod Chars

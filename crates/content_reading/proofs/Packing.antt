@@ -5,26 +5,23 @@ use native.Mathlib.Omega.{arith}
 use mathlib.Core.Bool.{true}
 use mathlib.Core.List.{List, [], _++_, _∷_, append-assoc, append-nil, map}
 use mathlib.Core.Path.{_∙_, _≡_, ap, ap₂, refl, subst, sym}
-use lib.Bits.{bitXor}
-use lib.Dec.{eqb, lit<}
+use lib.Dec.{lit<}
 use lib.IntN.{pos}
 use lib.ListN.{drop, length, length-append, length-drop, length-map, length-replicate, replicate, set, take}
 use lib.Pow.{shl-exact, shl-lt}
 use lib.Seq.{drop-append-le, drop-at, drop-drop, length-take-le, take-all, take-append-le, take-take}
-use borrow.Author.Tests.{eqb-true}
-use Rattle.binary.proofs.Digits.{map-join}
 use Rattle.binary.specs.Binary.{bitBytes, bitOf, bytesOf, number, pack, packed}
-use Rattle.content_reading.proofs.Chars.{run-ahead}
-use Rattle.content_reading.proofs.Figures.{of-zeros}
+use Rattle.content_reading.proofs.Runs.{passes-length}
+use Rattle.content_reading.proofs.Figures.{InBase, figures-are, figures-below, figures-join, length-figures, of-zeros}
 use Rattle.content_reading.proofs.Spelling.{Itself, spells-none, spells-run, spells-then}
 use Rattle.content_reading.specs.Figures.{BitByte, Leading, ReadIn, figures, isBit}
-use Rattle.eights.specs.Marks.{run}
+use Rattle.content_reading.specs.Runs.{Passes}
 use Rattle.moving.proofs.Puts.{puts-as, puts-none, puts-then, puts-wrote}
 use Rattle.moving.specs.Contents.{AsBinary, ContentMoved, InText, Spells, contentForm}
 use Rattle.moving.specs.Puts.{Puts}
 use Rattle.number.proofs.Laws.{of-append, of-from, of-lt}
 use Rattle.number.specs.Number.{ofDigits}
-use Rattle.table.proofs.Laws.{all-append, all-drop, all-take, all-weaken, between-is, each-below, no-white}
+use Rattle.table.proofs.Laws.{all-append, all-drop, all-take, all-weaken, between-is, no-white}
 use Rattle.table.proofs.Words.{words-one}
 use Rattle.table.specs.All.{All, AreBytes}
 use Rattle.table.specs.Result.{every, good}
@@ -82,32 +79,11 @@ bit-is c h = between-is 48 49 c h
 bit-itself : (c : ℕ) → isBit c ≡ true → Itself c
 bit-itself c h = let i = bit-is c h in (λ e. omega arith, λ e. omega arith, λ e. omega arith)
 
-bit-figure : (c : ℕ) → isBit c ≡ true → bitXor c 48 ≡ c - 48
-bit-figure c h = by c (bit-is c h .0) (bit-is c h .1)
-  where
-    by : (c : ℕ) → 48 ≤ c → c ≤ 49 → bitXor c 48 ≡ c - 48
-    by c h k = eqb-true _ _ (low (c - 48) (omega arith) c (omega arith))
-      where
-        low : (d : ℕ) → d < 2 → (c : ℕ) → c ≡ d + 48 → eqb (bitXor c 48) (c - 48) ≡ true
-        low d h c e = rw e (each-below (λ (d : ℕ). eqb (bitXor (d + 48) 48) (d + 48 - 48)) 2 refl d h)
-
-pub bit-figures : (w : List ℕ) → IsBits w → map (λ (c : ℕ). bitXor c 48) w ≡ figures w
-unfolding figures
-bit-figures [] a = refl
-bit-figures (c ∷ w) a = ap₂ (λ (b : ℕ) (t : List ℕ). b ∷ t) (bit-figure c (a .0)) (bit-figures w (a .1))
+in-base : (w : List ℕ) → IsBits w → All (InBase 2) w
+in-base w a = all-weaken _ (InBase 2) w (λ c h. (bit-is c h .0, omega (arith, bit-is c h .1))) a
 
 figures-bits : (w : List ℕ) → IsBits w → All (λ (b : ℕ). b < 2) (figures w)
-unfolding figures
-figures-bits [] a = tt
-figures-bits (c ∷ w) a = (omega (arith, bit-is c (a .0)), figures-bits w (a .1))
-
-pub length-figures : (w : List ℕ) → length (figures w) ≡ length w
-unfolding figures
-length-figures w = length-map w (λ (c : ℕ). c - 48)
-
-pub figures-join : (w v : List ℕ) → figures (w ++ v) ≡ figures w ++ figures v
-unfolding figures
-figures-join w v = map-join (λ (c : ℕ). c - 48) w v
+figures-bits w a = figures-below 2 w (in-base w a)
 
 -- zeros behind
 zeros-behind : (b k : ℕ) (ds : List ℕ) → ofDigits b 0 (ds ++ replicate k 0) ≡ ofDigits b 0 ds * b ^ k
@@ -127,7 +103,7 @@ bit-byte x n t r few lead read = record {
       let m : length v ≡ n = length-figures (take n p) ∙ length-take-le n p (omega (arith, l)) in
       let small : All (λ (b : ℕ). b < 2) v = figures-bits (take n p) bits in
       let is : r ≡ ofDigits 2 0 v =
-      read .read v (omega (arith, m)) (all-weaken _ _ v (λ b h. omega arith) small) (lead .leading p l a e ∙ ap (ofDigits 256 0) (bit-figures (take n p) bits)) in
+      read .read v (omega (arith, m)) (all-weaken _ _ v (λ b h. omega arith) small) (lead .leading p l a e ∙ ap (ofDigits 256 0) (figures-are 2 (take n p) (omega arith) (in-base (take n p) bits))) in
       let below : r < 2 ^ n = subst (λ (k : ℕ). r < 2 ^ k) m (subst (λ (y : ℕ). y < 2 ^ length v) (sym is) (of-lt 2 (lit< tt) v small)) in
       let whole : n + (8 - n) ≡ 8 = omega arith in
       let byte : r * 2 ^ (8 - n) < 256 = subst (λ (k : ℕ). r * 2 ^ (8 - n) < 2 ^ k) whole (shl-lt n (8 - n) below) in
@@ -150,27 +126,26 @@ bits-start {s} {from} {old} {first} h k = record { w = []; bits = tt; spells = s
 
 -- some bits more, behind whole bytes
 pub bits-more : {s : List ℕ} {from at : ℕ} {old : List ℕ} {first : ℕ} {new : List ℕ} {o : ℕ} {x n b : ℕ} → BitsTo s from at old first new o → (at - from) % 8 ≡ 0
-    → AreBytes s → at + 8 ≤ length s → o < length new → x ≡ ofDigits 256 0 (take 8 (drop at s)) → n ≡ run isBit (take 8 (drop at s)) → (n ≡ 0 → ⊥) → BitByte x n b
+    → AreBytes s → at + 8 ≤ length s → o < length new → x ≡ ofDigits 256 0 (take 8 (drop at s)) → Passes isBit s at n → n ≤ 8 → (n ≡ 0 → ⊥) → BitByte x n b
     → BitsTo s from (at + n) old first (set new o b) (o + 1)
-bits-more {s} {from} {at} {old} {first} {new} {o} {x} {n} {b} r whole are h room e q some byte =
+bits-more {s} {from} {at} {old} {first} {new} {o} {x} {n} {b} r whole are h room e q few some byte =
     let p : List ℕ = take 8 (drop at s) in
     let l : length p ≡ 8 = length-take-le 8 (drop at s) (simp length-drop (omega arith)) in
-    let ahead = run-ahead isBit s at n h q in
     let v : List ℕ = take n (drop at s) in
-    let m : length v ≡ n = length-take-le n (drop at s) (simp length-drop (omega (arith, ahead .0))) in
-    let front : take n p ≡ v = take-take n 8 (drop at s) (ahead .0) in
+    let m : length v ≡ n = passes-length q in
+    let front : take n p ≡ v = take-take n 8 (drop at s) few in
     let bs : List ℕ = figures v in
     let k : length bs ≡ n = length-figures v ∙ m in
     let is : b ≡ ofDigits 2 0 (bs ++ replicate (8 - length bs) 0) =
-    byte .padded p l (all-take _ 8 (drop at s) (all-drop _ at s are)) e (subst (All (λ (c : ℕ). isBit c ≡ true)) (sym front) (ahead .1))
+    byte .padded p l (all-take _ 8 (drop at s) (all-drop _ at s are)) e (subst (All (λ (c : ℕ). isBit c ≡ true)) (sym front) (q .all))
     ∙ ap₂ (λ (t : List ℕ) (i : ℕ). ofDigits 2 0 (figures t ++ replicate (8 - i) 0)) front (sym k) in
     record {
       w = r .w ++ v;
-      bits = all-append _ (r .w) v (r .bits) (ahead .1);
-      spells = spells-then (r .spells) (spells-run s at n (omega (arith, ahead .0)) (all-weaken _ _ v bit-itself (ahead .1)));
+      bits = all-append _ (r .w) v (r .bits) (q .all);
+      spells = spells-then (r .spells) (spells-run s at n (q .inside) (all-weaken _ _ v bit-itself (q .all)));
       puts = puts-as
           (ap (λ (y : ℕ). pack (figures (r .w)) ++ (y ∷ [])) is
-          ∙ sym (ap pack (figures-join (r .w) v) ∙ pack-more (figures (r .w)) bs (omega (arith, length-figures (r .w), r .count)) (omega (arith, k)) (omega (arith, k, ahead .0))))
+          ∙ sym (ap pack (figures-join (r .w) v) ∙ pack-more (figures (r .w)) bs (omega (arith, length-figures (r .w), r .count)) (omega (arith, k)) (omega (arith, k))))
           (puts-then (r .puts) (puts-wrote (record { now-is = refl; next-is = refl }) (omega arith)));
       count = omega (arith, r .count, length-append (r .w) v, m, r .spells .onward);
     }

@@ -1,18 +1,22 @@
 -- One element by its value: its word spells itself, has no white space, and reads as the element.
-use Prim.Native.Nat.{_+_, _-_, _<_, _≤_, ℕ}
+use Prim.Native.Nat.{_%_, _*_, _+_, _-_, _/_, _<_, _^_, _≤_, ℕ}
 use mathlib.Core.Bool.{Bool, _||_, cond, false, true}
 use mathlib.Core.List.{List, [], _∷_}
 use mathlib.Core.Path.{_∙_, _≡_, ap, refl}
-use lib.Dec.{eqb, lit≤}
+use lib.Bits.{bitOr}
+use lib.Dec.{eqb, lit≤, ltb}
+use borrow.Author.Tests.{eqb-true, ltb-true}
+use mir.Val.{boolByte}
 use lib.IntN.{pos, ℤ}
 use lib.ListN.{getD, length}
 use Rattle.content_reading.proofs.Spelling.{Itself, spells-one}
 use Rattle.content_reading.specs.Letters.{truthNumber}
 use Rattle.moving.specs.Contents.{InText}
 use Rattle.table.proofs.Bytes.{white-no}
-use Rattle.table.proofs.Laws.{cond-cases}
+use Rattle.table.proofs.Laws.{cond-cases, each-below}
 use Rattle.table.proofs.Words.{words-one}
 use Rattle.table.specs.Bytes.{isWhite}
+use Rattle.table.specs.Cell.{truthByte}
 use Rattle.table.specs.Result.{Result, bad, every, good}
 use Rattle.table.specs.Shape.{Truths}
 use Rattle.tabledata.specs.TableData.{textElements, truthLetter, truthWord}
@@ -59,3 +63,23 @@ truth-small c =
     cond-cases (λ (n : ℕ). n ≤ 3) (eqb c 84 || eqb c 116 || eqb c 49) 1 _ (λ _. lit≤ tt) (λ _.
     cond-cases (λ (n : ℕ). n ≤ 3) (eqb c 70 || eqb c 102 || eqb c 48) 0 _ (λ _. lit≤ tt) (λ _.
     cond-cases (λ (n : ℕ). n ≤ 3) (eqb c 63) 2 3 (λ _. lit≤ tt) (λ _. lit≤ tt)))
+
+-- ---- a letter's number as a sum of tests, of every byte by computation
+
+abbrev pub truths : ℕ → ℕ
+truths c = boolByte (eqb (bitOr c 32) 116) + boolByte (eqb c 49)
+
+abbrev pub lies : ℕ → ℕ
+lies c = boolByte (eqb (bitOr c 32) 102) + boolByte (eqb c 48)
+
+pub sum-small : (c : ℕ) → c < 256 → truths c * 2 + lies c * 3 + boolByte (eqb c 63) < 4
+sum-small c h = ltb-true _ _ (each-below (λ (c : ℕ). ltb (truths c * 2 + lies c * 3 + boolByte (eqb c 63)) 4) 256 refl c h)
+
+pub sum-is : (c : ℕ) → c < 256 → 3 - truths c * 2 - lies c * 3 - boolByte (eqb c 63) ≡ truthNumber c
+unfolding truthNumber
+sum-is c h = eqb-true _ _ (each-below (λ (c : ℕ). eqb (3 - truths c * 2 - lies c * 3 - boolByte (eqb c 63)) (truthNumber c)) 256 refl c h)
+
+-- and its byte
+pub truth-byte : (n : ℕ) → n < 3 → 4150342 / 2 ^ (8 * n) % 256 ≡ truthByte (pos n)
+unfolding truthByte
+truth-byte n h = eqb-true _ _ (each-below (λ (n : ℕ). eqb (4150342 / 2 ^ (8 * n) % 256) (truthByte (pos n))) 3 refl n h)

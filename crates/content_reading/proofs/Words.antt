@@ -8,11 +8,9 @@ use mathlib.Core.Path.{_∙_, _≡_, ap, refl, subst₂, sym}
 use lib.Dec.{lit<}
 use lib.IntN.{pos, ℤ}
 use lib.ListN.{getD, length, length-append, set}
-use borrow.Author.Tests.{ne-eqb}
 use Rattle.binary.proofs.Digits.{map-join}
 use Rattle.binary.specs.Binary.{bytesOf, groups, number}
 use Rattle.content_reading.proofs.Spelling.{spells-none, spells-one, spells-then}
-use Rattle.content_reading.specs.Letters.{truthNumber, truthOf}
 use Rattle.moving.proofs.Puts.{puts-as, puts-none, puts-then, puts-wrote}
 use Rattle.moving.specs.Contents.{AsBinary, ContentMoved, InText, Spells, contentForm}
 use Rattle.moving.specs.Puts.{Puts}
@@ -205,15 +203,7 @@ truth-byte-small zero = lit< tt
 truth-byte-small (suc zero) = lit< tt
 truth-byte-small (suc (suc n)) = lit< tt
 
--- a letter that has a byte has a number, and the byte is that of the number
-module _ (c : ℕ) (h : truthOf c ≡ 0 → ⊥) where
-  pub truth-some : truthNumber c ≡ 3 → ⊥
-  unfolding truthOf
-  truth-some e = h (rw e)
-
-  pub truth-puts : (new : List ℕ) (o b : ℕ) → b ≡ truthOf c → o < length new → Puts new o (toDigits 256 1 (number Truths (pos (truthNumber c)))) (set new o b) (o + 1)
-  unfolding number truthOf
-  truth-puts new o b e l =
-      let is : b ≡ truthByte (pos (truthNumber c)) = e ∙ rw (ne-eqb (truthNumber c) 3 truth-some) in
-      puts-as (ap (λ (b : ℕ). b ∷ []) is ∙ sym (one-byte (truthByte (pos (truthNumber c))) (truth-byte-small (truthNumber c))))
-      (puts-wrote (record { now-is = refl; next-is = refl }) (omega arith))
+pub truth-puts : (new : List ℕ) (o n b : ℕ) → b ≡ truthByte (pos n) → o < length new → Puts new o (toDigits 256 1 (number Truths (pos n))) (set new o b) (o + 1)
+unfolding number
+truth-puts new o n b e l =
+    puts-as (ap (λ (x : ℕ). x ∷ []) e ∙ sym (one-byte (truthByte (pos n)) (truth-byte-small n))) (puts-wrote (record { now-is = refl; next-is = refl }) (omega arith))

@@ -1,10 +1,11 @@
 -- What the contracts of the functions on eight characters say: digits, and the number that they spell.
-use Prim.Native.Nat.{_*_, _+_, _-_, _<_, _^_, _≤_, ℕ}
+use Prim.Native.Nat.{_+_, _-_, _<_, _≤_, ℕ}
 use mathlib.Core.Bool.{Bool, true}
 use mathlib.Core.List.{List, _++_, map}
 use mathlib.Core.Path.{_≡_}
 use lib.Bits.{bitXor}
 use lib.ListN.{drop, getD, length, replicate, take}
+use Rattle.content_reading.specs.Runs.{Passes}
 use Rattle.number.specs.Number.{ofDigits}
 use Rattle.table.specs.All.{All, AreBytes}
 use Rattle.table.specs.Bytes.{between, byte}
@@ -33,18 +34,16 @@ pub record BitByte (x n r : ℕ) : Type 0 where
   pub padded : (p : List ℕ) → length p ≡ 8 → AreBytes p → x ≡ ofDigits 256 0 p → All (λ (c : ℕ). isBit c ≡ true) (take n p)
       → r ≡ ofDigits 2 0 (figures (take n p) ++ replicate (8 - n) 0)
 
--- ---- a run of digits at a place: how many, and their number
+-- ---- a run of digits at a place
 
+-- x has the eight bytes from a place on
+abbrev pub EightAt : List ℕ → ℕ → ℕ → Type 0
+EightAt s place x = x ≡ ofDigits 256 0 (take 8 (drop place s))
+
+-- how many there are, and their number
 pub record FiguresAt (s : List ℕ) (place count number : ℕ) : Type 0 where
-  pub inside : place + count ≤ length s
-  pub digits : All (λ (c : ℕ). isDigit c ≡ true) (take count (drop place s))
+  pub digits : Passes isDigit s place count
   pub number-is : number ≡ ofDigits 10 0 (figures (take count (drop place s)))
-
--- with a number before it
-pub record FiguresBehind (high : ℕ) (s : List ℕ) (place count number : ℕ) : Type 0 where
-  pub low : ℕ
-  pub run : FiguresAt s place count low
-  pub number-is : number ≡ high * 10 ^ count + low
 
 -- the place after a minus, which only the signed kinds have
 pub data AfterMinus (signed : Bool) (s : List ℕ) (place : ℕ) : ℕ → Type 0 where

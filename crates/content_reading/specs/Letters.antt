@@ -1,17 +1,12 @@
 -- What the contracts of the functions on letters say.
-use Prim.Native.Nat.{_-_, _<_, _≤_, ℕ}
+use Prim.Native.Nat.{_-_, _<_, ℕ}
 use mathlib.Core.Bool.{_||_, cond, true}
 use mathlib.Core.List.{List, [], _∷_}
 use mathlib.Core.Path.{_≡_}
 use lib.Dec.{eqb}
-use lib.IntN.{pos}
-use lib.ListN.{drop, length, take}
 use Rattle.content_reading.specs.declared.Letter.{Letter}
 use Rattle.moving.specs.Contents.{Spells}
-use Rattle.table.specs.All.{All}
 use Rattle.table.specs.Bytes.{byte}
-use Rattle.table.specs.Cell.{truthByte}
-use Rattle.tabledata.specs.Contracts.{isPlain}
 use Rattle.tabledata.specs.TableData.{isText}
 
 -- "`T t 1` true, `F f 0` false", `?` unknown; 3 for any other letter
@@ -20,16 +15,6 @@ truthNumber c =
     cond (eqb c (byte "T") || eqb c (byte "t") || eqb c (byte "1")) 1
     (cond (eqb c (byte "F") || eqb c (byte "f") || eqb c (byte "0")) 0
     (cond (eqb c (byte "?")) 2 3))
-
--- the byte of a letter: "Booleans are `T`, `F`, `?`"; 0 for any other letter
-unfoldable pub truthOf : ℕ → ℕ
-truthOf c = cond (eqb (truthNumber c) 3) 0 (truthByte (pos (truthNumber c)))
-
--- the bytes from one place to another stand for themselves
-pub record PlainTo (s : List ℕ) (from next : ℕ) : Type 0 where
-  pub low : from ≤ next
-  pub high : next ≤ length s
-  pub themselves : All (λ (c : ℕ). isPlain c ≡ true) (take (next - from) (drop from s))
 
 -- a character that a cell may have, and the place after it
 abbrev pub LetterIs : List ℕ → ℕ → Letter → Type 0

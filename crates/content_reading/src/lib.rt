@@ -14,14 +14,17 @@ use table::Kind;
 use words::is_signed;
 use words::top_of;
 ghost use mathlib.Core.Path.{_≡_};
-ghost use Prim.Native.Nat.{_+_, _<_, _^_, _≤_};
+ghost use Prim.Native.Nat.{_+_, _-_, _<_, _^_, _≤_};
+ghost use lib.IntN.{pos};
 ghost use lib.ListN.{length};
-ghost use Rattle.content_reading.specs.Figures.{AfterMinus, BitByte, FiguresAt, FiguresBehind, Leading, ReadIn, isBit, isDigit};
-ghost use Rattle.content_reading.specs.Letters.{LetterIs, PlainTo, truthNumber, truthOf};
+ghost use Rattle.content_reading.specs.Figures.{AfterMinus, BitByte, EightAt, FiguresAt, Leading, ReadIn, isBit, isDigit};
+ghost use Rattle.content_reading.specs.Letters.{LetterIs, truthNumber};
+ghost use Rattle.content_reading.specs.Runs.{Passes};
 ghost use Rattle.eights.specs.Marks.{Marks};
 ghost use Rattle.moving.specs.Contents.{AsBinary, FindsOne, InText, MovesContent};
 ghost use Rattle.number.specs.Contracts.{isSigned, widthOf};
 ghost use Rattle.number.specs.Number.{withSign};
+ghost use Rattle.table.specs.Cell.{truthByte};
 ghost use Rattle.table.specs.Shape.{Bits, Text, Truths, Whole, shape};
 ghost use Rattle.tabledata.specs.Contracts.{isPlain};
 
@@ -33,6 +36,14 @@ fn leading_figures(x: u64, n: usize) -> u64
     ensures { λ r. ⌜ Leading x n r ⌝ }
 {
     (x ^ 0x3030303030303030) >> (64 - 8 * n)
+}
+
+// The same of fewer than eight, or none.
+fn few_figures(x: u64, n: usize) -> u64
+    requires { ⌜ n ≤ 7 ⌝ }
+    ensures { λ r. ⌜ Leading x n r ⌝ }
+{
+    ((x ^ 0x3030303030303030) >> 8) >> (56 - 8 * n)
 }
 
 // The high bit of each byte that is no digit.
@@ -58,82 +69,49 @@ struct Run {
     pub count: usize,
 }
 
-// The digits at a place, at most eight.
-fn eight_at(s: &[u8], at: usize) -> Run
-    requires { ⌜ at + 8 ≤ length (now s) ⌝ }
-    ensures { λ r. ⌜ FiguresAt (now (s .entry)) at (r .count) (r .number) × (r .count ≤ 8) ⌝ }
+// The number of m + 8 digits: the first m, and the eight behind them. x is what was loaded at the place: a second load would take both apart.
+fn two_runs(x: u64, s: &[u8], at: usize, m: usize) -> u64
+    requires { ⌜ (m ≤ 7) × Passes isDigit (now s) at (m + 8) × EightAt (now s) at x ⌝ }
+    ensures { λ r. ⌜ FiguresAt (now (s .entry)) at (m + 8) r ⌝ }
 {
-    let x = eight_bytes(s, at);
-    let count = first_of(no_digits(x));
-    if count == 0 {
+    let high = decimal_of(few_figures(x, m));
+    let low = decimal_of(leading_figures(eight_bytes(s, at + m), 8));
+    high * 100000000 + low
+}
+
+// Sixteen to nineteen digits. Where there are more, none is taken.
+fn long_run(x: u64, s: &[u8], at: usize) -> Run
+    requires { ⌜ (at + 24 ≤ length (now s)) × Passes isDigit (now s) at 16 × EightAt (now s) at x ⌝ }
+    ensures { λ r. ⌜ FiguresAt (now (s .entry)) at (r .count) (r .number) × (r .count ≤ 19) ⌝ }
+{
+    let m = first_of(no_digits(eight_bytes(s, at + 16)));
+    if 3 < m {
         return Run {
             number: 0,
             count: 0,
         };
     }
+    let high = two_runs(x, s, at, m);
+    let low = decimal_of(leading_figures(eight_bytes(s, at + m + 8), 8));
     Run {
-        number: decimal_of(leading_figures(x, count)),
-        count,
+        number: high * 100000000 + low,
+        count: m + 16,
     }
 }
 
-// A power of ten, which the compiler looks up.
-fn power(n: usize) -> u64
-    requires { ⌜ n ≤ 8 ⌝ }
-    ensures { λ r. ⌜ r ≡ 10 ^ n ⌝ }
+// Eight digits or more.
+fn more_digits(x: u64, s: &[u8], at: usize) -> Run
+    requires { ⌜ (at + 24 ≤ length (now s)) × Passes isDigit (now s) at 8 × EightAt (now s) at x ⌝ }
+    ensures { λ r. ⌜ FiguresAt (now (s .entry)) at (r .count) (r .number) × (r .count ≤ 19) ⌝ }
 {
-    match n {
-        0 => 1,
-        1 => 10,
-        2 => 100,
-        3 => 1000,
-        4 => 10000,
-        5 => 100000,
-        6 => 1000000,
-        7 => 10000000,
-        _ => 100000000,
-    }
-}
-
-// At most three digits behind a number of sixteen. Where there are more, none is taken: what follows is then no end of a word.
-fn last_digits(s: &[u8], at: usize, high: u64) -> Run
-    requires { ⌜ (at + 8 ≤ length (now s)) × (high < 10 ^ 16) ⌝ }
-    ensures { λ r. ⌜ FiguresBehind high (now (s .entry)) at (r .count) (r .number) × (r .count ≤ 3) ⌝ }
-{
-    let run = eight_at(s, at);
-    let number = run.number;
-    let count = run.count;
-    if 3 < count {
+    let m = first_of(no_digits(eight_bytes(s, at + 8)));
+    if m < 8 {
         return Run {
-            number: high,
-            count: 0,
+            number: two_runs(x, s, at, m),
+            count: m + 8,
         };
     }
-    Run {
-        number: high * power(count) + number,
-        count,
-    }
-}
-
-// The digits behind a number of eight, at most eleven.
-fn more_digits(s: &[u8], at: usize, high: u64) -> Run
-    requires { ⌜ (at + 16 ≤ length (now s)) × (high < 10 ^ 8) ⌝ }
-    ensures { λ r. ⌜ FiguresBehind high (now (s .entry)) at (r .count) (r .number) × (r .count ≤ 11) ⌝ }
-{
-    let run = eight_at(s, at);
-    let low = run.number;
-    let count = run.count;
-    let number = high * power(count) + low;
-    if count < 8 {
-        return Run { number, count };
-    }
-    let last = last_digits(s, at + 8, number);
-    let whole = last.number;
-    let more = last.count;
-    Run {
-        number: whole,
-        count: 8 + more,
-    }
+    long_run(x, s, at)
 }
 
 // The digits at a place, at most nineteen.
@@ -141,22 +119,15 @@ fn digits_at(s: &[u8], at: usize) -> Run
     requires { ⌜ at + 24 ≤ length (now s) ⌝ }
     ensures { λ r. ⌜ FiguresAt (now (s .entry)) at (r .count) (r .number) × (r .count ≤ 19) ⌝ }
 {
-    let run = eight_at(s, at);
-    let high = run.number;
-    let count = run.count;
+    let x = eight_bytes(s, at);
+    let count = first_of(no_digits(x));
     if count < 8 {
         return Run {
-            number: high,
+            number: decimal_of(few_figures(x, count)),
             count,
         };
     }
-    let behind = more_digits(s, at + 8, high);
-    let number = behind.number;
-    let more = behind.count;
-    Run {
-        number,
-        count: 8 + more,
-    }
+    more_digits(x, s, at)
 }
 
 // ---- one element by its value
@@ -207,16 +178,14 @@ pub fn text_integer(s: &[u8], at: usize, integer: Integer) -> One
     One::Element(with_sign(first != at, number), first + count)
 }
 
-// 1 for true, 0 for false, 2 for unknown, 3 for none: constants by keys, which the compiler makes one load.
+// 1 for true, 0 for false, 2 for unknown, 3 for none: sums of tests, and no branch.
 fn truth_number(c: u8) -> u8
     ensures { λ r. ⌜ r ≡ truthNumber c ⌝ }
 {
-    match c {
-        b'T' | b't' | b'1' => 1,
-        b'F' | b'f' | b'0' => 0,
-        b'?' => 2,
-        _ => 3,
-    }
+    let lower = c | 32;
+    let truth = ((lower == b't') as u8) + ((c == b'1') as u8);
+    let lie = ((lower == b'f') as u8) + ((c == b'0') as u8);
+    3 - truth * 2 - lie * 3 - ((c == b'?') as u8)
 }
 
 // One of `T t 1 F f 0 ?`; the byte after it is the caller's to look at.
@@ -250,7 +219,7 @@ fn no_plain(x: u64) -> u64
 // How many of the next eight bytes stand for themselves, up to the first that does not.
 fn plain_ahead(s: &[u8], at: usize) -> usize
     requires { ⌜ at + 8 ≤ length (now s) ⌝ }
-    ensures { λ r. ⌜ PlainTo (now (s .entry)) at (at + r) × (r ≤ 8) ⌝ }
+    ensures { λ r. ⌜ Passes isPlain (now (s .entry)) at r × (r ≤ 8) ⌝ }
 {
     first_of(no_plain(eight_bytes(s, at)))
 }
@@ -258,15 +227,15 @@ fn plain_ahead(s: &[u8], at: usize) -> usize
 // The end of the run of bytes that stand for themselves, or a place in the last eight bytes.
 fn plain_end(s: &[u8], from: usize) -> usize
     requires { ⌜ from ≤ length (now s) ⌝ }
-    ensures { λ r. ⌜ PlainTo (now (s .entry)) from r ⌝ }
+    ensures { λ r. ⌜ (from ≤ r) × Passes isPlain (now (s .entry)) from (r - from) ⌝ }
 {
     let mut at = from;
     while 8 <= s.len() - at {
         let n = plain_ahead(s, at);
-        at += n;
         if n < 8 {
-            return at;
+            return at + n;
         }
+        at += 8;
     }
     at
 }
@@ -389,18 +358,20 @@ fn read_bits(s: &[u8], from: usize, row: &mut [u8], first: usize) -> Content
         let x = eight_bytes(s, at);
         let n = first_of(no_bits(x));
         if n == 0 {
-            if at == from {
-                return Content::Careful;
-            }
-            return Content::Elements(at - from, at, o);
+            break;
         }
-        row[o] = bit_byte(x, n);
-        o += 1;
-        at += n;
         if n < 8 {
-            return Content::Elements(at - from, at, o);
+            row[o] = bit_byte(x, n);
+            return Content::Elements(at + n - from, at + n, o + 1);
         }
+        row[o] = bit_byte(x, 8);
+        o += 1;
+        at += 8;
     }
+    if at == from {
+        return Content::Careful;
+    }
+    Content::Elements(at - from, at, o)
 }
 
 // ---- words with one space between
@@ -432,16 +403,12 @@ fn read_integers(s: &[u8], from: usize, integer: Integer, row: &mut [u8], first:
     }
 }
 
-// A boolean's byte for its letter, 0 for no letter: constants by keys, which the compiler makes one load.
-fn truth_letter(c: u8) -> u8
-    ensures { λ r. ⌜ r ≡ truthOf c ⌝ }
+// `F`, `T` and `?` for 0, 1 and 2.
+fn truth_byte(number: u8) -> u8
+    requires { ⌜ number < 3 ⌝ }
+    ensures { λ r. ⌜ r ≡ truthByte (pos number) ⌝ }
 {
-    match c {
-        b'T' | b't' | b'1' => b'T',
-        b'F' | b'f' | b'0' => b'F',
-        b'?' => b'?',
-        _ => 0,
-    }
+    ((0x3f5446u32 >> (8 * number)) % 256) as u8
 }
 
 // Each letter's byte.
@@ -459,11 +426,11 @@ fn read_truths(s: &[u8], from: usize, row: &mut [u8], first: usize) -> Content
         if row.len() <= o {
             return Content::Careful;
         }
-        let b = truth_letter(s[at]);
-        if b == 0 {
+        let z = truth_number(s[at]);
+        if z == 3 {
             return Content::Careful;
         }
-        row[o] = b;
+        row[o] = truth_byte(z);
         o += 1;
         count += 1;
         if s[at + 1] != b' ' {

@@ -1,28 +1,53 @@
--- `content_reading::digits_at` meets its contract: eight digits, and the rest behind those.
+-- `content_reading::digits_at` meets its contract: fewer than eight digits are read at once, more in parts.
+use Prim.Native.Nat.{_≤_, ℕ}
 use native.Mathlib.Omega.{arith}
+use mathlib.Core.List.{List}
 use mathlib.Core.Path.{_≡_, subst}
-use Prim.Native.Nat.{ℕ}
 use denote.Ref.{now}
-use Rattle.content_reading.proofs.Digits.{behind-all, figures-lt}
-use Rattle.content_reading.specs.Figures.{FiguresAt}
+use Rattle.content_reading.proofs.Digits.{figures-read}
+use Rattle.content_reading.proofs.Runs.{passes-ahead}
+use Rattle.content_reading.specs.Figures.{isDigit}
+use Rattle.content_reading.specs.Runs.{Passes}
+use Rattle.eights.proofs.Fronts.{are-bytes}
+use Rattle.table.specs.All.{AreBytes}
 use borrow.Author.Needs.{needs}
 use Rattle.content_reading.proofs.digits_at.Statement.{statement}
 use Rattle.content_reading.proofs.digits_at.Tie as tie
 
--- eight of them
-eight : (c : tie.Else1) → FiguresAt (now (c .before .before .before .args .s)) (c .before .before .before .args .at) 8 (c .before .eight-at .result .number)
-eight c =
-    let n : c .before .eight-at .result .count ≡ 8 = omega (arith, c .before .eight-at .ensures .1) in
-    subst (λ (k : ℕ). FiguresAt (now (c .before .before .before .args .s)) (c .before .before .before .args .at) k (c .before .eight-at .result .number)) n (c .before .eight-at .ensures .0)
+-- the digits of the next eight characters
+module _ (c : tie.After-first-of) where
+  abbrev start : tie.Start
+  start = c .before .before .before .before
+
+  abbrev s : List ℕ
+  s = now (start .args .s)
+
+  bytes : AreBytes s
+  bytes = are-bytes s (λ i. omega (arith, c .before .before .before .shared-slice-known .given i))
+
+  found : Passes isDigit s (start .args .at) (c .first-of .result) × (c .first-of .result ≤ 8)
+  found = passes-ahead s (start .args .at) bytes (omega arith) (c .before .before .eight-bytes .ensures) (c .before .no-digits .ensures) (c .first-of .ensures)
 
 returns : tie.Need-returns
-returns c = (c .before .eight-at .ensures .0, omega arith)
+returns c =
+    let f = c .before .before .before in
+    (figures-read (bytes f) (omega arith) (f .before .before .eight-bytes .ensures) (found f .1) (found f .0) (c .before .few-figures .ensures) (c .decimal-of .ensures), omega arith)
 
 more-digits-requires : tie.Need-more-digits-requires
-more-digits-requires c κs = (omega arith, figures-lt (eight c))
-
-returns-2 : tie.Need-returns-2
-returns-2 c = (behind-all (eight (c .before)) (c .more-digits .ensures .0), omega (arith, c .more-digits .ensures .1))
+more-digits-requires c κs =
+    let f = c .before in
+    let n : f .first-of .result ≡ 8 = omega (arith, found f .1) in
+    (omega arith, subst (Passes isDigit (s f) (start f .args .at)) n (found f .0), f .before .before .eight-bytes .ensures)
 
 pub digits-at-spec : {M : Type 1} → statement M
-digits-at-spec = tie.close (tie.spec (λ c κs. search needs) returns (λ c. search needs) more-digits-requires (λ c. search needs) returns-2)
+digits-at-spec =
+    tie.close
+    (tie.spec
+    (λ c κs. search needs)
+    (λ c κs. search needs)
+    (λ c κs. search needs)
+    (λ c κs. search needs)
+    (λ c κs. search needs)
+    returns
+    more-digits-requires
+    (λ c. search needs))

@@ -17,11 +17,11 @@ bytes c = are-bytes (now (c .before .args .s)) (λ i. omega (arith, c .shared-sl
 
 returns : tie.Need-returns
 unfolding isText between
-returns c = (lt-letter _ _ _ (bytes (c .before .before)) (omega arith) (c .before .four-bytes .ensures) (c .if1 .taken), refl, omega arith)
+returns c = (lt-letter _ _ _ (bytes (c .before .before)) (omega arith) (c .before .four-bytes .ensures) (omega arith), refl, omega arith)
 
 returns-2 : tie.Need-returns-2
 unfolding isText between
-returns-2 c = (gt-letter _ _ _ (bytes (c .before .before .before)) (omega arith) (c .before .before .four-bytes .ensures) (c .if2 .taken), refl, omega arith)
+returns-2 c = (gt-letter _ _ _ (bytes (c .before .before .before)) (omega arith) (c .before .before .four-bytes .ensures) (omega arith), refl, omega arith)
 
 returns-5 : tie.Need-returns-5
 unfolding isText between

@@ -2,14 +2,14 @@
 use Prim.Native.Nat.{_%_, _+_, _-_, _≤_, ℕ}
 use native.Mathlib.Omega.{arith}
 use mathlib.Core.List.{List}
-use mathlib.Core.Path.{_≡_}
+use mathlib.Core.Path.{_≡_, refl, subst}
 use denote.Ref.{now}
-use lib.ListN.{drop, length, set, take}
-use Rattle.content_reading.proofs.Chars.{run-ahead, run-marked}
+use lib.ListN.{length, set}
+use Rattle.content_reading.proofs.Runs.{passes-ahead}
 use Rattle.content_reading.proofs.Packing.{BitsTo, bits-more, bits-moved, bits-start}
-use Rattle.content_reading.specs.Figures.{isBit}
+use Rattle.content_reading.specs.Figures.{BitByte, isBit}
 use Rattle.eights.proofs.Fronts.{are-bytes}
-use Rattle.eights.specs.Marks.{run}
+use Rattle.content_reading.specs.Runs.{Passes}
 use Rattle.moving.proofs.Puts.{puts-before}
 use Rattle.table.specs.All.{AreBytes}
 use borrow.Author.Needs.{needs}
@@ -43,21 +43,6 @@ returns-2 c = puts-before (c .before .before .loop .inv .0 .puts)
 eight-bytes-requires : tie.Need-eight-bytes-requires Inv-loop μ-loop
 eight-bytes-requires c κs = omega (arith, c .before .before .loop .inv .0 .spells .inside)
 
-same-length-3 : tie.Need-same-length-3 Inv-loop μ-loop
-same-length-3 c = c .before .before .before .before .before .before .before .loop .inv .0 .puts .long
-
-returns-3 : tie.Need-returns-3 Inv-loop μ-loop
-returns-3 c = puts-before (c .before .before .before .before .before .before .before .loop .inv .0 .puts)
-
-sub-t14 : tie.Need-sub-t14 Inv-loop μ-loop
-sub-t14 c = c .before .before .before .before .before .before .before .loop .inv .0 .spells .onward
-
-same-length-4 : tie.Need-same-length-4 Inv-loop μ-loop
-same-length-4 c = c .before .before .before .before .before .before .before .loop .inv .0 .puts .long
-
-returns-4 : tie.Need-returns-4 Inv-loop μ-loop
-returns-4 c = bits-moved (c .before .before .before .before .before .before .before .loop .inv .0) (c .if4 .left)
-
 -- how many bits there are of the next eight characters
 module _ (c : tie.After-first-of Inv-loop μ-loop) where
   abbrev at-loop : tie.At-loop Inv-loop μ-loop
@@ -72,48 +57,82 @@ module _ (c : tie.After-first-of Inv-loop μ-loop) where
   inside : at-loop .loop .at + 8 ≤ length s
   inside = omega (arith, at-loop .loop .inv .0 .spells .inside)
 
-  counted : c .first-of .result ≡ run isBit (take 8 (drop (at-loop .loop .at) s))
-  counted = run-marked isBit s (at-loop .loop .at) bytes inside (c .before .before .eight-bytes .ensures) (c .before .no-bits .ensures) (c .first-of .ensures)
-
-  few : c .first-of .result ≤ 8
-  few = run-ahead isBit s (at-loop .loop .at) (c .first-of .result) inside counted .0
+  found : Passes isBit s (at-loop .loop .at) (c .first-of .result) × (c .first-of .result ≤ 8)
+  found = passes-ahead s (at-loop .loop .at) bytes inside (c .before .before .eight-bytes .ensures) (c .before .no-bits .ensures) (c .first-of .ensures)
 
 bit-byte-requires : tie.Need-bit-byte-requires Inv-loop μ-loop
-bit-byte-requires c κs = (omega arith, few (c .before))
+bit-byte-requires c κs = (omega arith, found (c .before .before) .1)
 
 -- and their byte
-turned : (c : tie.After-bit-byte Inv-loop μ-loop) → let f = c .before .before in let l = at-loop f .loop in let a = at-loop f .before .before .before .args in
-    BitsTo (now (a .s)) (a .from) (l .at + f .first-of .result) (now (a .row)) (a .first) (set (l .row) (l .o) (c .bit-byte .result)) (l .o + 1)
-turned c =
-    let f = c .before .before in let r = at-loop f .loop .inv in
-    bits-more (r .0) (r .1) (bytes f) (inside f) (omega arith) (f .before .before .eight-bytes .ensures) (counted f) (c .before .if3 .left) (c .bit-byte .ensures)
+turned : (f : tie.After-first-of Inv-loop μ-loop) (n b : ℕ) → f .first-of .result ≡ n → (n ≡ 0 → ⊥) → BitByte (f .before .before .eight-bytes .result) n b → let l = at-loop f .loop in
+    let a = at-loop f .before .before .before .args in BitsTo (now (a .s)) (a .from) (l .at + n) (now (a .row)) (a .first) (set (l .row) (l .o) b) (l .o + 1)
+turned f n b e some byte =
+    let r = at-loop f .loop .inv in
+    bits-more (r .0) (r .1) (bytes f) (inside f) (omega arith) (f .before .before .eight-bytes .ensures) (subst (Passes isBit _ _) e (found f .0)) (omega (arith, e, found f .1)) some byte
 
-slice-write-row : tie.Need-slice-write-row Inv-loop μ-loop
-slice-write-row c = search needs
+-- fewer than eight
+module _ (c : tie.After-bit-byte Inv-loop μ-loop) where
+  abbrev last-few : tie.After-first-of Inv-loop μ-loop
+  last-few = c .before .before .before
+
+  last : let f = last-few in let l = at-loop f .loop in let a = at-loop f .before .before .before .args in
+      BitsTo (now (a .s)) (a .from) (l .at + f .first-of .result) (now (a .row)) (a .first) (set (l .row) (l .o) (c .bit-byte .result)) (l .o + 1)
+  last = turned last-few _ _ refl (c .before .before .if3 .left) (c .bit-byte .ensures)
+
+add-t15 : tie.Need-add-t15 Inv-loop μ-loop
+add-t15 c = let h = last c .spells .inside in search needs
+
+sub-t16 : tie.Need-sub-t16 Inv-loop μ-loop
+sub-t16 c = last c .spells .onward
+
+add-t17 : tie.Need-add-t17 Inv-loop μ-loop
+add-t17 c = let h = last c .spells .inside in search needs
+
+add-t18 : tie.Need-add-t18 Inv-loop μ-loop
+add-t18 c = let h = last c .puts .room in search needs
+
+same-length-3 : tie.Need-same-length-3 Inv-loop μ-loop
+same-length-3 c = last c .puts .long
+
+returns-3 : tie.Need-returns-3 Inv-loop μ-loop
+returns-3 c = bits-moved (last c) (λ e. omega (arith, at-loop (last-few c) .loop .inv .0 .spells .onward, e, c .before .before .if3 .left))
+
+-- eight
+module _ (c : tie.After-bit-byte2 Inv-loop μ-loop) where
+  abbrev all-eight : tie.After-first-of Inv-loop μ-loop
+  all-eight = c .before .before .before
+
+  more : let f = all-eight in let l = at-loop f .loop in let a = at-loop f .before .before .before .args in
+      BitsTo (now (a .s)) (a .from) (l .at + 8) (now (a .row)) (a .first) (set (l .row) (l .o) (c .bit-byte2 .result)) (l .o + 1)
+  more = turned all-eight 8 _ (omega (arith, found all-eight .1)) (λ e. omega arith) (c .bit-byte2 .ensures)
 
 add-o : tie.Need-add-o Inv-loop μ-loop
-add-o c = let h = turned c .puts .room in search needs
+add-o c = let h = more c .puts .room in search needs
 
 add-at : tie.Need-add-at Inv-loop μ-loop
-add-at c = let h = turned c .spells .inside in search needs
-
-sub-t17 : tie.Need-sub-t17 Inv-loop μ-loop
-sub-t17 c = turned (c .before) .spells .onward
-
-same-length-5 : tie.Need-same-length-5 Inv-loop μ-loop
-same-length-5 c = turned (c .before) .puts .long
-
-returns-5 : tie.Need-returns-5 Inv-loop μ-loop
-returns-5 c =
-    let f = c .before .before .before in
-    bits-moved (turned (c .before)) (λ e. omega (arith, at-loop f .loop .inv .0 .spells .onward, e, c .before .before .if3 .left))
+add-at c = let h = more c .spells .inside in search needs
 
 loop-less : tie.Need-loop-less Inv-loop μ-loop
-loop-less c = omega (arith, inside (c .before .before .before))
+loop-less c = omega (arith, more c .spells .inside)
 
 loop-again : tie.Need-loop-again Inv-loop μ-loop
 loop-again c =
-    let f = c .before .before .before in let r = at-loop f .loop .inv in (turned (c .before), omega (arith, r .1, r .0 .spells .onward, few f))
+    let r = at-loop (all-eight c) .loop .inv in (more c, omega (arith, r .1, r .0 .spells .onward))
+
+same-length-4 : tie.Need-same-length-4 Inv-loop μ-loop
+same-length-4 c = at-loop (c .before .before) .loop .inv .0 .puts .long
+
+returns-4 : tie.Need-returns-4 Inv-loop μ-loop
+returns-4 c = puts-before (at-loop (c .before .before) .loop .inv .0 .puts)
+
+sub-t22 : tie.Need-sub-t22 Inv-loop μ-loop
+sub-t22 c = at-loop (c .before .before) .loop .inv .0 .spells .onward
+
+same-length-5 : tie.Need-same-length-5 Inv-loop μ-loop
+same-length-5 c = at-loop (c .before .before) .loop .inv .0 .puts .long
+
+returns-5 : tie.Need-returns-5 Inv-loop μ-loop
+returns-5 c = bits-moved (at-loop (c .before .before) .loop .inv .0) (c .if5 .left)
 
 pub read-bits-spec : {M : Type 1} → statement M
 read-bits-spec =
@@ -130,17 +149,22 @@ read-bits-spec =
     eight-bytes-requires
     (λ c κs. search needs)
     (λ c κs. search needs)
+    bit-byte-requires
+    (λ c. search needs)
+    add-t15
+    sub-t16
+    add-t17
+    add-t18
     same-length-3
     returns-3
-    sub-t14
-    same-length-4
-    returns-4
-    bit-byte-requires
-    slice-write-row
+    (λ c κs. search needs)
+    (λ c. search needs)
     add-o
     add-at
-    sub-t17
-    same-length-5
-    returns-5
     loop-less
-    loop-again)
+    loop-again
+    same-length-4
+    returns-4
+    sub-t22
+    same-length-5
+    returns-5)

@@ -4,7 +4,8 @@ use native.Mathlib.Omega.{arith}
 use mathlib.Core.Path.{subst}
 use denote.Ref.{now}
 use lib.ListN.{length}
-use Rattle.content_reading.proofs.Chars.{TextTo, plain-copied, text-letter, text-moved, text-run, text-start}
+use Rattle.content_reading.proofs.Chars.{TextTo, text-letter, text-moved, text-run, text-start}
+use Rattle.content_reading.proofs.Runs.{passes-length}
 use Rattle.content_reading.specs.Letters.{LetterIs}
 use Rattle.content_reading.specs.declared.Letter.{Letter}
 use Rattle.moving.proofs.Puts.{puts-before}
@@ -25,10 +26,10 @@ plain-end-requires : tie.Need-plain-end-requires Inv-loop μ-loop
 plain-end-requires c κs = c .loop .inv .spells .inside
 
 sub-n : tie.Need-sub-n Inv-loop μ-loop
-sub-n c = c .plain-end .ensures .low
+sub-n c = c .plain-end .ensures .0
 
 sub-if1 : tie.Need-sub-if1 Inv-loop μ-loop
-sub-if1 c = c .plain-end .ensures .high
+sub-if1 c = let p = c .plain-end .ensures in omega (arith, p .0, p .1 .inside)
 
 same-length : tie.Need-same-length Inv-loop μ-loop
 same-length c = c .before .before .loop .inv .puts .long
@@ -40,7 +41,7 @@ sub-if2 : tie.Need-sub-if2 Inv-loop μ-loop
 sub-if2 c = let p = c .before .before .loop .inv .puts in omega (arith, p .room, p .long)
 
 add-if2 : tie.Need-add-if2 Inv-loop μ-loop
-add-if2 c = let h = c .before .plain-end .ensures .high in search needs
+add-if2 c = let p = c .before .plain-end .ensures in let h = p .1 .inside in search needs
 
 same-length-2 : tie.Need-same-length-2 Inv-loop μ-loop
 same-length-2 c = c .before .before .before .loop .inv .puts .long
@@ -52,15 +53,15 @@ copy-wide-requires : tie.Need-copy-wide-requires Inv-loop μ-loop
 copy-wide-requires c κs =
     let p = c .before .before .before .plain-end .ensures in
     let q = c .before .before .before .before .loop .inv .puts in
-    (omega (arith, p .low, p .high), omega (arith, q .room, q .long))
+    (omega (arith, p .0, p .1 .inside), omega (arith, q .room, q .long))
 
 -- the run is copied
 copied : (c : tie.After-copy-wide Inv-loop μ-loop) → let at-plain = c .before .before .before .before in let a = at-plain .before .before .before .before .args in
     TextTo (now (a .s)) (a .from) (at-plain .plain-end .result) (now (a .row)) (a .first) (c .copy-wide .last .1 .1 .1 .0) (c .copy-wide .result)
-copied c = let at-plain = c .before .before .before .before in text-run (at-plain .before .loop .inv) (at-plain .plain-end .ensures) (c .copy-wide .ensures)
+copied c = let at-plain = c .before .before .before .before in text-run (at-plain .before .loop .inv) (at-plain .plain-end .ensures .0) (at-plain .plain-end .ensures .1) (c .copy-wide .ensures)
 
 shared-slice-read-if3 : tie.Need-shared-slice-read-if3 Inv-loop μ-loop
-shared-slice-read-if3 c = let p = c .before .before .before .before .before .before .before .plain-end .ensures in omega (arith, p .high)
+shared-slice-read-if3 c = let p = c .before .before .before .before .before .before .before .plain-end .ensures in omega (arith, p .0, p .1 .inside)
 
 same-length-3 : tie.Need-same-length-3 Inv-loop μ-loop
 same-length-3 c = copied (c .before .before .before .before .before) .puts .long
@@ -78,7 +79,7 @@ returns-4 : tie.Need-returns-4 Inv-loop μ-loop
 returns-4 c = text-moved (copied (c .before .before .before .before .before))
 
 letter-at-requires : tie.Need-letter-at-requires Inv-loop μ-loop
-letter-at-requires c κs = let p = c .before .before .before .before .before .before .before .before .plain-end .ensures in omega (arith, p .high)
+letter-at-requires c κs = let p = c .before .before .before .before .before .before .before .before .plain-end .ensures in omega (arith, p .0, p .1 .inside)
 
 same-length-5 : tie.Need-same-length-5 Inv-loop μ-loop
 same-length-5 c = copied (c .before .before .before .before .before .before .before) .puts .long
@@ -97,7 +98,7 @@ room : (c : tie.After-copy-wide Inv-loop μ-loop) → c .copy-wide .result < len
 room c =
     let at-plain = c .before .before .before .before in
     let q = c .copy-wide .ensures in
-    omega (arith, plain-copied (at-plain .plain-end .ensures) q, q .long)
+    omega (arith, passes-length (at-plain .plain-end .ensures .1), q .next-is, q .long)
 
 slice-write-row : tie.Need-slice-write-row Inv-loop μ-loop
 slice-write-row c = room (c .before .before .before .before .before .before .before .before)
@@ -108,7 +109,7 @@ add-o c = let h = copied (c .before .before .before .before .before .before .bef
 loop-less : tie.Need-loop-less Inv-loop μ-loop
 loop-less c =
     let l = letter c in let p = c .before .before .before .before .before .before .before .before .before .before .before .before .plain-end .ensures in
-    omega (arith, p .low, l .2, l .0 .inside)
+    omega (arith, p .0, l .2, l .0 .inside)
 
 loop-again : tie.Need-loop-again Inv-loop μ-loop
 loop-again c = let at-copy = c .before .before .before .before .before .before .before .before in text-letter (copied at-copy) (letter c) (room at-copy)

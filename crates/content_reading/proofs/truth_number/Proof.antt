@@ -1,37 +1,30 @@
--- `content_reading::truth_number` meets its contract: the definition computes at each letter named, and at the rest every test fails.
-use mathlib.Core.Logic.{inl, inr, ⊎-elim}
-use mathlib.Core.Path.{sym}
-use borrow.Author.Tests.{ne-eqb}
-use Rattle.content_reading.specs.Letters.{truthNumber}
+-- `content_reading::truth_number` meets its contract: at most one test holds, and the sum is computed of every byte.
+use Prim.Native.Nat.{_*_, _+_, _<_}
+use native.Mathlib.Omega.{arith}
+use lib.Dec.{eqb}
+use mir.Val.{boolByte}
+use Rattle.content_reading.proofs.Singles.{lies, sum-is, sum-small, truths}
+use borrow.Author.Needs.{needs}
 use Rattle.content_reading.proofs.truth_number.Statement.{statement}
 use Rattle.content_reading.proofs.truth_number.Tie as tie
 
-returns : tie.Need-returns
-unfolding truthNumber
-returns c = ⊎-elim (λ e. rw e) (λ e. ⊎-elim (λ f. rw f) (λ f. rw f) e) (c .match .keys1)
-
-returns-2 : tie.Need-returns-2
-unfolding truthNumber
-returns-2 c = ⊎-elim (λ e. rw e) (λ e. ⊎-elim (λ f. rw f) (λ f. rw f) e) (c .match .keys2)
-
-returns-3 : tie.Need-returns-3
-unfolding truthNumber
-returns-3 c = rw (c .match .keys3)
-
-returns-4 : tie.Need-returns-4
-unfolding truthNumber
-returns-4 c =
-    let n = c .match .rest in let t = n .0 .0 .1 in let f = n .0 .1 in
-    sym
-    (rw (
-      ne-eqb _ 84 (λ e. t (inr (inl e))),
-      ne-eqb _ 116 (λ e. t (inr (inr e))),
-      ne-eqb _ 49 (λ e. t (inl e)),
-      ne-eqb _ 70 (λ e. f (inr (inl e))),
-      ne-eqb _ 102 (λ e. f (inr (inr e))),
-      ne-eqb _ 48 (λ e. f (inl e)),
-      ne-eqb _ 63 (n .1),
-    ))
+small : (c : tie.Start) → let x = c .args .c in truths x * 2 + lies x * 3 + boolByte (eqb x 63) < 4
+small c = sum-small (c .args .c) (c .fits .c .fits)
 
 pub truth-number-spec : {M : Type 1} → statement M
-truth-number-spec = tie.close (tie.spec returns returns-2 returns-3 returns-4)
+truth-number-spec =
+    tie.close
+    (tie.spec
+    (λ c. search needs)
+    (λ c. search needs)
+    (λ c. record { fits = omega (arith, small c) })
+    (λ c. search needs)
+    (λ c. search needs)
+    (λ c. record { fits = omega (arith, small c) })
+    (λ c. record { fits = omega (arith, small c) })
+    (λ c. omega (arith, small c))
+    (λ c. record { fits = omega (arith, small c) })
+    (λ c. omega (arith, small c))
+    (λ c. search needs)
+    (λ c. omega (arith, small c))
+    (λ c. sum-is (c .args .c) (c .fits .c .fits)))
