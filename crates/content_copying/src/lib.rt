@@ -33,7 +33,7 @@ ghost use lib.ListN.{drop, length, take};
 ghost use mathlib.Core.List.{[], _++_, _∷_};
 ghost use mathlib.Core.Path.{_≡_};
 
-// ---- characters
+// ---- characters. The loops over eight bytes go on by eight and not by what was found, so that a turn need not wait for the one before.
 
 // The end of the run of bytes that are read and written as themselves, or a place in the last eight bytes.
 fn itself_end(s: &[u8], from: usize) -> usize
@@ -43,10 +43,10 @@ fn itself_end(s: &[u8], from: usize) -> usize
     let mut at = from;
     while 8 <= s.len() - at {
         let n = text_ahead(s, at);
-        at += n;
         if n < 8 {
-            return at;
+            return at + n;
         }
+        at += 8;
     }
     at
 }
@@ -117,10 +117,10 @@ fn bits_end(s: &[u8], from: usize) -> usize
     let mut at = from;
     while 8 <= s.len() - at {
         let n = bits_ahead(s, at);
-        at += n;
         if n < 8 {
-            return at;
+            return at + n;
         }
+        at += 8;
     }
     at
 }
