@@ -2,3 +2,4 @@ pub mod Runs
 pub mod Texts
 pub mod Bits
 pub mod Spaced
+pub mod Own

@@ -37,6 +37,13 @@ module _ {test : ℕ → Bool} {s : List ℕ} {i j : ℕ} (p : PassTo test s i j
         q .0,
       )
 
+  -- all of them
+  pub pass-eight : (r : ℕ) → j + 8 ≤ length s → r ≡ run test (take 8 (drop j s)) → 8 ≤ r → PassTo test s i (j + 8)
+  pass-eight r h e k =
+      let q = pass-more r h e in
+      let eight : r ≡ 8 = omega (arith, q .1) in
+      subst (λ (n : ℕ). PassTo test s i (j + n)) eight (q .0)
+
   pub pass-long : length (take (j - i) (drop i s)) ≡ j - i
   pass-long = length-take-le (j - i) (drop i s) (simp length-drop (omega (arith, p .high)))
 

@@ -18,22 +18,24 @@ use number::Elements;
 use number::Integer;
 use number::elements_of;
 use table::Kind;
-ghost use Prim.Native.Nat.{_+_, _≤_};
+ghost use Prim.Native.Nat.{_+_, _<_, _≤_};
 ghost use Rattle.content_copying.specs.Passing.{PassTo};
+ghost use Rattle.content_copying.specs.Wording.{CopiesWord, InRange, NumeralTo, OwnTo, isDigit};
 ghost use Rattle.content_reading.specs.Figures.{isBit};
 ghost use Rattle.content_reading.specs.Letters.{LetterIs};
 ghost use Rattle.content_showing.specs.Showing.{isItself};
-ghost use Rattle.eights.specs.Marks.{run};
+ghost use Rattle.eights.specs.Marks.{Marks, run};
 ghost use Rattle.moving.specs.Contents.{AsText, InText, MovesContent};
 ghost use Rattle.moving.specs.Puts.{Puts};
 ghost use Rattle.number.specs.Contracts.{isSigned, widthOf};
 ghost use Rattle.table.specs.Shape.{Bits, Text, Truths, Whole, shape};
 ghost use Rattle.tabledata.specs.TableData.{truthText};
 ghost use lib.ListN.{drop, length, take};
+ghost use mathlib.Core.Bool.{true};
 ghost use mathlib.Core.List.{[], _++_, _∷_};
 ghost use mathlib.Core.Path.{_≡_};
 
-// ---- characters
+// ---- characters. The loops over eight bytes go on by eight and not by what was found, so that a turn need not wait for the one before.
 
 // The end of the run of bytes that are read and written as themselves, or a place in the last eight bytes.
 fn itself_end(s: &[u8], from: usize) -> usize
@@ -43,10 +45,10 @@ fn itself_end(s: &[u8], from: usize) -> usize
     let mut at = from;
     while 8 <= s.len() - at {
         let n = text_ahead(s, at);
-        at += n;
         if n < 8 {
-            return at;
+            return at + n;
         }
+        at += 8;
     }
     at
 }
@@ -117,10 +119,10 @@ fn bits_end(s: &[u8], from: usize) -> usize
     let mut at = from;
     while 8 <= s.len() - at {
         let n = bits_ahead(s, at);
-        at += n;
         if n < 8 {
-            return at;
+            return at + n;
         }
+        at += 8;
     }
     at
 }
@@ -145,9 +147,136 @@ fn copy_bits(s: &[u8], from: usize, row: &mut [u8], first: usize) -> Content
     Content::Elements(n, end, e)
 }
 
-// ---- words, one space between
+// ---- integers: a word of digits that is the shortest of its integer goes as it stands, without its integer
 
-// The space behind the last is left out.
+// The high bit of each byte that is no digit.
+fn no_digits(x: u64) -> u64
+    ensures { λ r. ⌜ Marks isDigit x r ⌝ }
+{
+    let t = x ^ 0x3030303030303030;
+    (((t & 0x7f7f7f7f7f7f7f7f) + 0x7676767676767676) | t) & 0x8080808080808080
+}
+
+// How many of the next eight bytes are digits, up to the first that is none.
+fn digits_ahead(s: &[u8], at: usize) -> usize
+    requires { ⌜ at + 8 ≤ length (now s) ⌝ }
+    ensures { λ r. ⌜ r ≡ run isDigit (take 8 (drop at (now (s .entry)))) ⌝ }
+{
+    first_of(no_digits(eight_bytes(s, at)))
+}
+
+// The end of the run of digits, or a place in the last eight bytes.
+fn digits_end(s: &[u8], from: usize) -> usize
+    requires { ⌜ from ≤ length (now s) ⌝ }
+    ensures { λ r. ⌜ PassTo isDigit (now (s .entry)) from r ⌝ }
+{
+    let mut at = from;
+    while 8 <= s.len() - at {
+        let n = digits_ahead(s, at);
+        if n < 8 {
+            return at + n;
+        }
+        at += 8;
+    }
+    at
+}
+
+// So many digits are in the range of the kind, whichever they are.
+fn most_digits(integer: Integer) -> usize
+    ensures { λ r. ⌜ InRange integer r ⌝ }
+{
+    match integer {
+        Integer::UnsignedByte => 2,
+        Integer::Short => 4,
+        Integer::Int => 9,
+        Integer::Long => 18,
+    }
+}
+
+// And after a minus.
+fn most_after_minus(integer: Integer) -> usize
+    ensures { λ r. ⌜ InRange integer r × (1 ≤ r → isSigned integer ≡ true) ⌝ }
+{
+    match integer {
+        Integer::UnsignedByte => 0,
+        Integer::Short => 4,
+        Integer::Int => 9,
+        Integer::Long => 18,
+    }
+}
+
+// The end of a run of at most so many digits that does not begin with a 0, or is a 0 alone; its start where there is none.
+fn numeral_end(s: &[u8], from: usize, most: usize) -> usize
+    requires { ⌜ from < length (now s) ⌝ }
+    ensures { λ r. ⌜ NumeralTo (now (s .entry)) from most r ⌝ }
+{
+    let end = digits_end(s, from);
+    let n = end - from;
+    if most < n {
+        return from;
+    }
+    if s[from] != b'0' {
+        return end;
+    }
+    if n == 1 {
+        return end;
+    }
+    from
+}
+
+// The end of a word that is written as it stands, or its start.
+fn word_end(integer: Integer, s: &[u8], at: usize) -> usize
+    requires { ⌜ at + 2 ≤ length (now s) ⌝ }
+    ensures { λ r. ⌜ OwnTo integer (now (s .entry)) at r ⌝ }
+{
+    if s[at] != b'-' {
+        return numeral_end(s, at, most_digits(integer));
+    }
+    if s[at + 1] == b'0' {
+        return at;
+    }
+    let end = numeral_end(s, at + 1, most_after_minus(integer));
+    if end == at + 1 {
+        return at;
+    }
+    end
+}
+
+// A word's end, and the place after its bytes and a space behind them; or it is for the careful way.
+enum Word {
+    Is(usize, usize),
+    Careful,
+}
+
+// By its integer: what is not the shortest, or may be out of range.
+fn other_word(integer: Integer, s: &[u8], at: usize, row: &mut [u8], o: usize) -> Word
+    requires { ⌜ (at ≤ length (now s)) × (o + 40 ≤ length (now row)) ⌝ }
+    ensures { λ r. ⌜ CopiesWord integer (now (s .entry)) at (now (row .entry)) o (now (row .exit)) r ⌝ }
+{
+    let One::Element(z, next) = text_integer(s, at, integer) else {
+        return Word::Careful;
+    };
+    let e = put_word(z, row, o);
+    Word::Is(next, e)
+}
+
+fn copy_word(integer: Integer, s: &[u8], at: usize, row: &mut [u8], o: usize) -> Word
+    requires { ⌜ (at ≤ length (now s)) × (o + 40 ≤ length (now row)) ⌝ }
+    ensures { λ r. ⌜ CopiesWord integer (now (s .entry)) at (now (row .entry)) o (now (row .exit)) r ⌝ }
+{
+    if s.len() - at < 32 {
+        return Word::Careful;
+    }
+    let end = word_end(integer, s, at);
+    if end == at {
+        return other_word(integer, s, at, row, o);
+    }
+    let e = copy_wide(s, at, end - at, row, o);
+    row[e] = 32;
+    Word::Is(end, e + 1)
+}
+
+// One space between; the space behind the last is left out.
 fn copy_integers(integer: Integer, s: &[u8], from: usize, row: &mut [u8], first: usize) -> Content
     requires { ⌜ (from ≤ length (now s)) × (first ≤ length (now row)) ⌝ }
     ensures { λ r. ⌜ MovesContent (InText (Whole (isSigned integer) (widthOf integer)) (now (s .entry)) from) (AsText (Whole (isSigned integer) (widthOf integer))) (now (row .entry)) first (now (row .exit)) r ⌝ }
@@ -156,23 +285,25 @@ fn copy_integers(integer: Integer, s: &[u8], from: usize, row: &mut [u8], first:
     let mut o = first;
     let mut count: usize = 0;
     loop {
-        let One::Element(z, next) = text_integer(s, at, integer) else {
-            return Content::Careful;
-        };
-        if s.len() <= next {
-            return Content::Careful;
-        }
         if row.len() - o < 40 {
             return Content::Careful;
         }
-        o = put_word(z, row, o);
+        let Word::Is(next, e) = copy_word(integer, s, at, row, o) else {
+            return Content::Careful;
+        };
         count += 1;
-        if s[next] != b' ' {
-            return Content::Elements(count, next, o - 1);
+        if s.len() <= next {
+            return Content::Careful;
         }
+        if s[next] != b' ' {
+            return Content::Elements(count, next, e - 1);
+        }
+        o = e;
         at = next + 1;
     }
 }
+
+// ---- booleans
 
 // A boolean and a space behind it.
 fn put_truth(z: i64, row: &mut [u8], o: usize) -> usize

@@ -30,32 +30,32 @@ module _ (ds : List ℕ) (l : length ds ≡ 8) (a : AreBytes ds) where
   eight v {x} e h = record { is = eight-of v x ds l e; small = λ d _. h }
 
   module _ {x y : ℕ} {f g : ℕ → ℕ} (p : Bytewise ds x f) (q : Bytewise ds y g) where
-    both : Bytewise ds (bitAnd x y) (λ (d : ℕ). bitAnd (f d) (g d))
+    pub both : Bytewise ds (bitAnd x y) (λ (d : ℕ). bitAnd (f d) (g d))
     both = record { is = ap₂ bitAnd (p .is) (q .is) ∙ and-lanes f g (p .small) (q .small) ds a; small = λ d h. and-lt 8 (f d) (g d) (p .small d h) (q .small d h) }
 
-    either : Bytewise ds (bitOr x y) (λ (d : ℕ). bitOr (f d) (g d))
+    pub either : Bytewise ds (bitOr x y) (λ (d : ℕ). bitOr (f d) (g d))
     either = record { is = ap₂ bitOr (p .is) (q .is) ∙ or-lanes f g (p .small) (q .small) ds a; small = λ d h. or-lt 8 (f d) (g d) (p .small d h) (q .small d h) }
 
     pub differing : Bytewise ds (bitXor x y) (λ (d : ℕ). bitXor (f d) (g d))
     differing = record { is = ap₂ bitXor (p .is) (q .is) ∙ xor-lanes f g (p .small) (q .small) ds a; small = λ d h. xor-lt 8 (f d) (g d) (p .small d h) (q .small d h) }
 
     -- no byte of the sum passes 255
-    sum : allBelow (λ (d : ℕ). ltb (f d + g d) 256) 256 ≡ true → Bytewise ds (x + y) (λ (d : ℕ). f d + g d)
+    pub sum : allBelow (λ (d : ℕ). ltb (f d + g d) 256) 256 ≡ true → Bytewise ds (x + y) (λ (d : ℕ). f d + g d)
     sum e = record {
       is = ap₂ _+_ (p .is) (q .is) ∙ add-lanes f g (p .small) (q .small) ds a;
       small = λ d h. ltb-true _ _ (each-below (λ (d : ℕ). ltb (f d + g d) 256) 256 e d h);
     }
 
-  marked : (test : ℕ → Bool) {x : ℕ} {f : ℕ → ℕ} → Bytewise ds x f → allBelow (λ (d : ℕ). eqb (f d) (mark test d)) 256 ≡ true → x ≡ ofDigits 256 0 (map (mark test) ds)
+  pub marked : (test : ℕ → Bool) {x : ℕ} {f : ℕ → ℕ} → Bytewise ds x f → allBelow (λ (d : ℕ). eqb (f d) (mark test d)) 256 ≡ true → x ≡ ofDigits 256 0 (map (mark test) ds)
   marked test {f = f} p e = p .is ∙ ap (ofDigits 256 0) (map-agree f (mark test) (λ d h. eqb-true _ _ (each-below (λ (d : ℕ). eqb (f d) (mark test d)) 256 e d h)) ds a)
 
   -- ---- which bytes stand for themselves
 
-  tops : Bytewise ds 9259542123273814144 (λ (d : ℕ). 128)
+  pub tops : Bytewise ds 9259542123273814144 (λ (d : ℕ). 128)
   unfolding ofDigits
   tops = eight 128 refl (lit< tt)
 
-  rest : Bytewise ds 9187201950435737471 (λ (d : ℕ). 127)
+  pub rest : Bytewise ds 9187201950435737471 (λ (d : ℕ). 127)
   unfolding ofDigits
   rest = eight 127 refl (lit< tt)
 
