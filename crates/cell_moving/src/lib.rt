@@ -1,4 +1,5 @@
 // A cell of any kind of rows, moved from the input into a row's buffer: read, and written as the other kind has it.
+use binary_moving::move_binary;
 use moving::Moved;
 use row_reading::read_cell;
 use row_writing::size_cell;
@@ -67,7 +68,30 @@ pub fn careful_cell(
     }
 }
 
-// A cell, moved.
+// ---- the quick way
+
+// A cell that is plain.
+fn quick_cell(
+    from: Rows,
+    to: Rows,
+    column: Column,
+    flagged: bool,
+    s: &[u8],
+    at: usize,
+    row: &mut [u8],
+    o: usize,
+) -> Moved
+    requires { ⌜ (at ≤ length (now s)) × (bound (column .len) ≤ mostElements) × (o ≤ length (now row)) ⌝ }
+    ensures { λ r. ⌜ MovesCell from to column flagged (now (s .entry)) at (now (row .entry)) o (now (row .exit)) r ⌝ }
+{
+    match from {
+        Rows::TableData => Moved::Careful,
+        Rows::Binary => move_binary(from, to, column, flagged, s, at, row, o),
+        Rows::Binary2 => move_binary(from, to, column, flagged, s, at, row, o),
+    }
+}
+
+// A cell, quickly where it is plain, else the careful way.
 pub fn move_cell(
     from: Rows,
     to: Rows,
@@ -83,5 +107,9 @@ pub fn move_cell(
     ensures { λ r. ⌜ MovesCell from to column flagged (now (s .entry)) at (now (row .entry)) o (now (row .exit)) r ⌝ }
     ensures { λ _. ⌜ length (now (scratch .exit)) ≡ length (now (scratch .entry)) ⌝ }
 {
-    careful_cell(from, to, column, flagged, s, at, scratch, row, o)
+    let quick = quick_cell(from, to, column, flagged, s, at, row, o);
+    match quick {
+        Moved::Cell(next, e, null) => Moved::Cell(next, e, null),
+        Moved::Careful => careful_cell(from, to, column, flagged, s, at, scratch, row, o),
+    }
 }
