@@ -2,10 +2,9 @@
 use Prim.Native.Nat.{_+_, _≤_, ℕ}
 use native.Mathlib.Nat.{le-refl}
 use native.Mathlib.Omega.{arith}
-use mathlib.Core.Bool.{Bool, _&&_, _||_, false, false≢true, true}
+use mathlib.Core.Bool.{Bool, false, false≢true, true}
 use mathlib.Core.List.{List, [], _∷_, append-nil}
 use mathlib.Core.Path.{_≡_, refl, subst, sym}
-use lib.Dec.{eqb, leb}
 use lib.IntN.{ℤ}
 use lib.ListN.{drop, length}
 use borrow.Author.Tests.{eq-eqb, eqb-true, le-leb, ne-eqb}
@@ -31,7 +30,7 @@ use Rattle.table.specs.declared.Len.the-variants.{Bounded, Fixed, Free}
 use Rattle.table.specs.declared.Rows.{Rows}
 use Rattle.table.specs.declared.Rows.the-variants.{Binary, Binary2, TableData}
 use Rattle.tabledata.proofs.Laws.{nil-elements}
-use Rattle.tabledata.specs.TableData.{characters, countFits, plain, readText, textCell}
+use Rattle.tabledata.specs.TableData.{countFits, readText, textCell}
 use Rattle.text_moving.specs.Contracts.{ClosesAt, Counts, NeverNull, OpensAs, TextRead}
 use Rattle.text_moving.specs.declared.Opening.{Opening}
 

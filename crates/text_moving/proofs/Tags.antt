@@ -15,7 +15,7 @@ use Rattle.table.proofs.Laws.{all-drop, all-take, and-both}
 use Rattle.table.proofs.Places.{next1}
 use Rattle.table.specs.All.{AreBytes}
 use Rattle.table.specs.Bytes.{after, bytes, ends, isWhite, skipWhite, tag}
-use Rattle.table.specs.Result.{Result, _>>=_, good, orElse}
+use Rattle.table.specs.Result.{good}
 use Rattle.tabledata.specs.TableData.{cellText, characters, close-TD, follow, open-TD, plain, step}
 use Rattle.text.specs.Contracts.{Skipped}
 use Rattle.text_moving.specs.Contracts.{ClosesAt, OpensAs}

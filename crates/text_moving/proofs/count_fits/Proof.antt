@@ -12,7 +12,9 @@ returns : tie.Need-returns
 returns c = λ e. absurd (false≢true e)
 
 returns-2 : tie.Need-returns-2
-returns-2 c = λ e. char-counts _ _ (omega (arith, c .before .before .before .before .before .if1 .left)) _ (c .before .before .before .len .given .1) (sym (c .before .is-char .ensures) ∙ c .if2 .taken) (leb-true _ _ e)
+returns-2 c =
+    let at-len = c .before .before .before in
+    λ e. char-counts _ _ (omega (arith, at-len .before .before .if1 .left)) _ (at-len .len .given .1) (sym (c .before .is-char .ensures) ∙ c .if2 .taken) (leb-true _ _ e)
 
 returns-3 : tie.Need-returns-3
 returns-3 c = λ e. fixed-counts _ _ (omega (arith, c .before .before .before .before .before .if1 .left)) _ (c .before .before .before .len .given .1) (eqb-true _ _ e)

@@ -47,9 +47,10 @@ returns-3 c =
     let end = c .before .before .before .before .before .before .before .z .given .0 .1 .0 in
     let put = c .before .before .put-integer in
     let y : toZ w64 (ofZ w64 z) ≡ z = search needs in
-    let read = subst (λ (x : ℤ). InText (Whole (isSigned (a .integer)) (widthOf (a .integer))) (now (a .s)) (a .from) end (x ∷ [])) (sym y) (found (c .before .before .before .before .before .before)) in
+    let k = (Whole (isSigned (a .integer)) (widthOf (a .integer))) in
+    let read = subst (λ (x : ℤ). InText k (now (a .s)) (a .from) end (x ∷ [])) (sym y) (found (c .before .before .before .before .before .before)) in
     λ one q. one-moved (TextRead (a .column) (now (a .s)) (a .from)) TableData (a .to) (a .column) (toZ w64 (ofZ w64 z)) (now (a .row)) (a .o) (put .last .1 .1 .1 .1 .1 .0) (end + 5) (put .result)
-    (one-read (a .column) (Whole (isSigned (a .integer)) (widthOf (a .integer))) (now (a .s)) (a .from) end (toZ w64 (ofZ w64 z)) one q read (ended (c .before .before .before .before))) (put .ensures one q)
+    (one-read (a .column) k (now (a .s)) (a .from) end (toZ w64 (ofZ w64 z)) one q read (ended (c .before .before .before .before))) (put .ensures one q)
 
 pub move-integer-spec : {M : Type 1} → statement M
 move-integer-spec =

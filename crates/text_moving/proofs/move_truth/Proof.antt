@@ -46,9 +46,10 @@ returns-3 c =
     let end = c .before .before .before .before .before .before .before .z .given .0 .1 .0 in
     let put = c .before .before .put-truth in
     let y : toZ w64 (ofZ w64 z) ≡ z = search needs in
-    let read = subst (λ (x : ℤ). InText Truths (now (a .s)) (a .from) end (x ∷ [])) (sym y) (found (c .before .before .before .before .before .before)) in
+    let k = Truths in
+    let read = subst (λ (x : ℤ). InText k (now (a .s)) (a .from) end (x ∷ [])) (sym y) (found (c .before .before .before .before .before .before)) in
     λ one q. one-moved (TextRead (a .column) (now (a .s)) (a .from)) TableData (a .to) (a .column) (toZ w64 (ofZ w64 z)) (now (a .row)) (a .o) (put .last .1 .1 .1 .1 .0) (end + 5) (put .result)
-    (one-read (a .column) Truths (now (a .s)) (a .from) end (toZ w64 (ofZ w64 z)) one q read (ended (c .before .before .before .before))) (put .ensures one q)
+    (one-read (a .column) k (now (a .s)) (a .from) end (toZ w64 (ofZ w64 z)) one q read (ended (c .before .before .before .before))) (put .ensures one q)
 
 pub move-truth-spec : {M : Type 1} → statement M
 move-truth-spec =

@@ -16,7 +16,10 @@ returns-3 : tie.Need-returns-3
 returns-3 c = opens-content _ _ _ _ (bytes (c .before .before .before .before .before)) (c .before .before .before .cell-place .ensures) (omega arith) (c .before .four-bytes .ensures) (c .if3 .taken)
 
 returns-6 : tie.Need-returns-6
-returns-6 c = opens-empty _ _ _ _ (bytes (c .before .before .before .before .before .before .before .before)) (c .before .before .before .before .before .before .cell-place .ensures) (omega arith) (c .before .before .before .before .four-bytes .ensures) (c .before .before .if4 .left) (c .if5 .left)
+returns-6 c =
+    let at-four = c .before .before .before .before in
+    opens-empty _ _ _ _ (bytes (at-four .before .before .before .before)) (at-four .before .before .cell-place .ensures) (omega arith) (at-four .four-bytes .ensures)
+    (c .before .before .if4 .left) (c .if5 .left)
 
 pub open-cell-spec : {M : Type 1} → statement M
 open-cell-spec =
