@@ -8,6 +8,7 @@ use table::Column;
 use table::Found;
 use table::Rows;
 use table::Size;
+use text_moving::move_text;
 ghost use mathlib.Core.Path.{_≡_};
 ghost use Prim.Native.Nat.{_≤_};
 ghost use lib.ListN.{length};
@@ -85,7 +86,7 @@ fn quick_cell(
     ensures { λ r. ⌜ MovesCell from to column flagged (now (s .entry)) at (now (row .entry)) o (now (row .exit)) r ⌝ }
 {
     match from {
-        Rows::TableData => Moved::Careful,
+        Rows::TableData => move_text(to, column, s, at, row, o),
         Rows::Binary => move_binary(from, to, column, flagged, s, at, row, o),
         Rows::Binary2 => move_binary(from, to, column, flagged, s, at, row, o),
     }

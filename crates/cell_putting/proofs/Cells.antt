@@ -10,9 +10,9 @@ use lib.IntN.{ℤ}
 use lib.ListN.{length, length-map, replicate}
 use Rattle.binary.specs.Binary.{bytesOf, countBytes, elementsBytes, number, writeBinary, writeBinary2}
 use Rattle.cell_putting.proofs.Stores.{puts-under}
-use Rattle.cell_putting.specs.Contracts.{ElementsPut, OnePut, PutsOne, fillSize, oneForm}
+use Rattle.cell_putting.specs.Contracts.{fillSize, isText, oneForm}
 use Rattle.moving.proofs.Puts.{puts-as, puts-then}
-use Rattle.moving.specs.Cells.{PutsCell}
+use Rattle.moving.specs.Cells.{CellPut, PutsCell}
 use Rattle.moving.specs.Contents.{contentForm}
 use Rattle.moving.specs.Puts.{Puts}
 use Rattle.moving.specs.declared.Moved.{Moved}
@@ -92,24 +92,30 @@ one-writes Binary c k z one e p = ap good (one-bytes c z one (subst Plainly (sym
 one-writes Binary2 c k z one e p = ap good (one-bytes c z one (subst Plainly (sym e) p) ∙ rw e)
 
 -- an element that stands for no null was put
-pub one-put : (to : Rows) (c : Column) (k : Shape) (z : ℤ) (next : ℕ) (old : List ℕ) (o : ℕ) (new : List ℕ) (r : Moved) → isScalar c ≡ true → shape (c .kind) ≡ k → Plainly k
-    → isNullOfKind k (c .null) z ≡ false → PutsOne to k z next old o new r → PutsCell to c (show c (z ∷ [])) next old o new r
+pub one-put : (to : Rows) (c : Column) (k : Shape) (z : ℤ) (next : ℕ) (old : List ℕ) (o : ℕ) (new : List ℕ) (e : ℕ) → isScalar c ≡ true → shape (c .kind) ≡ k → Plainly k
+    → isNullOfKind k (c .null) z ≡ false → Puts old o (oneForm to k z) new e → CellPut to c (show c (z ∷ [])) next old o new next e false
 unfolding isNull
-one-put to c k z next old o new (Moved.Cell next′ e null′) one q p h u =
+one-put to c k z next old o new e one q p h u =
     let x : show c (z ∷ []) ≡ shown (z ∷ []) = shows-one c z one (rw q h) in
-    record {
-      bytes = oneForm to k z;
-      writes = rw x (one-writes to c k z one q p);
-      puts = u .puts;
-      same-next = u .same-next;
-      null-is = rw x (u .not-null);
-    }
-one-put to c k z next old o new Moved.Careful one q p h u = u
+    record { bytes = oneForm to k z; writes = rw x (one-writes to c k z one q p); puts = u; same-next = refl; null-is = rw x }
 
 -- one that does: null was put
 pub null-put : (to : Rows) (c : Column) (k : Shape) (z : ℤ) (next : ℕ) (old : List ℕ) (o : ℕ) (new : List ℕ) (r : Moved) → isScalar c ≡ true → shape (c .kind) ≡ k
     → isNullOfKind k (c .null) z ≡ true → PutsCell to c null next old o new r → PutsCell to c (show c (z ∷ [])) next old o new r
 null-put to c k z next old o new r one q h u = rw (shows-null c z one (rw q h)) u
+
+-- rows that have tags, and those that have none
+pub text-is : (rows : Rows) → isText rows ≡ true → rows ≡ TableData
+unfolding isText
+text-is TableData h = refl
+text-is Binary h = absurd (false≢true h)
+text-is Binary2 h = absurd (false≢true h)
+
+pub no-text : (P : Rows → Type 0) (rows : Rows) → isText rows ≡ false → P Binary → P Binary2 → P rows
+unfolding isText
+no-text P TableData h a b = absurd (false≢true (sym h))
+no-text P Binary h a b = a
+no-text P Binary2 h a b = b
 
 -- ---- elements, with what stands around them
 

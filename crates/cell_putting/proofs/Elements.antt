@@ -7,14 +7,15 @@ use mathlib.Core.Path.{_≡_, refl, subst, sym}
 use lib.IntN.{ℤ}
 use lib.ListN.{length}
 use Rattle.binary.specs.Binary.{elementsBytes, writeBinary, writeBinary2}
-use Rattle.cell_putting.specs.Contracts.{PutsElements}
+use Rattle.cell_putting.proofs.Cells.{Plainly, null-put, one-put}
+use Rattle.cell_putting.specs.Contracts.{PutsElements, oneForm}
 use Rattle.moving.specs.Cells.{MovesRead, NeverNull, PutsCell, shownAs}
 use Rattle.moving.specs.Puts.{Puts}
 use Rattle.moving.specs.declared.Moved.{Moved}
 use Rattle.rows.specs.Stream.{writeCell}
-use Rattle.table.specs.Cell.{emptyIsNull, isNull, isNullList, isScalar, show, shown, standsForNull}
+use Rattle.table.specs.Cell.{emptyIsNull, isNull, isNullList, isNullOfKind, isScalar, null, show, shown, standsForNull}
 use Rattle.table.specs.Result.{good}
-use Rattle.table.specs.Shape.{Bits, Text, shape}
+use Rattle.table.specs.Shape.{Bits, Shape, Text, shape}
 use Rattle.table.specs.declared.Column.{Column}
 use Rattle.table.specs.declared.Rows.{Rows}
 use Rattle.table.specs.declared.Rows.the-variants.{Binary, Binary2, TableData}
@@ -116,8 +117,9 @@ module _ (Reads : ℕ → List ℤ → Type 0) (from : Rows) (c : Column) (never
       }
   elements-put to w Moved.Careful u = u
 
--- one element by its value, put
-pub one-moved : (Reads : ℕ → List ℤ → Type 0) (from to : Rows) (c : Column) (z : ℤ) (old : List ℕ) (o : ℕ) (new : List ℕ) (next : ℕ) (r : Moved) → Reads next (z ∷ [])
+-- ---- one element by its value
+
+one-moved : (Reads : ℕ → List ℤ → Type 0) (from to : Rows) (c : Column) (z : ℤ) (old : List ℕ) (o : ℕ) (new : List ℕ) (next : ℕ) (r : Moved) → Reads next (z ∷ [])
     → PutsCell to c (show c (z ∷ [])) next old o new r → MovesRead Reads from to c old o new r
 one-moved Reads from to c z old o new next (Moved.Cell next′ e null′) h u = record {
   es = z ∷ [];
@@ -125,3 +127,13 @@ one-moved Reads from to c z old o new next (Moved.Cell next′ e null′) h u = 
   put = rw (shows-one from c z, u .same-next) (record { bytes = u .bytes; writes = u .writes; puts = u .puts; same-next = refl; null-is = u .null-is });
 }
 one-moved Reads from to c z old o new next Moved.Careful h u = u
+
+module _ (Reads : ℕ → List ℤ → Type 0) (from to : Rows) (c : Column) (k : Shape) (z : ℤ) (old : List ℕ) (o : ℕ) (new : List ℕ) (next : ℕ) (one : isScalar c ≡ true) (q : shape (c .kind) ≡ k)
+    (reads : Reads next (z ∷ [])) where
+  -- it stands for null
+  pub null-moved : (r : Moved) → isNullOfKind k (c .null) z ≡ true → PutsCell to c null next old o new r → MovesRead Reads from to c old o new r
+  null-moved r h u = one-moved Reads from to c z old o new next r reads (null-put to c k z next old o new r one q h u)
+
+  -- it does not
+  pub value-moved : (e : ℕ) → Plainly k → isNullOfKind k (c .null) z ≡ false → Puts old o (oneForm to k z) new e → MovesRead Reads from to c old o new (Moved.Cell next e false)
+  value-moved e p h u = one-moved Reads from to c z old o new next (Moved.Cell next e false) reads (one-put to c k z next old o new e one q p h u)

@@ -1,16 +1,19 @@
 -- What the functions that put a cell promise: one element, and what stands around elements.
 use Prim.Native.Nat.{_+_, _-_, ℕ}
-use mathlib.Core.Bool.{Bool, cond, false}
+use mathlib.Core.Bool.{Bool, cond, false, true}
 use mathlib.Core.List.{List, [], _∷_}
 use mathlib.Core.Path.{_≡_}
 use lib.IntN.{ℤ}
 use lib.ListN.{length}
 use Rattle.binary.specs.Binary.{countBytes, elementsBytes}
+use Rattle.cell_putting.specs.declared.Scalar.{Scalar}
+use Rattle.moving.specs.Cells.{NeverNull}
 use Rattle.moving.specs.Contents.{contentForm}
 use Rattle.moving.specs.Puts.{Puts}
 use Rattle.moving.specs.declared.Moved.{Moved}
-use Rattle.table.specs.Cell.{isChar, roomIn}
-use Rattle.table.specs.Shape.{Shape, shape}
+use Rattle.number.specs.Contracts.{isSigned, widthOf}
+use Rattle.table.specs.Cell.{isChar, isScalar, roomIn}
+use Rattle.table.specs.Shape.{Shape, Truths, Whole, shape}
 use Rattle.table.specs.declared.Column.{Column}
 use Rattle.table.specs.declared.Rows.{Rows}
 use Rattle.table.specs.declared.Rows.the-variants.{Binary, Binary2, TableData}
@@ -28,14 +31,18 @@ oneForm TableData k z = tagged (elementBytes k (z ∷ []))
 oneForm Binary k z = contentForm k (z ∷ [])
 oneForm Binary2 k z = contentForm k (z ∷ [])
 
-pub record OnePut (to : Rows) (k : Shape) (z : ℤ) (next : ℕ) (old : List ℕ) (o : ℕ) (new : List ℕ) (next′ e : ℕ) (null′ : Bool) : Type 0 where
-  pub puts : Puts old o (oneForm to k z) new e
-  pub same-next : next′ ≡ next
-  pub not-null : null′ ≡ false
+-- rows that have tags
+unfoldable pub isText : Rows → Bool
+isText TableData = true
+isText Binary = false
+isText Binary2 = false
 
-abbrev pub PutsOne : Rows → Shape → ℤ → ℕ → List ℕ → ℕ → List ℕ → Moved → Type 0
-PutsOne to k z next old o new (Moved.Cell next′ e null′) = OnePut to k z next old o new next′ e null′
-PutsOne to k z next old o new Moved.Careful = Puts old o [] new o
+-- ---- which columns may have an element that stands for null
+
+abbrev pub ScalarIs : Column → Scalar → Type 0
+ScalarIs c (Scalar.Integer kind) = (isScalar c ≡ true) × (shape (c .kind) ≡ Whole (isSigned kind) (widthOf kind))
+ScalarIs c Scalar.Truth = (isScalar c ≡ true) × (shape (c .kind) ≡ Truths)
+ScalarIs c Scalar.Never = NeverNull c
 
 -- ---- elements of BINARY and BINARY2
 

@@ -12,25 +12,26 @@ use content_showing::show_truth;
 use integers::put_eight;
 use integers::put_four;
 use moving::Moved;
+use number::Elements;
 use number::Integer;
+use number::elements_of;
 use table::Column;
 use table::Len;
 use table::Rows;
 use table::Size;
 use table::is_char;
-ghost use mathlib.Core.Bool.{true};
-ghost use mathlib.Core.List.{[], _∷_};
+use table::is_scalar;
 ghost use mathlib.Core.Path.{_≡_};
 ghost use Prim.Native.Nat.{ℕ, _+_, _≤_};
 ghost use lib.ListN.{length};
 ghost use Rattle.binary.specs.Binary.{countBytes};
-ghost use Rattle.cell_putting.specs.Contracts.{FillsUp, PutsOne, fillSize, mostRoom};
+ghost use Rattle.cell_putting.specs.Contracts.{FillsUp, ScalarIs, fillSize, isText, mostRoom, oneForm};
 ghost use Rattle.moving.specs.Cells.{PutsCell};
 ghost use Rattle.moving.specs.Puts.{Puts};
 ghost use Rattle.number.specs.Contracts.{isSigned, widthOf};
 ghost use Rattle.table.specs.Bytes.{bytes};
-ghost use Rattle.table.specs.Cell.{bound, isScalar, mostElements, null, show};
-ghost use Rattle.table.specs.Shape.{Truths, Whole, shape};
+ghost use Rattle.table.specs.Cell.{bound, mostElements, null};
+ghost use Rattle.table.specs.Shape.{Truths, Whole};
 ghost use Rattle.table.specs.declared.Rows.the-variants.{Binary, Binary2};
 
 // What a leaf may store in one go: where the buffer has less room, the cell is for the careful way.
@@ -111,83 +112,66 @@ pub fn put_null(to: Rows, column: Column, next: usize, row: &mut [u8], o: usize)
     }
 }
 
-// ---- one element of a scalar
+// ---- one element of a scalar that stands for no null
 
-// An integer that stands for no null, as text or as bytes.
-fn put_value(to: Rows, integer: Integer, z: i64, next: usize, row: &mut [u8], o: usize) -> Moved
+// Rows that have tags.
+pub fn is_text(rows: Rows) -> bool
+    ensures { λ r. ⌜ r ≡ isText rows ⌝ }
+{
+    match rows {
+        Rows::TableData => true,
+        Rows::Binary => false,
+        Rows::Binary2 => false,
+    }
+}
+
+// A number alone is handed back, since an answer with a place more would go by memory.
+pub fn put_integer(to: Rows, integer: Integer, z: i64, row: &mut [u8], o: usize) -> usize
     requires { ⌜ o + mostRoom ≤ length (now row) ⌝ }
-    ensures { λ r. ⌜ PutsOne to (Whole (isSigned integer) (widthOf integer)) z next (now (row .entry)) o (now (row .exit)) r ⌝ }
+    ensures { λ r. ⌜ Puts (now (row .entry)) o (oneForm to (Whole (isSigned integer) (widthOf integer)) z) (now (row .exit)) r ⌝ }
 {
-    match to {
-        Rows::TableData => {
-            let inner = put_open(row, o);
-            let last = show_integer(z, row, inner);
-            let e = put_close(row, last);
-            Moved::Cell(next, e, false)
-        }
-        Rows::Binary => {
-            let e = pass_integer(integer, z, row, o);
-            Moved::Cell(next, e, false)
-        }
-        Rows::Binary2 => {
-            let e = pass_integer(integer, z, row, o);
-            Moved::Cell(next, e, false)
-        }
+    if is_text(to) {
+        let inner = put_open(row, o);
+        let last = show_integer(z, row, inner);
+        return put_close(row, last);
     }
+    pass_integer(integer, z, row, o)
 }
 
-// A scalar integer: "equal to its declared null is null".
-pub fn put_integer(
-    to: Rows,
-    column: Column,
-    integer: Integer,
-    z: i64,
-    next: usize,
-    row: &mut [u8],
-    o: usize,
-) -> Moved
-    requires { ⌜ (bound (column .len) ≤ mostElements) × (o + mostRoom ≤ length (now row)) ⌝ }
-    ensures { λ r. ⌜ (isScalar column ≡ true → shape (column .kind) ≡ Whole (isSigned integer) (widthOf integer) → PutsCell to column (show column (z ∷ [])) next (now (row .entry)) o (now (row .exit)) r) ⌝ }
-{
-    let null = column.null;
-    if table::is_declared(null, z) {
-        return put_null(to, column, next, row, o);
-    }
-    put_value(to, integer, z, next, row, o)
-}
-
-// A boolean that is not unknown, as text or as a byte.
-fn put_letter(to: Rows, z: i64, next: usize, row: &mut [u8], o: usize) -> Moved
+pub fn put_truth(to: Rows, z: i64, row: &mut [u8], o: usize) -> usize
     requires { ⌜ o + mostRoom ≤ length (now row) ⌝ }
-    ensures { λ r. ⌜ PutsOne to Truths z next (now (row .entry)) o (now (row .exit)) r ⌝ }
+    ensures { λ r. ⌜ Puts (now (row .entry)) o (oneForm to Truths z) (now (row .exit)) r ⌝ }
 {
-    match to {
-        Rows::TableData => {
-            let inner = put_open(row, o);
-            let last = show_truth(z, row, inner);
-            let e = put_close(row, last);
-            Moved::Cell(next, e, false)
-        }
-        Rows::Binary => {
-            let e = pass_truth(z, row, o);
-            Moved::Cell(next, e, false)
-        }
-        Rows::Binary2 => {
-            let e = pass_truth(z, row, o);
-            Moved::Cell(next, e, false)
-        }
+    if is_text(to) {
+        let inner = put_open(row, o);
+        let last = show_truth(z, row, inner);
+        return put_close(row, last);
     }
+    pass_truth(z, row, o)
 }
 
-// A scalar boolean: one "that is unknown is null".
-pub fn put_truth(to: Rows, column: Column, z: i64, next: usize, row: &mut [u8], o: usize) -> Moved
-    requires { ⌜ (bound (column .len) ≤ mostElements) × (o + mostRoom ≤ length (now row)) ⌝ }
-    ensures { λ r. ⌜ (isScalar column ≡ true → shape (column .kind) ≡ Truths → PutsCell to column (show column (z ∷ [])) next (now (row .entry)) o (now (row .exit)) r) ⌝ }
+// ---- which columns may have an element that stands for null
+
+// A scalar integer, a scalar boolean, or a column that has none.
+pub enum Scalar {
+    Integer(Integer),
+    Truth,
+    Never,
+}
+
+pub fn scalar_of(column: Column) -> Scalar
+    ensures { λ r. ⌜ ScalarIs column r ⌝ }
 {
-    if table::same_integer(z, 2) {
-        return put_null(to, column, next, row, o);
+    if !is_scalar(column) {
+        return Scalar::Never;
     }
-    put_letter(to, z, next, row, o)
+    let kind = column.kind;
+    match elements_of(kind) {
+        Elements::Whole(integer) => Scalar::Integer(integer),
+        Elements::Truths => Scalar::Truth,
+        Elements::Bits => Scalar::Never,
+        Elements::Text => Scalar::Never,
+    }
 }
 
 // ---- what stands around elements, in BINARY and BINARY2
