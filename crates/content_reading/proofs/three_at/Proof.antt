@@ -24,9 +24,11 @@ add-three-digits c = record { fits = omega (arith, c .before .before .figure .en
 
 returns-2 : tie.Need-returns-2
 returns-2 c =
-    figures-three _ _ _ _ (omega arith) (sym (c .before .before .before .before .before .before .before .before .before .before .is-digit .ensures) ∙ not-false _ (c .before .before .before .before .before .before .before .before .before .if1 .left)) (c .before .before .before .before .before .before .before .before .is-digit2 .ensures) (c .before .before .before .before .before .before .before .is-digit3 .ensures)
-    (c .before .before .before .before .before .before .figure .ensures .0) (c .before .before .before .before .before .figure2 .ensures .0) (c .before .before .before .before .figure3 .ensures .0)
-    (c .before .before .before .pick .ensures) (c .before .before .pick2 .ensures) (c .before .pick3 .ensures) (c .pick4 .ensures)
+    let at-figure = c .before .before .before .before .before .before in let at-digit = at-figure .before .before .before .before in
+    let first = sym (at-digit .is-digit .ensures) ∙ not-false _ (at-figure .before .before .before .if1 .left) in
+    let two = at-figure .before .before .is-digit2 .ensures in let three = at-figure .before .is-digit3 .ensures in
+    let a = at-figure .figure .ensures .0 in let b = c .before .before .before .before .before .figure2 .ensures .0 in let d = c .before .before .before .before .figure3 .ensures .0 in
+    figures-three _ _ _ _ (omega arith) first two three a b d (c .before .before .before .pick .ensures) (c .before .before .pick2 .ensures) (c .before .pick3 .ensures) (c .pick4 .ensures)
 
 pub three-at-spec : {M : Type 1} → statement M
 three-at-spec =
