@@ -2,17 +2,17 @@
 use Prim.Native.Nat.{_*_, _+_, _-_, _<_, _^_, _≤_, ℕ}
 use native.Mathlib.Nat.{pow-le-pow-right}
 use native.Mathlib.Omega.{arith}
-use mathlib.Core.Bool.{Bool, false, not, true}
+use mathlib.Core.Bool.{Bool, cond, false, false≢true, not, true}
 use mathlib.Core.List.{List, [], _++_, _∷_, map}
 use mathlib.Core.Path.{_∙_, _≡_, ap, ap₂, refl, subst, subst₂, sym}
 use lib.Bits.{bitXor}
-use lib.Dec.{eqb, lit<}
+use lib.Dec.{eqb, lit<, ltb}
 use lib.IntN.{pos}
 use lib.ListN.{drop, getD, length, length-drop, take}
 use lib.Seq.{drop-drop, length-take-le, take-add, take-take}
 use borrow.Author.Tests.{eq-eqb, ne-eqb}
 use Rattle.content_reading.proofs.Runs.{passes-length, passes-none, passes-then}
-use Rattle.content_reading.proofs.Figures.{InBase, figures-are, figures-below, figures-join, length-figures}
+use Rattle.content_reading.proofs.Figures.{InBase, figure-is, figures-are, figures-below, figures-join, length-figures}
 use Rattle.content_reading.proofs.Singles.{every-one}
 use Rattle.content_reading.proofs.Spelling.{Itself, spells-one, spells-run, spells-then}
 use Rattle.content_reading.specs.Figures.{AfterMinus, EightAt, FiguresAt, Leading, ReadIn, a-minus, figures, isDigit, no-minus}
@@ -22,8 +22,10 @@ use Rattle.number.proofs.Laws.{IsDigit, digit-yes, of-append, of-from, of-lt, p
 use Rattle.number.specs.Contracts.{isSigned, size, widthOf}
 use Rattle.number.specs.Number.{decimal, digit, numeral, ofDigits, ranged, readInteger, withSign}
 use Rattle.number.specs.declared.Integer.{Integer}
-use Rattle.table.proofs.Laws.{all-drop, all-take, all-weaken, between-is, between-yes, no-white}
+use Rattle.table.proofs.Laws.{all-drop, all-take, all-weaken, between-is, between-yes, each-below, no-white}
+use Rattle.table.proofs.Places.{next1}
 use Rattle.table.proofs.Words.{words-one}
+use Rattle.table.specs.Bytes.{between}
 use Rattle.table.specs.All.{All, AreBytes}
 use Rattle.table.specs.Result.{every, good, refusedAs}
 use Rattle.table.specs.Shape.{Whole, inRange}
@@ -160,3 +162,44 @@ integer-in-text {at = at} k (a-minus signed l b) r some few h = rw (ne-eqb (at +
 pub after-le : {signed : Bool} {s : List ℕ} {at first : ℕ} → AfterMinus signed s at first → (at ≤ first) × (first ≤ at + 1)
 after-le no-minus = (omega arith, omega arith)
 after-le (a-minus signed l b) = (omega arith, omega arith)
+
+-- ---- at most three digits
+
+abbrev alike : Bool → Bool → Bool
+alike true b = b
+alike false b = not b
+
+alike-is : (a b : Bool) → alike a b ≡ true → a ≡ b
+alike-is true true e = refl
+alike-is true false e = absurd (false≢true e)
+alike-is false true e = absurd (false≢true e)
+alike-is false false e = refl
+
+figures-one : {s : List ℕ} {at x : ℕ} → at < length s → isDigit (getD s at 0) ≡ true → x ≡ bitXor (getD s at 0) 48 → FiguresAt s at 1 x
+unfolding ofDigits figures
+figures-one {s} {at} h d e =
+    let i = digit-is (getD s at 0) d in
+    let one : take 1 (drop at s) ≡ getD s at 0 ∷ [] = ap (take 1) (next1 s at h) in
+    record {
+      digits = record { inside = omega arith; all = subst (All (λ (c : ℕ). isDigit c ≡ true)) (sym one) (d, tt) };
+      number-is = e ∙ figure-is 10 (getD s at 0) (omega arith) (i .0, omega (arith, i .1)) ∙ sym (ap (λ (w : List ℕ). ofDigits 10 0 (figures w)) one ∙ omega arith);
+    }
+
+-- the count and the number are what the code picks
+pub figures-three : (s : List ℕ) (at : ℕ) (two three : Bool) {a b c inner x few n : ℕ} → at + 3 ≤ length s
+    → isDigit (getD s at 0) ≡ true → two ≡ isDigit (getD s (at + 1) 0) → three ≡ isDigit (getD s (at + 2) 0)
+    → a ≡ bitXor (getD s at 0) 48 → b ≡ bitXor (getD s (at + 1) 0) 48 → c ≡ bitXor (getD s (at + 2) 0) 48
+    → inner ≡ cond three ((a * 10 + b) * 10 + c) (a * 10 + b) → x ≡ cond two inner a → few ≡ cond three 3 2 → n ≡ cond two few 1
+    → FiguresAt s at n x × (n ≤ 3)
+figures-three s at false three h d e f a b c i x m n = (subst₂ (FiguresAt s at) (sym n) (sym x) (figures-one (omega arith) d a), omega (arith, n))
+figures-three s at true false h d e f a b c i x m n =
+    (figures-then (figures-one (omega arith) d a) (figures-one (omega arith) (sym e) b) refl (n ∙ m) (x ∙ i), omega (arith, n, m))
+figures-three s at true true h d e f a b c i x m n =
+    (figures-then (figures-then (figures-one (omega arith) d a) (figures-one (omega arith) (sym e) b) refl refl refl) (figures-one (omega arith) (sym f) c) refl (n ∙ m) (x ∙ i), omega (arith, n, m))
+
+pub digit-test : (c : ℕ) → c < 256 → ltb (bitXor c 48) 10 ≡ isDigit c
+unfolding isDigit between
+digit-test c h = by (each-below (λ (c : ℕ). alike (ltb (bitXor c 48) 10) (between 48 57 c)) 256 refl c h)
+  where
+    by : alike (ltb (bitXor c 48) 10) (between 48 57 c) ≡ true → ltb (bitXor c 48) 10 ≡ between 48 57 c
+    by = alike-is (ltb (bitXor c 48) 10) (between 48 57 c)

@@ -26,7 +26,7 @@ use Rattle.table.specs.All.{All, AreBytes}
 abbrev pub InBase : ℕ → ℕ → Type 0
 InBase b c = (48 ≤ c) × (c < 48 + b)
 
-figure-is : (b c : ℕ) → b ≤ 10 → InBase b c → bitXor c 48 ≡ c - 48
+pub figure-is : (b c : ℕ) → b ≤ 10 → InBase b c → bitXor c 48 ≡ c - 48
 figure-is b c h i = eqb-true _ _ (low (c - 48) (omega arith) c (omega arith))
   where
     low : (d : ℕ) → d < 10 → (c : ℕ) → c ≡ d + 48 → eqb (bitXor c 48) (c - 48) ≡ true

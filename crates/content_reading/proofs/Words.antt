@@ -15,13 +15,13 @@ use Rattle.moving.proofs.Puts.{puts-as, puts-none, puts-then, puts-wrote}
 use Rattle.moving.specs.Contents.{AsBinary, ContentMoved, InText, Spells, contentForm}
 use Rattle.moving.specs.Puts.{Puts}
 use Rattle.number.proofs.Laws.{length-to, low-pattern}
-use Rattle.number.specs.Number.{pattern, toDigits}
+use Rattle.number.specs.Number.{pattern, toDigits, withSign}
 use Rattle.table.proofs.Laws.{bad-good, last-le}
 use Rattle.table.proofs.Words.{words-none}
 use Rattle.table.specs.Bytes.{attach, isWhite, notEmpty, pieces, words}
 use Rattle.table.specs.Cell.{truthByte}
 use Rattle.table.specs.Result.{Result, _>>=_, bad, every, good}
-use Rattle.table.specs.Shape.{Shape, Truths, Whole, Width, last}
+use Rattle.table.specs.Shape.{Shape, Truths, W1, Whole, Width, last}
 use Rattle.table.specs.Wrote.{Wrote}
 use Rattle.tabledata.specs.TableData.{integerWord, textElements, truthWord}
 
@@ -207,3 +207,11 @@ pub truth-puts : (new : List ℕ) (o n b : ℕ) → b ≡ truthByte (pos n) → 
 unfolding number
 truth-puts new o n b e l =
     puts-as (ap (λ (x : ℕ). x ∷ []) e ∙ sym (one-byte (truthByte (pos n)) (truth-byte-small n))) (puts-wrote (record { now-is = refl; next-is = refl }) (omega arith))
+
+-- ---- an integer in a byte
+
+pub byte-puts : (new : List ℕ) (o x : ℕ) → x ≤ 255 → o < length new → Puts new o (toDigits 256 1 (number (Whole false W1) (withSign false x))) (set new o x) (o + 1)
+unfolding number pattern withSign
+byte-puts new o x h l =
+    let same : x % 256 ^ 1 ≡ x = omega arith in
+    puts-as (sym (ap (toDigits 256 1) same ∙ one-byte x (omega arith))) (puts-wrote (record { now-is = refl; next-is = refl }) (omega arith))

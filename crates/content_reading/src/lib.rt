@@ -13,8 +13,10 @@ use number::elements_of;
 use table::Kind;
 use words::is_signed;
 use words::top_of;
+ghost use mathlib.Core.Bool.{cond, false};
 ghost use mathlib.Core.Path.{_≡_};
 ghost use Prim.Native.Nat.{_+_, _-_, _<_, _^_, _≤_};
+ghost use lib.Bits.{bitXor};
 ghost use lib.IntN.{pos};
 ghost use lib.ListN.{length};
 ghost use Rattle.content_reading.specs.Figures.{AfterMinus, BitByte, EightAt, FiguresAt, Leading, ReadIn, isBit, isDigit};
@@ -25,7 +27,7 @@ ghost use Rattle.moving.specs.Contents.{AsBinary, FindsOne, InText, MovesConten
 ghost use Rattle.number.specs.Contracts.{isSigned, widthOf};
 ghost use Rattle.number.specs.Number.{withSign};
 ghost use Rattle.table.specs.Cell.{truthByte};
-ghost use Rattle.table.specs.Shape.{Bits, Text, Truths, Whole, shape};
+ghost use Rattle.table.specs.Shape.{Bits, Text, Truths, W1, Whole, shape};
 ghost use Rattle.tabledata.specs.Contracts.{isPlain};
 
 // ---- digits, eight at once
@@ -403,6 +405,103 @@ fn read_integers(s: &[u8], from: usize, integer: Integer, row: &mut [u8], first:
     }
 }
 
+// ---- words of one to three digits, without a branch on how many
+
+fn is_digit(c: u8) -> bool
+    ensures { λ r. ⌜ r ≡ isDigit c ⌝ }
+{
+    (c ^ 48) < 10
+}
+
+// What a digit stands for.
+fn figure(c: u8) -> u64
+    ensures { λ r. ⌜ (r ≡ bitXor c 48) × (r < 256) ⌝ }
+{
+    (c ^ 48) as u64
+}
+
+// The compiler makes no branch of it.
+fn pick(first: bool, a: u64, b: u64) -> u64
+    ensures { λ r. ⌜ r ≡ cond first a b ⌝ }
+{
+    if first {
+        return a;
+    }
+    b
+}
+
+// The digits at a place, at most three.
+fn three_at(s: &[u8], at: usize) -> Run
+    requires { ⌜ at + 3 ≤ length (now s) ⌝ }
+    ensures { λ r. ⌜ FiguresAt (now (s .entry)) at (r .count) (r .number) × (r .count ≤ 3) ⌝ }
+{
+    let a = s[at];
+    let b = s[at + 1];
+    let c = s[at + 2];
+    if !is_digit(a) {
+        return Run {
+            number: 0,
+            count: 0,
+        };
+    }
+    let two = is_digit(b);
+    let three = is_digit(c);
+    let one_digit = figure(a);
+    let two_digits = one_digit * 10 + figure(b);
+    let three_digits = two_digits * 10 + figure(c);
+    Run {
+        number: pick(two, pick(three, three_digits, two_digits), one_digit),
+        count: pick(two, pick(three, 3, 2), 1) as usize,
+    }
+}
+
+// Each word's integer in a byte.
+fn read_bytes(s: &[u8], from: usize, row: &mut [u8], first: usize) -> Content
+    requires { ⌜ (from ≤ length (now s)) × (first ≤ length (now row)) ⌝ }
+    ensures { λ r. ⌜ MovesContent (InText (Whole false W1) (now (s .entry)) from) (AsBinary (Whole false W1)) (now (row .entry)) first (now (row .exit)) r ⌝ }
+{
+    let mut at = from;
+    let mut o = first;
+    let mut count: usize = 0;
+    loop {
+        if s.len() - at < 4 {
+            return Content::Careful;
+        }
+        if row.len() <= o {
+            return Content::Careful;
+        }
+        let run = three_at(s, at);
+        let number = run.number;
+        let digits = run.count;
+        if digits == 0 {
+            return Content::Careful;
+        }
+        if 255 < number {
+            return Content::Careful;
+        }
+        row[o] = number as u8;
+        o += 1;
+        count += 1;
+        if s[at + digits] != b' ' {
+            return Content::Elements(count, at + digits, o);
+        }
+        at = at + digits + 1;
+    }
+}
+
+// Bytes are short, and have a way of their own.
+fn read_whole(s: &[u8], at: usize, integer: Integer, row: &mut [u8], o: usize) -> Content
+    requires { ⌜ (at ≤ length (now s)) × (o ≤ length (now row)) ⌝ }
+    ensures { λ r. ⌜ MovesContent (InText (Whole (isSigned integer) (widthOf integer)) (now (s .entry)) at) (AsBinary (Whole (isSigned integer) (widthOf integer))) (now (row .entry)) o (now (row .exit)) r ⌝ }
+{
+    match integer {
+        Integer::UnsignedByte => read_bytes(s, at, row, o),
+        _ => read_integers(s, at, integer, row, o),
+    }
+}
+
+// ---- booleans
+
 // `F`, `T` and `?` for 0, 1 and 2.
 fn truth_byte(number: u8) -> u8
     requires { ⌜ number < 3 ⌝ }
@@ -450,7 +549,7 @@ pub fn read_content(kind: Kind, s: &[u8], at: usize, row: &mut [u8], o: usize) -
     match elements_of(kind) {
         Elements::Truths => read_truths(s, at, row, o),
         Elements::Bits => read_bits(s, at, row, o),
-        Elements::Whole(integer) => read_integers(s, at, integer, row, o),
+        Elements::Whole(integer) => read_whole(s, at, integer, row, o),
         Elements::Text => read_text(s, at, row, o),
     }
 }

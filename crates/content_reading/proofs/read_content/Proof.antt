@@ -24,7 +24,7 @@ returns-2 c =
 returns-3 : tie.Need-returns-3
 returns-3 c =
     let at-integer = c .before .before .before .before .before in
-    rw (kind-is (at-integer .before .before) (at-integer .integer .given .1)) (c .before .before .read-integers .ensures)
+    rw (kind-is (at-integer .before .before) (at-integer .integer .given .1)) (c .before .before .read-whole .ensures)
 
 returns-4 : tie.Need-returns-4
 returns-4 c =

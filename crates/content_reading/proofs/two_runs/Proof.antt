@@ -26,13 +26,14 @@ module _ (c : tie.After-decimal-of2) where
   high : FiguresAt s (start .args .at) (start .args .m) (c .before .before .before .decimal-of .result)
   high =
       let h = start .pre in
-      figures-read bytes (omega (arith, h .1 .inside)) (h .2) (omega (arith, h .0)) (passes-front (start .args .m) (h .1) (omega arith)) (c .before .before .before .before .few-figures .ensures) (c .before .before .before .decimal-of .ensures)
+      let some = passes-front (start .args .m) (h .1) (omega arith) in
+      figures-read bytes (omega (arith, h .1 .inside)) (h .2) (omega (arith, h .0)) some (c .before .before .before .before .few-figures .ensures) (c .before .before .before .decimal-of .ensures)
 
   low : FiguresAt s (start .args .at + start .args .m) 8 (c .decimal-of2 .result)
   low =
       let d = start .pre .1 in
-      figures-read bytes (omega (arith, d .inside)) (c .before .before .eight-bytes .ensures) (omega arith) (passes-part (start .args .m) 8 d (omega arith)) (c .before .leading-figures .ensures)
-      (c .decimal-of2 .ensures)
+      let eight = passes-part (start .args .m) 8 d (omega arith) in
+      figures-read bytes (omega (arith, d .inside)) (c .before .before .eight-bytes .ensures) (omega arith) eight (c .before .leading-figures .ensures) (c .decimal-of2 .ensures)
 
 mul-result : tie.Need-mul-result
 mul-result c = record { fits = omega (arith, figures-lt (high c), power-le (c .before .before .before .before .before .before .args .m) 7 (omega arith)) }
