@@ -8,7 +8,8 @@ use lib.IntN.{pos}
 use lib.ListN.{drop, length-map, take}
 use Rattle.content_copying.proofs.Runs.{pass-long}
 use Rattle.content_copying.specs.Passing.{PassTo}
-use Rattle.content_reading.proofs.Packing.{bit-is, every-bit, length-figures}
+use Rattle.content_reading.proofs.Figures.{length-figures}
+use Rattle.content_reading.proofs.Packing.{bit-is, every-bit}
 use Rattle.content_reading.proofs.Spelling.{spells-to}
 use Rattle.content_reading.specs.Figures.{figures, isBit}
 use Rattle.moving.specs.Contents.{AsText, ContentMoved, InText}

@@ -6,13 +6,20 @@ use mathlib.Core.Bool.{Bool, true}
 use mathlib.Core.List.{List, _++_}
 use mathlib.Core.Path.{_∙_, _≡_, ap, subst, sym}
 use lib.ListN.{drop, length, length-drop, take}
-use lib.Seq.{drop-drop, length-take-le, take-add}
+use lib.Seq.{drop-drop, length-take-le, take-add, take-take}
 use Rattle.content_copying.specs.Passing.{PassTo}
-use Rattle.content_reading.proofs.Chars.{run-ahead}
+use Rattle.content_reading.proofs.Runs.{run-all, run-le}
 use Rattle.eights.specs.Marks.{run}
 use Rattle.moving.specs.Puts.{Puts}
 use Rattle.table.proofs.Laws.{all-append}
 use Rattle.table.specs.All.{All}
+
+-- of eight bytes
+run-ahead : (test : ℕ → Bool) (s : List ℕ) (at r : ℕ) → at + 8 ≤ length s → r ≡ run test (take 8 (drop at s)) → (r ≤ 8) × All (λ (c : ℕ). test c ≡ true) (take r (drop at s))
+run-ahead test s at r h e =
+    let l : length (take 8 (drop at s)) ≡ 8 = length-take-le 8 (drop at s) (simp length-drop (omega arith)) in
+    let few : r ≤ 8 = omega (arith, e, run-le test (take 8 (drop at s))) in
+    (few, subst (All (λ (c : ℕ). test c ≡ true)) (ap (λ (n : ℕ). take n (take 8 (drop at s))) (sym e) ∙ take-take r 8 (drop at s) few) (run-all test (take 8 (drop at s))))
 
 pub pass-none : (test : ℕ → Bool) (s : List ℕ) (at : ℕ) → at ≤ length s → PassTo test s at at
 pass-none test s at h =

@@ -45,12 +45,12 @@ module _ {test : ℕ → Bool} {s : List ℕ} {at : ℕ} where
 
 -- ---- of the next eight bytes
 
-run-all : (test : ℕ → Bool) (l : List ℕ) → All (λ (c : ℕ). test c ≡ true) (take (run test l) l)
+pub run-all : (test : ℕ → Bool) (l : List ℕ) → All (λ (c : ℕ). test c ≡ true) (take (run test l) l)
 unfolding run
 run-all test [] = tt
 run-all test (b ∷ l) = cond-cases (λ (n : ℕ). All (λ (c : ℕ). test c ≡ true) (take n (b ∷ l))) (test b) (suc (run test l)) 0 (λ e. (e, run-all test l)) (λ _. tt)
 
-run-le : (test : ℕ → Bool) (l : List ℕ) → run test l ≤ length l
+pub run-le : (test : ℕ → Bool) (l : List ℕ) → run test l ≤ length l
 unfolding run
 run-le test [] = le-refl 0
 run-le test (b ∷ l) = cond-cases (λ (n : ℕ). n ≤ suc (length l)) (test b) (suc (run test l)) 0 (λ _. omega (arith, run-le test l)) (λ _. omega arith)
