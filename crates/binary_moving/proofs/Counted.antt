@@ -4,7 +4,7 @@ use native.Mathlib.Omega.{arith}
 use mathlib.Core.Bool.{Bool, false, true}
 use mathlib.Core.List.{List, []}
 use mathlib.Core.Path.{_∙_, _≡_, ap, refl, subst, sym}
-use lib.Dec.{eqb}
+use lib.Dec.{eqb, lit≤}
 use lib.IntN.{ℤ}
 use lib.ListN.{drop, length, length-drop, take}
 use lib.Seq.{drop-drop, length-take-le}
@@ -17,6 +17,8 @@ use Rattle.moving.proofs.Cells.{cell-moved}
 use Rattle.moving.specs.Cells.{MovesCell, MovesRead, PutsCell, shownAs}
 use Rattle.moving.specs.Contents.{InBinary}
 use Rattle.moving.specs.declared.Moved.{Moved}
+use Rattle.number.specs.Contracts.{size}
+use Rattle.number.specs.declared.Integer.{Integer}
 use Rattle.rows.specs.Stream.{readCell}
 use Rattle.table.proofs.Laws.{nil-not-null}
 use Rattle.table.specs.Cell.{Cell, emptyIsNull, null, show, shown}
@@ -25,6 +27,12 @@ use Rattle.table.specs.Shape.{shape}
 use Rattle.table.specs.declared.Column.{Column}
 use Rattle.table.specs.declared.Rows.{Rows}
 use Rattle.table.specs.declared.Rows.the-variants.{Binary, Binary2, TableData}
+
+pub size-most : (kind : Integer) → size kind ≤ 8
+size-most Integer.UnsignedByte = lit≤ tt
+size-most Integer.Short = lit≤ tt
+size-most Integer.Int = lit≤ tt
+size-most Integer.Long = lit≤ tt
 
 -- ---- a content that is there
 

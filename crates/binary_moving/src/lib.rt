@@ -1,13 +1,16 @@
 // Cells of BINARY and BINARY2, moved where they are plain.
 use binary_reading::Count;
 use binary_reading::read_count;
+use cell_putting::Scalar;
 use cell_putting::count_size;
 use cell_putting::fill_up;
+use cell_putting::is_text;
 use cell_putting::put_close;
 use cell_putting::put_integer;
 use cell_putting::put_null;
 use cell_putting::put_open;
 use cell_putting::put_truth;
+use cell_putting::scalar_of;
 use content_passing::binary_integer;
 use content_passing::binary_truth;
 use content_passing::pass_content;
@@ -15,12 +18,11 @@ use content_showing::show_content;
 use moving::Content;
 use moving::Moved;
 use moving::One;
-use number::Elements;
 use number::Integer;
-use number::elements_of;
 use table::Column;
 use table::Rows;
-use table::is_scalar;
+use table::is_declared;
+use table::same_integer;
 ghost use mathlib.Core.Bool.{true};
 ghost use mathlib.Core.Path.{_≡_};
 ghost use Prim.Native.Nat.{_+_, _≤_};
@@ -95,11 +97,10 @@ fn move_elements(
     requires { ⌜ (n ≤ mostElements) × (at + contentBytes (shape (column .kind)) n + 8 ≤ length (now s)) × (o + mostRoom ≤ length (now row)) ⌝ }
     ensures { λ r. ⌜ ((from : Kinds) → NeverNull column → MovesRead (InBinary (shape (column .kind)) n (now (s .entry)) at) from to column (now (row .entry)) o (now (row .exit)) r) ⌝ }
 {
-    match to {
-        Rows::TableData => show_elements(column, n, s, at, row, o),
-        Rows::Binary => pass_elements(column, n, s, at, row, o),
-        Rows::Binary2 => pass_elements(column, n, s, at, row, o),
+    if is_text(to) {
+        return show_elements(column, n, s, at, row, o);
     }
+    pass_elements(column, n, s, at, row, o)
 }
 
 // ---- scalars
@@ -119,7 +120,12 @@ fn move_integer(
     let One::Element(z, next) = binary_integer(s, at, integer) else {
         return Moved::Careful;
     };
-    put_integer(to, column, integer, z, next, row, o)
+    let null = column.null;
+    if is_declared(null, z) {
+        return put_null(to, column, next, row, o);
+    }
+    let e = put_integer(to, integer, z, row, o);
+    Moved::Cell(next, e, false)
 }
 
 fn move_truth(to: Rows, column: Column, s: &[u8], at: usize, row: &mut [u8], o: usize) -> Moved
@@ -129,26 +135,16 @@ fn move_truth(to: Rows, column: Column, s: &[u8], at: usize, row: &mut [u8], o: 
     let One::Element(z, next) = binary_truth(s, at) else {
         return Moved::Careful;
     };
-    put_truth(to, column, z, next, row, o)
-}
-
-// A scalar has one element.
-fn move_scalar(to: Rows, column: Column, s: &[u8], at: usize, row: &mut [u8], o: usize) -> Moved
-    requires { ⌜ (bound (column .len) ≤ mostElements) × (at + contentBytes (shape (column .kind)) 1 + 8 ≤ length (now s)) × (o + mostRoom ≤ length (now row)) ⌝ }
-    ensures { λ r. ⌜ ((from : Kinds) → isScalar column ≡ true → MovesRead (InBinary (shape (column .kind)) 1 (now (s .entry)) at) from to column (now (row .entry)) o (now (row .exit)) r) ⌝ }
-{
-    let kind = column.kind;
-    match elements_of(kind) {
-        Elements::Whole(integer) => move_integer(to, column, integer, s, at, row, o),
-        Elements::Truths => move_truth(to, column, s, at, row, o),
-        Elements::Bits => move_elements(to, column, 1, s, at, row, o),
-        Elements::Text => move_elements(to, column, 1, s, at, row, o),
+    if same_integer(z, 2) {
+        return put_null(to, column, next, row, o);
     }
+    let e = put_truth(to, z, row, o);
+    Moved::Cell(next, e, false)
 }
 
 // ---- a cell
 
-// A cell that is not flagged, after its count.
+// A cell that is not flagged, after its count. What is called here is called nowhere else, so that the compiler makes one function of all.
 fn move_unflagged(
     to: Rows,
     column: Column,
@@ -161,13 +157,21 @@ fn move_unflagged(
     requires { ⌜ (bound (column .len) ≤ mostElements) × (n ≤ mostElements) × (at + contentBytes (shape (column .kind)) n + 8 ≤ length (now s)) × (o + mostRoom ≤ length (now row)) ⌝ }
     ensures { λ r. ⌜ ((from : Kinds) → MovesRead (InBinary (shape (column .kind)) n (now (s .entry)) at) from to column (now (row .entry)) o (now (row .exit)) r) ⌝ }
 {
-    if !is_scalar(column) {
-        return move_elements(to, column, n, s, at, row, o);
+    match scalar_of(column) {
+        Scalar::Integer(integer) => {
+            if n != 1 {
+                return Moved::Careful;
+            }
+            move_integer(to, column, integer, s, at, row, o)
+        }
+        Scalar::Truth => {
+            if n != 1 {
+                return Moved::Careful;
+            }
+            move_truth(to, column, s, at, row, o)
+        }
+        Scalar::Never => move_elements(to, column, n, s, at, row, o),
     }
-    if n == 1 {
-        return move_scalar(to, column, s, at, row, o);
-    }
-    Moved::Careful
 }
 
 // "its content is skipped unread" where it is flagged; in BINARY no elements are null.
