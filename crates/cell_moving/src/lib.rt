@@ -1,5 +1,6 @@
 // A cell of any kind of rows, moved from the input into a row's buffer: read, and written as the other kind has it.
 use binary_moving::move_binary;
+use cell_putting::is_text;
 use moving::Moved;
 use row_reading::read_cell;
 use row_writing::size_cell;
@@ -46,7 +47,7 @@ fn put_cell(
 }
 
 // By the scratch: read as every cell can be, and written as every cell can be.
-pub fn careful_cell(
+fn careful_cell(
     from: Rows,
     to: Rows,
     column: Column,
@@ -85,11 +86,10 @@ fn quick_cell(
     requires { ⌜ (at ≤ length (now s)) × (bound (column .len) ≤ mostElements) × (o ≤ length (now row)) ⌝ }
     ensures { λ r. ⌜ MovesCell from to column flagged (now (s .entry)) at (now (row .entry)) o (now (row .exit)) r ⌝ }
 {
-    match from {
-        Rows::TableData => move_text(to, column, s, at, row, o),
-        Rows::Binary => move_binary(from, to, column, flagged, s, at, row, o),
-        Rows::Binary2 => move_binary(from, to, column, flagged, s, at, row, o),
+    if is_text(from) {
+        return move_text(to, column, s, at, row, o);
     }
+    move_binary(from, to, column, flagged, s, at, row, o)
 }
 
 // A cell, quickly where it is plain, else the careful way.
