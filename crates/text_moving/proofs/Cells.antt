@@ -14,7 +14,7 @@ use Rattle.cell_putting.proofs.Elements.{binary-writes, binary2-writes, element
 use Rattle.cell_putting.specs.Contracts.{FillsUp, PutsElements}
 use Rattle.moving.proofs.Cells.{cell-moved}
 use Rattle.moving.proofs.Puts.{puts-as}
-use Rattle.moving.specs.Cells.{MovesCell, MovesRead, PutsCell, ReadMoved, shownAs}
+use Rattle.moving.specs.Cells.{MovesCell, MovesRead, NeverNull, PutsCell, ReadMoved, shownAs}
 use Rattle.moving.specs.Contents.{AsBinary, AsText, ContentMoved, InText, before, contentForm}
 use Rattle.moving.specs.Puts.{Puts}
 use Rattle.moving.specs.declared.Moved.{Moved}
@@ -31,7 +31,7 @@ use Rattle.table.specs.declared.Rows.{Rows}
 use Rattle.table.specs.declared.Rows.the-variants.{Binary, Binary2, TableData}
 use Rattle.tabledata.proofs.Laws.{nil-elements}
 use Rattle.tabledata.specs.TableData.{countFits, readText, textCell}
-use Rattle.text_moving.specs.Contracts.{ClosesAt, Counts, NeverNull, OpensAs, TextRead}
+use Rattle.text_moving.specs.Contracts.{ClosesAt, Counts, OpensAs, TextRead}
 use Rattle.text_moving.specs.declared.Opening.{Opening}
 
 -- ---- how many there are

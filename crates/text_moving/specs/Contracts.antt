@@ -1,12 +1,12 @@
 -- What the contracts of the functions on a cell of TABLEDATA say.
 use Prim.Native.Nat.{_+_, _≤_, ℕ}
-use mathlib.Core.Bool.{false, true}
+use mathlib.Core.Bool.{true}
 use mathlib.Core.List.{List, []}
 use mathlib.Core.Path.{_≡_}
 use lib.IntN.{ℤ}
 use lib.ListN.{drop, length}
 use Rattle.moving.specs.Contents.{InText}
-use Rattle.table.specs.Cell.{bound, isNullList, standsForNull}
+use Rattle.table.specs.Cell.{bound}
 use Rattle.table.specs.Result.{good}
 use Rattle.table.specs.Shape.{shape}
 use Rattle.table.specs.declared.Column.{Column}
@@ -29,10 +29,6 @@ pub record Counts (c : Column) (m : ℕ) : Type 0 where
   pub fits : countFits c m ≡ true
   pub some : 1 ≤ m
   pub few : m ≤ bound (c .len)
-
--- a column without an element that stands for null
-abbrev pub NeverNull : Column → Type 0
-NeverNull c = (es : List ℤ) → isNullList (standsForNull c) es ≡ false
 
 -- the elements from one place to another, the end tag behind them
 pub record TextRead (c : Column) (s : List ℕ) (from next : ℕ) (es : List ℤ) : Type 0 where

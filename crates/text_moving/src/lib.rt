@@ -1,12 +1,15 @@
 // A cell of TABLEDATA, moved from the input into a row's buffer as any kind of rows has it: what is plain at once, everything else is left to the
 // careful way.
+use cell_putting::Scalar;
 use cell_putting::count_size;
 use cell_putting::fill_up;
+use cell_putting::is_text;
 use cell_putting::put_close;
 use cell_putting::put_integer;
 use cell_putting::put_null;
 use cell_putting::put_open;
 use cell_putting::put_truth;
+use cell_putting::scalar_of;
 use content_copying::copy_content;
 use content_reading::read_content;
 use content_reading::text_integer;
@@ -15,27 +18,26 @@ use integers::four_bytes;
 use moving::Content;
 use moving::Moved;
 use moving::One;
-use number::Elements;
 use number::Integer;
-use number::elements_of;
 use table::Column;
 use table::Len;
 use table::Rows;
 use table::is_char;
-use table::is_scalar;
+use table::is_declared;
+use table::same_integer;
 use text::skip_white;
 ghost use mathlib.Core.Bool.{Bool, true};
 ghost use mathlib.Core.Path.{_≡_};
 ghost use Prim.Native.Nat.{_+_, _≤_};
 ghost use lib.ListN.{length};
 ghost use Rattle.cell_putting.specs.Contracts.{mostRoom};
-ghost use Rattle.moving.specs.Cells.{MovesCell, MovesRead};
+ghost use Rattle.moving.specs.Cells.{MovesCell, MovesRead, NeverNull};
 ghost use Rattle.number.specs.Contracts.{isSigned, widthOf};
 ghost use Rattle.table.specs.Cell.{bound, isScalar, mostElements};
 ghost use Rattle.table.specs.Shape.{Truths, Whole, shape};
 ghost use Rattle.table.specs.declared.Rows.the-variants.{Binary, Binary2, TableData};
 ghost use Rattle.text.specs.Contracts.{Skipped};
-ghost use Rattle.text_moving.specs.Contracts.{ClosesAt, Counts, NeverNull, OpensAs, TextRead};
+ghost use Rattle.text_moving.specs.Contracts.{ClosesAt, Counts, OpensAs, TextRead};
 
 // ---- tags
 
@@ -115,7 +117,12 @@ fn move_integer(
     if !closes(s, end) {
         return Moved::Careful;
     }
-    put_integer(to, column, integer, z, end + 5, row, o)
+    let null = column.null;
+    if is_declared(null, z) {
+        return put_null(to, column, end + 5, row, o);
+    }
+    let e = put_integer(to, integer, z, row, o);
+    Moved::Cell(end + 5, e, false)
 }
 
 fn move_truth(to: Rows, column: Column, s: &[u8], from: usize, row: &mut [u8], o: usize) -> Moved
@@ -128,7 +135,11 @@ fn move_truth(to: Rows, column: Column, s: &[u8], from: usize, row: &mut [u8], o
     if !closes(s, end) {
         return Moved::Careful;
     }
-    put_truth(to, column, z, end + 5, row, o)
+    if same_integer(z, 2) {
+        return put_null(to, column, end + 5, row, o);
+    }
+    let e = put_truth(to, z, row, o);
+    Moved::Cell(end + 5, e, false)
 }
 
 // ---- elements none of which stands for null
@@ -202,37 +213,25 @@ fn move_elements(to: Rows, column: Column, s: &[u8], from: usize, row: &mut [u8]
     requires { ⌜ (from ≤ length (now s)) × (bound (column .len) ≤ mostElements) × (o + mostRoom ≤ length (now row)) ⌝ }
     ensures { λ r. ⌜ (NeverNull column → MovesRead (TextRead column (now (s .entry)) from) TableData to column (now (row .entry)) o (now (row .exit)) r) ⌝ }
 {
-    match to {
-        Rows::TableData => copy_elements(column, s, from, row, o),
-        Rows::Binary => read_elements(column, s, from, row, o),
-        Rows::Binary2 => read_elements(column, s, from, row, o),
+    if is_text(to) {
+        return copy_elements(column, s, from, row, o);
     }
+    read_elements(column, s, from, row, o)
 }
 
 // ---- a cell
 
-// A scalar: a boolean or an integer may stand for null, and goes by its value.
-fn move_scalar(to: Rows, column: Column, s: &[u8], from: usize, row: &mut [u8], o: usize) -> Moved
-    requires { ⌜ (from ≤ length (now s)) × (bound (column .len) ≤ mostElements) × (o + mostRoom ≤ length (now row)) ⌝ }
-    ensures { λ r. ⌜ (isScalar column ≡ true → MovesRead (TextRead column (now (s .entry)) from) TableData to column (now (row .entry)) o (now (row .exit)) r) ⌝ }
-{
-    let kind = column.kind;
-    match elements_of(kind) {
-        Elements::Truths => move_truth(to, column, s, from, row, o),
-        Elements::Bits => move_elements(to, column, s, from, row, o),
-        Elements::Text => move_elements(to, column, s, from, row, o),
-        Elements::Whole(integer) => move_integer(to, column, integer, s, from, row, o),
-    }
-}
-
+// A scalar integer or boolean may stand for null, and goes by its value. What is called here is called nowhere else, so that the compiler makes
+// one function of all.
 fn move_content(to: Rows, column: Column, s: &[u8], from: usize, row: &mut [u8], o: usize) -> Moved
     requires { ⌜ (from ≤ length (now s)) × (bound (column .len) ≤ mostElements) × (o + mostRoom ≤ length (now row)) ⌝ }
     ensures { λ r. ⌜ MovesRead (TextRead column (now (s .entry)) from) TableData to column (now (row .entry)) o (now (row .exit)) r ⌝ }
 {
-    if is_scalar(column) {
-        return move_scalar(to, column, s, from, row, o);
+    match scalar_of(column) {
+        Scalar::Integer(integer) => move_integer(to, column, integer, s, from, row, o),
+        Scalar::Truth => move_truth(to, column, s, from, row, o),
+        Scalar::Never => move_elements(to, column, s, from, row, o),
     }
-    move_elements(to, column, s, from, row, o)
 }
 
 // A cell at a place, white space before it or not.
