@@ -221,7 +221,7 @@ fn move_elements(to: Rows, column: Column, s: &[u8], from: usize, row: &mut [u8]
 
 // ---- a cell
 
-// A scalar integer or boolean may stand for null, and goes by its value. What is called here is called nowhere else, so that the compiler makes
+// A scalar integer or boolean may stand for null, and goes by its value. Each of the three ways is called here alone, so that the compiler makes
 // one function of all.
 fn move_content(to: Rows, column: Column, s: &[u8], from: usize, row: &mut [u8], o: usize) -> Moved
     requires { ⌜ (from ≤ length (now s)) × (bound (column .len) ≤ mostElements) × (o + mostRoom ≤ length (now row)) ⌝ }
