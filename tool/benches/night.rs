@@ -39,6 +39,7 @@ fn main() {
     // First, while the stack has not been used yet; it is told last.
     let memory = memory(&night);
     nine_ways(&night, versions);
+    one_columns(versions);
     line_ends(&table::night(size / 10));
     base64::tables(&night.binary2, versions);
     growth(&night, size);
@@ -75,6 +76,23 @@ fn nine_ways(night: &Night, versions: Option<&Versions>) {
             let (rows, beside_before) = (night.rows as f64 / ours / 1e3, before::figures(versions, size, [ours, before]));
             println!("| {from} | {to} | {size:.1} | {speed:.0} | {plain_speed:.0} | {ratio:.2} | {rows:.0} |{beside_before}");
         }
+    }
+    println!();
+}
+
+/// Tables of one column, in three of the ways: there is one cell to a row, so that what a row costs by itself counts for as much.
+fn one_columns(versions: Option<&Versions>) {
+    const WAYS: [(Rows, Rows); 3] = [(Rows::TableData, Rows::Binary2), (Rows::Binary2, Rows::TableData), (Rows::Binary, Rows::Binary2)];
+    let heads = WAYS.map(|(from, to)| format!(" {from} to {to}, ns a row | / plain |{}", versions.map_or("", |_| " / before |")));
+    println!("| a row of |{}", heads.concat());
+    println!("|---|{}", WAYS.map(|_| versions.map_or("--:|--:|", |_| "--:|--:|--:|")).concat());
+    for (name, table) in table::one_columns(20_000) {
+        let figures = WAYS.map(|(from, to)| {
+            let [ours, plain, before] = convert_in_turn(&table, from, to, versions);
+            let beside = versions.map_or(String::new(), |_| format!(" {:.2} |", before / ours));
+            format!(" {:.1} | {:.2} |{beside}", ours * 1e9 / table.rows as f64, plain / ours)
+        });
+        println!("| {name} |{}", figures.concat());
     }
     println!();
 }

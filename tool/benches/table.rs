@@ -1,5 +1,5 @@
 //! A night of an observatory as a table, in the three kinds of rows at once, from one list of values: twenty columns
-//! of all kinds and shapes. Deterministic.
+//! of all kinds and shapes; and tables of one column. Deterministic.
 
 /// A night's rows in each kind, as the rules have them written.
 pub struct Night {
@@ -122,7 +122,7 @@ pub fn night_without(left_out: &[&str], bytes_of_text: usize) -> Night {
 
 fn drawn(mut random: Random, left_out: &[&str], bytes_of_text: usize) -> Night {
     let mut night = Night {
-        declarations: declarations(left_out),
+        declarations: declarations(columns(left_out).map(|(_, column)| column)),
         text: Vec::with_capacity(bytes_of_text + 2_000),
         binary: Vec::new(),
         binary2: Vec::new(),
@@ -132,6 +132,59 @@ fn drawn(mut random: Random, left_out: &[&str], bytes_of_text: usize) -> Night {
         let values = row(&mut random, night.rows as i64);
         night.add(left_out, &values);
     }
+    night
+}
+
+/// What the cells of a table of one column are called, its column, and how many rows there are for each thousand.
+type OneColumn = (&'static str, Column, usize, fn(&mut Random) -> Value);
+
+fn letters(random: &mut Random, count: i64) -> String {
+    (0..count).map(|_| (b'a' + random.below(26) as u8) as char).collect()
+}
+
+fn with_references(random: &mut Random) -> String {
+    let letter = |place, random: &mut Random| match place % 5 {
+        2 => ['&', '<', '>', '&'][random.below(4) as usize],
+        _ => (b'a' + random.below(26) as u8) as char,
+    };
+    (0..20).map(|place| letter(place, random)).collect()
+}
+
+/// Tables of one column each, of so many rows, and of fewer where cells are long.
+pub fn one_columns(rows: usize) -> Vec<(&'static str, Night)> {
+    let list: [OneColumn; 15] = [
+        ("long of 19 digits", column("a", "long", None, Some(-1)), 1_000, |r| Integers(vec![(r.next() << 31) + r.next() - (1 << 60)])),
+        ("int", column("a", "int", None, None), 1_000, |r| Integers(vec![r.below(1 << 31) - (1 << 30)])),
+        ("short, some null", column("a", "short", None, Some(-99)), 1_000, |r| {
+            let value = Integers(vec![r.below(6_000) - 3_000]);
+            r.unless_one_in(20, value)
+        }),
+        ("unsignedByte", column("a", "unsignedByte", None, None), 1_000, |r| Integers(vec![r.below(256)])),
+        ("boolean", column("a", "boolean", None, None), 1_000, |r| Booleans(vec![Some(r.below(2) == 0)])),
+        ("16 bits", column("a", "bit", Some("16"), None), 1_000, |r| Bits(r.bits(16))),
+        ("12 characters", column("a", "char", Some("12"), None), 1_000, |r| Characters(letters(r, 12))),
+        ("200 characters", column("a", "char", Some("200"), None), 50, |r| Characters(letters(r, 200))),
+        ("1 to 40 characters", column("a", "char", Some("*"), None), 1_000, |r| {
+            let count = 1 + r.below(40);
+            Characters(letters(r, count))
+        }),
+        ("20 characters, 4 of them references", column("a", "char", Some("20"), None), 1_000, |r| Characters(with_references(r))),
+        ("8 ints", column("a", "int", Some("8"), None), 1_000, |r| Integers(r.integers(8, -(1 << 30), 1 << 31))),
+        ("8 shorts", column("a", "short", Some("8"), None), 1_000, |r| Integers(r.integers(8, -32_767, 65_535))),
+        ("8 booleans", column("a", "boolean", Some("8"), None), 1_000, |r| {
+            Booleans((0..8).map(|_| [Some(true), Some(false), None][r.below(3) as usize]).collect())
+        }),
+        ("1,000 longs", column("a", "long", Some("1000*"), None), 50, |r| Integers(r.integers(1_000, -(1 << 30), 1 << 31))),
+        ("4,000 bits", column("a", "bit", Some("*"), None), 50, |r| Bits(r.bits(4_000))),
+    ];
+    list.into_iter().map(|(name, column, thousandths, cell)| (name, one_column(&column, rows * thousandths / 1_000, cell))).collect()
+}
+
+fn one_column(column: &Column, rows: usize, cell: fn(&mut Random) -> Value) -> Night {
+    let mut random = Random(7);
+    let declarations = declarations(std::iter::once(column));
+    let mut night = Night { declarations, text: Vec::new(), binary: Vec::new(), binary2: Vec::new(), rows: 0 };
+    (0..rows).for_each(|_| night.add_cells(&[(&cell(&mut random), column)]));
     night
 }
 
@@ -155,9 +208,9 @@ fn columns<'a>(left_out: &'a [&str]) -> impl Iterator<Item = (usize, &'static Co
     COLUMNS.iter().enumerate().filter(|(_, column)| !left_out.contains(&column.name))
 }
 
-fn declarations(left_out: &[&str]) -> Vec<u8> {
+fn declarations<'a>(columns: impl Iterator<Item = &'a Column>) -> Vec<u8> {
     let mut text = String::new();
-    for (_, column) in columns(left_out) {
+    for column in columns {
         text += &format!("<FIELD name=\"{}\" datatype=\"{}\"", column.name, column.datatype);
         if let Some(arraysize) = column.arraysize {
             text += &format!(" arraysize=\"{arraysize}\"");
@@ -206,10 +259,15 @@ fn row(random: &mut Random, row: i64) -> [Value; 20] {
 
 impl Night {
     fn add(&mut self, left_out: &[&str], values: &[Value; 20]) {
+        let cells: Vec<(&Value, &Column)> = columns(left_out).map(|(place, column)| (&values[place], column)).collect();
+        self.add_cells(&cells);
+    }
+
+    fn add_cells(&mut self, cells: &[(&Value, &Column)]) {
         let flags = self.binary2.len();
-        self.binary2.resize(flags + columns(left_out).count().div_ceil(8), 0);
+        self.binary2.resize(flags + cells.len().div_ceil(8), 0);
         self.text.extend(b"<TR>");
-        for (place, (value, column)) in columns(left_out).map(|(place, column)| (&values[place], column)).enumerate() {
+        for (place, (value, column)) in cells.iter().enumerate() {
             if let Null = value {
                 self.binary2[flags + place / 8] |= 0x80 >> (place % 8);
             }
