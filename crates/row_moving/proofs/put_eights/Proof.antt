@@ -1,14 +1,14 @@
 -- `row_moving::put_eights` meets its contract: before each turn the first k bytes are put, and the last eight go over those of them that are among these.
 use Prim.Native.Nat.{_+_, _-_, _<_, _≤_, ℕ}
 use native.Mathlib.Omega.{arith}
-use mathlib.Core.Path.{_∙_, _≡_, ap, refl, sym}
+use mathlib.Core.Path.{_∙_, _≡_, ap, refl}
 use borrow.Author.Needs.{needs}
 use denote.Ref.{now}
 use lib.ListN.{length, take}
 use lib.Seq.{length-take-le, sets}
 use Rattle.eights.proofs.Fronts.{are-bytes, eight-back}
-use Rattle.row_moving.proofs.Copying.{sets-last, sets-more}
 use Rattle.number.proofs.Laws.{length-to}
+use Rattle.row_moving.proofs.Copying.{sets-last, sets-more}
 use Rattle.table.specs.All.{AreBytes}
 use Rattle.row_moving.proofs.put_eights.Statement.{statement}
 use Rattle.row_moving.proofs.put_eights.Tie as tie
