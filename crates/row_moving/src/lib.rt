@@ -2,6 +2,8 @@
 // writes nothing, and no cell is measured before it is written.
 use cell_moving::move_cell;
 use flags::add_flag;
+use integers::eight_bytes;
+use integers::put_eight;
 use moving::Moved;
 use row_reading::Begin;
 use row_reading::Close;
@@ -40,6 +42,9 @@ pub enum Framed {
 // Room for what stands around a row's cells.
 const MOST_FRAME_BYTES: usize = 8;
 
+// A row above this is copied by a call.
+const MOST_BY_EIGHTS: usize = 512;
+
 // What begins a row and what ends it, around its cells, which end at a place of the buffer.
 fn frame_row(to: Rows, count: usize, nulls: u64, row: &mut [u8], end: usize) -> Framed
     requires { ⌜ (count ≤ 64) × (mostFrameBytes ≤ length (now row)) × (end ≤ length (now row)) ⌝ }
@@ -53,11 +58,47 @@ fn frame_row(to: Rows, count: usize, nulls: u64, row: &mut [u8], end: usize) -> 
     Framed::Row(size)
 }
 
-// The first bytes of the buffer, to the output.
+// ---- the first bytes of the buffer, to the output, and not a byte more
+
+// One at a time.
+fn put_few(row: &[u8], size: usize, out: &mut [u8], at: usize) -> usize
+    requires { ⌜ (size ≤ length (now row)) × (at + size ≤ length (now out)) ⌝ }
+    ensures { λ r. ⌜ Wrote (now (out .entry)) at (take size (now (row .entry))) (now (out .exit)) r ⌝ }
+{
+    let mut k: usize = 0;
+    while k < size {
+        out[at + k] = row[k];
+        k += 1;
+    }
+    at + size
+}
+
+// Eight at a time; the last eight may be put over some that are there.
+fn put_eights(row: &[u8], size: usize, out: &mut [u8], at: usize) -> usize
+    requires { ⌜ 8 ≤ size ⌝ }
+    requires { ⌜ (size ≤ length (now row)) × (at + size ≤ length (now out)) ⌝ }
+    ensures { λ r. ⌜ Wrote (now (out .entry)) at (take size (now (row .entry))) (now (out .exit)) r ⌝ }
+{
+    let last = size - 8;
+    let mut k: usize = 0;
+    while k < last {
+        put_eight(out, at + k, eight_bytes(row, k));
+        k += 8;
+    }
+    put_eight(out, at + last, eight_bytes(row, last))
+}
+
+// A short row is not worth a call that copies; a long one is.
 fn put_row(row: &[u8], size: usize, out: &mut [u8], at: usize) -> usize
     requires { ⌜ (size ≤ length (now row)) × (at + size ≤ length (now out)) ⌝ }
     ensures { λ r. ⌜ Wrote (now (out .entry)) at (take size (now (row .entry))) (now (out .exit)) r ⌝ }
 {
+    if size < 8 {
+        return put_few(row, size, out, at);
+    }
+    if size <= MOST_BY_EIGHTS {
+        return put_eights(row, size, out, at);
+    }
     put_bytes(out, at, &row[0..size])
 }
 
