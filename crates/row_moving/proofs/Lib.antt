@@ -1,2 +1,3 @@
 pub mod Copying
 pub mod Moving
+pub mod Beginning

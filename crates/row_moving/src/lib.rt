@@ -3,6 +3,7 @@
 use cell_moving::move_cell;
 use flags::add_flag;
 use integers::eight_bytes;
+use integers::four_bytes;
 use integers::put_eight;
 use moving::Moved;
 use row_reading::Begin;
@@ -21,10 +22,12 @@ ghost use Prim.Native.Nat.{_+_, _<_, _≤_};
 ghost use lib.ListN.{length, take};
 ghost use Rattle.moving.specs.Rows.{MovesRows};
 ghost use Rattle.row_moving.specs.Contracts.{FramesRow, mostFrameBytes};
+ghost use Rattle.row_reading.specs.Contracts.{Begins};
 ghost use Rattle.rows.specs.Bounds.{Within};
 ghost use Rattle.table.specs.Cell.{mostElements};
 ghost use Rattle.table.specs.ColumnList.{listed};
 ghost use Rattle.table.specs.Wrote.{Wrote};
+ghost use Rattle.table.specs.declared.Rows.the-variants.{Binary2, TableData};
 
 // Rows that are done: the place in the input where they end, how many they are, and the bytes written.
 pub struct Done {
@@ -102,6 +105,53 @@ fn put_row(row: &[u8], size: usize, out: &mut [u8], at: usize) -> usize
     put_bytes(out, at, &row[0..size])
 }
 
+// ---- the start of a row: what is plain is told from eight bytes at once, all else by `begin_row`
+
+// A bare `<TR>`, behind a line's end or not.
+fn begin_text(s: &[u8], at: usize, count: usize) -> Begin
+    requires { ⌜ (at + 8 ≤ length (now s)) × (1 ≤ count) × (count ≤ 64) ⌝ }
+    ensures { λ r. ⌜ Begins TableData count (now (s .entry)) at r ⌝ }
+{
+    let start = if s[at] == 10 { at + 1 } else { at };
+    if four_bytes(s, start) == 0x3c54523e {
+        Begin::Row(0, start + 4)
+    } else {
+        begin_row(Rows::TableData, s, at, count)
+    }
+}
+
+// The flags, of which the spare ones are 0.
+fn begin_flags(s: &[u8], at: usize, count: usize) -> Begin
+    requires { ⌜ (at + 8 ≤ length (now s)) × (1 ≤ count) × (count ≤ 64) ⌝ }
+    ensures { λ r. ⌜ Begins Binary2 count (now (s .entry)) at r ⌝ }
+{
+    let n = (count + 7) / 8;
+    let x = eight_bytes(s, at) >> (64 - 8 * n);
+    let unit = 1u64 << (8 * n - count);
+    if x % unit == 0 {
+        Begin::Row(x / unit, at + n)
+    } else {
+        begin_row(Rows::Binary2, s, at, count)
+    }
+}
+
+// As `begin_row`, which it calls where the row does not begin plainly.
+fn begin_quickly(from: Rows, s: &[u8], at: usize, count: usize) -> Begin
+    requires { ⌜ (at ≤ length (now s)) × (1 ≤ count) × (count ≤ 64) ⌝ }
+    ensures { λ r. ⌜ Begins from count (now (s .entry)) at r ⌝ }
+{
+    if s.len() - at < 8 {
+        return begin_row(from, s, at, count);
+    }
+    match from {
+        Rows::TableData => begin_text(s, at, count),
+        Rows::Binary => Begin::Row(0, at),
+        Rows::Binary2 => begin_flags(s, at, count),
+    }
+}
+
+// ---- rows
+
 // Rows, as long as they are good, fit, and are not longer than the buffer.
 pub fn move_rows(
     cols: Columns,
@@ -125,7 +175,7 @@ pub fn move_rows(
     let mut rows = start.rows;
     let mut bytes = start.bytes;
     'rows: loop {
-        let b = begin_row(from, s, place, count);
+        let b = begin_quickly(from, s, place, count);
         let flags: u64;
         let body: usize;
         match b {

@@ -12,8 +12,7 @@ use Rattle.cell_moving.proofs.move_cell.Tie as tie
 returns : tie.Need-returns
 returns c =
     let a = c .before .before .before .before .before .before .before .before .before .args in
-    let q = c .before .before .before .before .before .quick-cell in
-    (
+    let q = c .before .before .before .before .before .quick-cell in (
       subst (MovesCell (a .from) (a .to) (a .column) (a .flagged) (now (a .s)) (a .at) (now (a .row)) (a .o) (q .last .1 .1 .1 .1 .1 .1 .0)) (c .before .quick .given .1) (q .ensures),
       refl,
     )
@@ -35,8 +34,7 @@ careful-cell-requires c κs =
 returns-2 : tie.Need-returns-2
 returns-2 c =
     let a = c .before .before .before .before .before .before .before .before .before .before .before .before .before .before .args in
-    let m = c .before .before .before .careful-cell in
-    (
+    let m = c .before .before .before .careful-cell in (
       moved-after (a .from) (a .to) (a .column) (a .flagged) (now (a .s)) (a .at) (now (a .row)) (a .o) _ (m .last .1 .1 .1 .1 .1 .1 .1 .0) (m .result) (declined (c .before .before .before .before .before .before)) (m .ensures .0),
       m .ensures .1,
     )

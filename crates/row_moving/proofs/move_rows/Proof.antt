@@ -106,13 +106,13 @@ begun : (b : Begun) → readRow (from-at (rows-of b)) (listed (cols-at (rows-of 
     ≡ cellsEnd (from-at (rows-of b)) (listed (cols-at (rows-of b))) (flagsIn (from-at (rows-of b)) (cols-at (rows-of b) .count) (flags-at b)) (drop (body-at b) (s-at (rows-of b)))
 begun b =
     let r = rows-of b in
-    let g = b .before .before .before .begin-row in
+    let g = b .before .before .before .begin-quickly in
     row-begun (from-at r) (listed (cols-at r)) (cols-at r .count) (listed-length (cols-at r)) (s-at r) (r .rows .place) (g .result) (g .ensures) (flags-at b) (body-at b) (b .before .b2 .given .1)
 
 within : (b : Begun) → (rows-of b .rows .place ≤ body-at b) × (body-at b ≤ length (s-at (rows-of b)))
 within b =
     let r = rows-of b in
-    let g = b .before .before .before .begin-row in
+    let g = b .before .before .before .begin-quickly in
     begun-within (from-at r) (listed (cols-at r)) (cols-at r .count) (listed-length (cols-at r)) (s-at r) (r .rows .place) (g .result) (g .ensures) (flags-at b) (body-at b) (b .before .b2 .given .1)
 
 -- the room that what begins a row takes
@@ -208,8 +208,8 @@ rows-holds c =
     let a = c .before .before .before .before in
     (record { inside = a .pre .1 .0; fewer = a .pre .1 .1; room = a .pre .1 .2; long = refl; onward = le-refl _; further = λ out₀ d. d }, refl, refl)
 
-begin-row-requires : tie.Need-begin-row-requires Inv-loop μ-loop Inv-rows μ-rows
-begin-row-requires c κs = (c .rows .inv .0 .inside, omega (arith, are c .some, listed-length (cols-at c)), few c)
+begin-quickly-requires : tie.Need-begin-quickly-requires Inv-loop μ-loop Inv-rows μ-rows
+begin-quickly-requires c κs = (c .rows .inv .0 .inside, omega (arith, are c .some, listed-length (cols-at c)), few c)
 
 -- ---- the loop over columns
 
@@ -386,7 +386,7 @@ move-rows-spec =
     μ-rows
     start-size-requires
     rows-holds
-    begin-row-requires
+    begin-quickly-requires
     (λ c. search needs)
     (λ c. search needs)
     loop-holds
