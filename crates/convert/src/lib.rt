@@ -118,6 +118,9 @@ const SCRATCH: usize = 8192;
 // What the buffer of a row has: a longer row goes the careful way.
 const ROW: usize = 16384;
 
+// And where few rows are converted.
+const SHORT_ROW: usize = 512;
+
 // More than the scratch has says that the cells are not held.
 const LOST: usize = SCRATCH + 1;
 
@@ -448,13 +451,15 @@ pub fn convert_piece_columns(cols: Columns, from: Rows, to: Rows, s: &[u8], out:
     convert_rows(cols, from, to, s, out, &mut scratch, &mut row)
 }
 
-// Rows under a column list.
+// Rows under a column list, for a caller who has few of them and a stack that is half used: the buffer of a row is short.
 pub fn convert_columns(cols: Columns, from: Rows, to: Rows, s: &[u8], out: &mut [u8]) -> Answer
     requires { ⌜ Within (listed cols) ⌝ }
     ensures { λ r. ⌜ r ≡ answerOf (run from to (listed cols) (length (now (out .entry))) (now (s .entry))) ⌝ }
     ensures { λ _. ⌜ now (out .exit) ≡ bufferOf (run from to (listed cols) (length (now (out .entry))) (now (s .entry))) (now (out .entry)) ⌝ }
 {
-    let piece = convert_piece_columns(cols, from, to, s, out);
+    let mut scratch = [0i64; SCRATCH];
+    let mut row = [0u8; SHORT_ROW];
+    let piece = convert_rows(cols, from, to, s, out, &mut scratch, &mut row);
     piece.answer
 }
 
