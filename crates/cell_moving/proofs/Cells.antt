@@ -6,23 +6,18 @@ use mathlib.Core.List.{List}
 use mathlib.Core.Path.{_∙_, _≡_, ap, refl, subst, sym}
 use lib.IntN.{ℤ}
 use lib.ListN.{length}
+use Rattle.cell_putting.proofs.Cells.{has-form}
 use Rattle.moving.proofs.Puts.{puts-wrote}
 use Rattle.moving.specs.Cells.{CellPut}
 use Rattle.row_writing.proofs.RowForm.{form-bytes}
 use Rattle.row_writing.specs.Contracts.{cellBytes}
 use Rattle.rows.specs.Stream.{writeCell}
-use Rattle.table.proofs.Laws.{bad-good}
 use Rattle.table.specs.Cell.{Cell, isNull}
 use Rattle.table.specs.Contracts.{held, sizeOf}
-use Rattle.table.specs.Result.{Result, bad, good}
+use Rattle.table.specs.Result.{good}
 use Rattle.table.specs.Wrote.{Wrote}
 use Rattle.table.specs.declared.Column.{Column}
 use Rattle.table.specs.declared.Rows.{Rows}
-
--- what has a size has a form
-pub has-form : (w : Result ℕ (List ℕ)) (n : ℕ) → good n ≡ sizeOf w → (b : List ℕ) × (w ≡ good b) × (n ≡ length b)
-has-form (good b) n e = (b, refl, cc)
-has-form (bad k) n e = absurd (bad-good (sym e))
 
 -- what is written of a cell that has a form takes its size
 pub form-length : (to : Rows) (c : Column) (x : Cell) (n : ℕ) → good n ≡ sizeOf (writeCell to c x) → length (cellBytes to c x) ≡ n
