@@ -1,0 +1,56 @@
+-- A plan's steps: what a column of so many elements wants, by what its elements are; and the steps of a list, one by one. Cited by want_of, plan_of
+-- and by whoever moves cells by a plan.
+use Prim.Native.Nat.{_+_, _-_, _<_, _≤_, suc, zero, ℕ}
+use native.Mathlib.Nat.{le-refl}
+use native.Mathlib.Omega.{arith}
+use mathlib.Core.List.{List, [], _++_, _∷_, map}
+use mathlib.Core.Path.{_∙_, _≡_, ap, refl, sym}
+use lib.ListN.{drop, getD, length, replicate, set, take}
+use lib.Seq.{take-all}
+use Rattle.number.specs.Contracts.{shapeAs, widthOf}
+use Rattle.number.specs.declared.Elements.{Elements}
+use Rattle.number.specs.declared.Integer.{Integer}
+use Rattle.planning.specs.Plan.{noStep, oneInteger, planOf, stepOf, wantOf}
+use Rattle.planning.specs.declared.Plan.{Plan}
+use Rattle.planning.specs.declared.Step.{Step}
+use Rattle.planning.specs.declared.Want.{Want}
+use Rattle.table.specs.ColumnList.{noColumn}
+use Rattle.table.specs.Shape.{shape}
+use Rattle.table.specs.declared.Column.{Column}
+use Rattle.table.specs.declared.Kind.{Kind}
+
+-- ---- one column
+
+pub one-integer : (integer : Integer) → Want.Integer integer ≡ oneInteger (widthOf integer)
+one-integer Integer.UnsignedByte = refl
+one-integer Integer.Short = refl
+one-integer Integer.Int = refl
+one-integer Integer.Long = refl
+
+pub want-by : (e r : Elements) (kind : Kind) (n : ℕ) → r ≡ e → shapeAs r ≡ shape kind → wantOf (shapeAs e) n ≡ wantOf (shape kind) n
+want-by e r kind n g q = ap (λ k. wantOf k n) (sym (ap shapeAs g) ∙ q)
+
+-- ---- a list of columns: its steps so far, and none behind them
+
+abbrev pub stepsTo : List Column → ℕ → List Step
+stepsTo cs i = map stepOf (take i cs) ++ replicate (64 - i) noStep
+
+-- one more
+set-more : (cs : List Column) (i m n : ℕ) (c : Column) → drop i cs ≡ c ∷ drop (suc i) cs → m ≡ suc n
+    → set (map stepOf (take i cs) ++ replicate m noStep) i (stepOf c) ≡ map stepOf (take (suc i) cs) ++ replicate n noStep
+set-more [] zero m n c d e = absurd (none d)
+  where
+    none : {x : Column} {l : List Column} → [] ≡ x ∷ l → ⊥
+    none q = absurd (omega (arith, ap length q))
+set-more [] (suc i) m n c d e = absurd (omega (arith, ap length d))
+set-more (b ∷ cs) zero m n c d e = rw e (ap (λ (x : Column). stepOf x ∷ replicate n noStep) (sym (ap (λ (l : List Column). getD l 0 noColumn) d)))
+set-more (b ∷ cs) (suc i) m n c d e = ap (λ (l : List Step). stepOf b ∷ l) (set-more cs i m n c d e)
+
+pub steps-more : (cs : List Column) (i : ℕ) (c : Column) (l : List Step) → i < 64 → drop i cs ≡ c ∷ drop (suc i) cs → l ≡ stepsTo cs i → set l i (stepOf c) ≡ stepsTo cs (suc i)
+steps-more cs i c l h d q = ap (λ (x : List Step). set x i (stepOf c)) q ∙ set-more cs i (64 - i) (64 - suc i) c d (omega arith)
+
+pub steps-all : (cs : List Column) (i : ℕ) → i ≡ length cs → stepsTo cs i ≡ planOf cs .list
+steps-all cs i h = rw h (ap (λ (l : List Column). map stepOf l ++ replicate (64 - length cs) noStep) (take-all (length cs) cs (le-refl (length cs))))
+
+abbrev pub planned : List Step → Plan
+planned l = record { list = l }
