@@ -6,7 +6,6 @@ use cell_putting::count_size;
 use cell_putting::fill_up;
 use cell_putting::is_text;
 use cell_putting::put_close;
-use cell_putting::put_integer;
 use cell_putting::put_null;
 use cell_putting::put_open;
 use cell_putting::put_truth;
@@ -105,6 +104,7 @@ fn move_elements(
 
 // ---- scalars
 
+// An integer that stands for null: any other is moved by its column's step, or is for the careful way.
 fn move_integer(
     to: Rows,
     column: Column,
@@ -124,8 +124,7 @@ fn move_integer(
     if is_declared(null, z) {
         return put_null(to, column, next, row, o);
     }
-    let e = put_integer(to, integer, z, row, o);
-    Moved::Cell(next, e, false)
+    Moved::Careful
 }
 
 fn move_truth(to: Rows, column: Column, s: &[u8], at: usize, row: &mut [u8], o: usize) -> Moved

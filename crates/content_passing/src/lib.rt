@@ -90,7 +90,7 @@ fn copy_many(s: &[u8], from: usize, n: usize, row: &mut [u8], o: usize) -> usize
 }
 
 // Few bytes eight at a time, many as vectors.
-fn copy(s: &[u8], from: usize, n: usize, row: &mut [u8], o: usize) -> usize
+pub fn copy(s: &[u8], from: usize, n: usize, row: &mut [u8], o: usize) -> usize
     requires { ⌜ (from + n + 8 ≤ length (now s)) × (o + n + 8 ≤ length (now row)) ⌝ }
     ensures { λ r. ⌜ Puts (now (row .entry)) o (take n (drop from (now (s .entry)))) (now (row .exit)) r ⌝ }
 {

@@ -5,19 +5,23 @@ use native.Mathlib.Nat.{le-refl}
 use native.Mathlib.Omega.{arith}
 use mathlib.Core.List.{List, [], _++_, _∷_, map}
 use mathlib.Core.Path.{_∙_, _≡_, ap, refl, sym}
+use lib.Dec.{lit≤}
 use lib.ListN.{drop, getD, length, replicate, set, take}
 use lib.Seq.{take-all}
+use Rattle.binary.specs.Binary.{bitBytes, contentBytes}
 use Rattle.number.specs.Contracts.{shapeAs, widthOf}
 use Rattle.number.specs.declared.Elements.{Elements}
 use Rattle.number.specs.declared.Integer.{Integer}
-use Rattle.planning.specs.Plan.{noStep, oneInteger, planOf, stepOf, wantOf}
+use Rattle.planning.specs.Plan.{mostBytes, noStep, oneInteger, planOf, stepFor, stepOf, wantOf}
 use Rattle.planning.specs.declared.Plan.{Plan}
 use Rattle.planning.specs.declared.Step.{Step}
 use Rattle.planning.specs.declared.Want.{Want}
+use Rattle.table.specs.Cell.{bound, mostElements}
 use Rattle.table.specs.ColumnList.{noColumn}
 use Rattle.table.specs.Shape.{shape}
 use Rattle.table.specs.declared.Column.{Column}
 use Rattle.table.specs.declared.Kind.{Kind}
+use Rattle.table.specs.declared.Len.{Len}
 
 -- ---- one column
 
@@ -54,3 +58,35 @@ steps-all cs i h = rw h (ap (λ (l : List Column). map stepOf l ++ replicate (64
 
 abbrev pub planned : List Step → Plan
 planned l = record { list = l }
+
+-- ---- what the steps say
+
+-- the step of a column of the list
+pub plan-at : (cs : List Column) (i : ℕ) (c : Column) → drop i cs ≡ c ∷ drop (suc i) cs → getD (planOf cs .list) i noStep ≡ stepOf c
+plan-at cs i c d = at cs i d (replicate (64 - length cs) noStep)
+  where
+    at : (cs : List Column) (i : ℕ) → drop i cs ≡ c ∷ drop (suc i) cs → (l : List Step) → getD (map stepOf cs ++ l) i noStep ≡ stepOf c
+    at [] zero d l = absurd (omega (arith, ap length d))
+    at [] (suc i) d l = absurd (omega (arith, ap length d))
+    at (b ∷ cs) zero d l = ap (λ (x : List Column). stepOf (getD x 0 noColumn)) d
+    at (b ∷ cs) (suc i) d l = at cs i d l
+
+-- no cell has more bytes than 4,096 elements
+content-most : (kind : Kind) (n : ℕ) → n ≤ mostElements → contentBytes (shape kind) n ≤ mostBytes
+unfolding contentBytes bitBytes
+content-most Kind.Boolean n h = omega arith
+content-most Kind.Bit n h = omega arith
+content-most Kind.UnsignedByte n h = omega arith
+content-most Kind.Short n h = omega arith
+content-most Kind.Int n h = omega arith
+content-most Kind.Long n h = omega arith
+content-most Kind.Char n h = omega arith
+
+pub step-most : (c : Column) → bound (c .len) ≤ mostElements → stepOf c .bytes ≤ mostBytes
+unfolding stepFor
+step-most c h = most (c .len) h
+  where
+    most : (len : Len) → bound len ≤ mostElements → stepFor (c .kind) len (c .null) .bytes ≤ mostBytes
+    most (Len.Fixed n) h = content-most (c .kind) n h
+    most (Len.Bounded n) h = lit≤ tt
+    most Len.Free h = lit≤ tt

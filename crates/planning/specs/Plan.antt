@@ -44,3 +44,7 @@ stepOf c = stepFor (c .kind) (c .len) (c .null)
 -- a step for each column, and nothing behind them
 abbrev pub planOf : List Column → Plan
 planOf cs = record { list = map stepOf cs ++ replicate (64 - length cs) noStep }
+
+-- the bytes of a cell of 4,096 elements are at most these
+abbrev pub mostBytes : ℕ
+mostBytes = 32768

@@ -1,4 +1,4 @@
--- binary_moving::move_integer: found by its value: null where that stands for it, else the value.
+-- binary_moving::move_integer: found by its value: null where that stands for it.
 use mathlib.Core.List.{List, [], _∷_}
 use mathlib.Core.Path.{_∙_, _≡_, ap, subst, sym}
 use Prim.Native.Nat.{ℕ}
@@ -6,9 +6,8 @@ use denote.Ref.{now}
 use lib.IntN.{ℤ}
 use mir.Syntax.{w64}
 use mir.Val.{ofZ, toZ}
-use Rattle.cell_putting.proofs.Elements.{null-moved, value-moved}
-use Rattle.cell_putting.specs.Contracts.{oneForm}
-use Rattle.moving.proofs.Puts.{puts-as, puts-none}
+use Rattle.cell_putting.proofs.Elements.{null-moved}
+use Rattle.moving.proofs.Puts.{puts-none}
 use Rattle.moving.specs.Contents.{FindsOne, InBinary}
 use Rattle.number.specs.Contracts.{isSigned, widthOf}
 use Rattle.table.specs.Cell.{isDeclared}
@@ -50,13 +49,7 @@ returns-2 c =
     (sym (ap (isDeclared (a .args .column .null)) (fits k)) ∙ sym (c .before .before .before .before .before .is-declared .ensures) ∙ c .before .before .before .before .if1 .taken) (p .ensures)
 
 returns-3 : tie.Need-returns-3
-returns-3 c =
-    let k = c .before .before .before .before .before .before in
-    let a = begin k in
-    let p = c .before .before .put-integer in
-    λ from one q. value-moved (InBinary (shape (a .args .column .kind)) 1 (now (a .args .s)) (a .args .at)) from (a .args .to) (a .args .column) (Whole (isSigned (a .args .integer)) (widthOf (a .args .integer))) (value k) (now (a .args .row)) (a .args .o)
-    (p .last .1 .1 .1 .0) (next k) one q (subst (λ (y : Shape). InBinary y 1 (now (a .args .s)) (a .args .at) (next k) (value k ∷ [])) (sym q) (stands k)) (p .result) tt
-    (sym (ap (isDeclared (a .args .column .null)) (fits k)) ∙ sym (c .before .before .before .before .before .is-declared .ensures) ∙ c .before .before .before .before .if1 .left) (puts-as (ap (oneForm (a .args .to) (Whole (isSigned (a .args .integer)) (widthOf (a .args .integer)))) (fits k)) (p .ensures))
+returns-3 c = let a = begin (c .before .before) in λ from one q. puts-none (now (a .args .row)) (a .args .o) (omega (arith, a .pre .2))
 
 pub move-integer-spec : {M : Type 1} → statement M
 move-integer-spec =
@@ -70,6 +63,4 @@ move-integer-spec =
     (λ c κs. search needs)
     (λ c. search needs)
     returns-2
-    (λ c κs. search needs)
-    (λ c. search needs)
     returns-3)
