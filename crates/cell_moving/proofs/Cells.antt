@@ -1,5 +1,5 @@
--- A cell that has a size has a form, and what was written of it is put.
-use Prim.Native.Nat.{_+_, _≤_, ℕ}
+-- A cell that has a size has a form, and what was written of it is put; one with no size, or one that is longer than the room, cannot be put.
+use Prim.Native.Nat.{_+_, _<_, _≤_, ℕ}
 use native.Mathlib.Omega.{arith}
 use mathlib.Core.Bool.{Bool, false, true}
 use mathlib.Core.List.{List}
@@ -8,13 +8,14 @@ use lib.IntN.{ℤ}
 use lib.ListN.{length}
 use Rattle.cell_putting.proofs.Cells.{has-form}
 use Rattle.moving.proofs.Puts.{puts-wrote}
-use Rattle.moving.specs.Cells.{CellPut}
+use Rattle.moving.specs.Cells.{CellPut, CellUnfit}
 use Rattle.row_writing.proofs.RowForm.{form-bytes}
 use Rattle.row_writing.specs.Contracts.{cellBytes}
 use Rattle.rows.specs.Stream.{writeCell}
+use Rattle.table.proofs.Laws.{bad-good}
 use Rattle.table.specs.Cell.{Cell, isNull}
 use Rattle.table.specs.Contracts.{held, sizeOf}
-use Rattle.table.specs.Result.{good}
+use Rattle.table.specs.Result.{Result, bad, good}
 use Rattle.table.specs.Wrote.{Wrote}
 use Rattle.table.specs.declared.Column.{Column}
 use Rattle.table.specs.declared.Rows.{Rows}
@@ -37,6 +38,17 @@ cell-put to c x null next n old o new e z q h w =
       same-next = refl;
       null-is = z;
     }
+
+-- ---- a cell that cannot be put
+
+module _ (to : Rows) (c : Column) (x : Cell) (old : List ℕ) (o : ℕ) where
+  pub no-form : (n : ℕ) → bad n ≡ sizeOf (writeCell to c x) → CellUnfit to c x old o
+  no-form n e b w = absurd (bad-good (e ∙ ap sizeOf w))
+
+  pub no-room : (n : ℕ) → good n ≡ sizeOf (writeCell to c x) → length old < o + n → CellUnfit to c x old o
+  no-room n e h b w =
+      let k : n ≡ length b = let q : _≡_ {A = Result ℕ ℕ} (good n) (good (length b)) = e ∙ ap sizeOf w in cc in
+      omega (arith, k)
 
 -- a cell that the code holds is null where it says so
 pub held-null : (b : Bool) (n : ℕ) (l : List ℤ) → b ≡ isNull (held b n l)

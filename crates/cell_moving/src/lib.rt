@@ -13,7 +13,7 @@ use text_moving::move_text;
 ghost use mathlib.Core.Path.{_≡_};
 ghost use Prim.Native.Nat.{_≤_};
 ghost use lib.ListN.{length};
-ghost use Rattle.moving.specs.Cells.{MovesCell, PutsCell};
+ghost use Rattle.moving.specs.Cells.{MovesCell, SettlesCell, SettlesPut};
 ghost use Rattle.table.specs.Cell.{bound, mostElements};
 ghost use Rattle.table.specs.Contracts.{held};
 
@@ -31,7 +31,7 @@ fn put_cell(
     o: usize,
 ) -> Moved
     requires { ⌜ (bound (column .len) ≤ mostElements) × (count ≤ bound (column .len)) × (count ≤ length (now scratch)) × (o ≤ length (now row)) ⌝ }
-    ensures { λ r. ⌜ PutsCell to column (held null count (now (scratch .entry))) next (now (row .entry)) o (now (row .exit)) r ⌝ }
+    ensures { λ r. ⌜ SettlesPut to column (held null count (now (scratch .entry))) next (now (row .entry)) o (now (row .exit)) r ⌝ }
 {
     let size = size_cell(to, column, null, count, scratch);
     match size {
@@ -59,7 +59,7 @@ fn careful_cell(
     o: usize,
 ) -> Moved
     requires { ⌜ (at ≤ length (now s)) × (bound (column .len) ≤ mostElements) × (mostElements ≤ length (now scratch)) × (o ≤ length (now row)) ⌝ }
-    ensures { λ r. ⌜ MovesCell from to column flagged (now (s .entry)) at (now (row .entry)) o (now (row .exit)) r ⌝ }
+    ensures { λ r. ⌜ SettlesCell from to column flagged (now (s .entry)) at (now (row .entry)) o (now (row .exit)) r ⌝ }
     ensures { λ _. ⌜ length (now (scratch .exit)) ≡ length (now (scratch .entry)) ⌝ }
 {
     let found = read_cell(from, s, at, column, flagged, scratch);
@@ -92,7 +92,7 @@ fn quick_cell(
     move_binary(from, to, column, flagged, s, at, row, o)
 }
 
-// A cell, quickly where it is plain, else the careful way.
+// A cell, quickly where it is plain, else the careful way; left only where it is refused, has no form, or the buffer has no room for it.
 pub fn move_cell(
     from: Rows,
     to: Rows,
@@ -105,7 +105,7 @@ pub fn move_cell(
     o: usize,
 ) -> Moved
     requires { ⌜ (at ≤ length (now s)) × (bound (column .len) ≤ mostElements) × (mostElements ≤ length (now scratch)) × (o ≤ length (now row)) ⌝ }
-    ensures { λ r. ⌜ MovesCell from to column flagged (now (s .entry)) at (now (row .entry)) o (now (row .exit)) r ⌝ }
+    ensures { λ r. ⌜ SettlesCell from to column flagged (now (s .entry)) at (now (row .entry)) o (now (row .exit)) r ⌝ }
     ensures { λ _. ⌜ length (now (scratch .exit)) ≡ length (now (scratch .entry)) ⌝ }
 {
     let quick = quick_cell(from, to, column, flagged, s, at, row, o);

@@ -26,8 +26,7 @@ ghost use lib.ListN.{drop, length};
 ghost use Rattle.table.specs.Cell.{bound, mostElements};
 ghost use Rattle.table.specs.Outcome.{answerOf, bufferOf};
 ghost use Rattle.table.specs.ColumnList.{listed};
-ghost use Rattle.moving.specs.Rows.{MovesRows};
-ghost use Rattle.row_moving.specs.Contracts.{mostFrameBytes};
+ghost use Rattle.moving.specs.Rows.{MovesRows, mostFrameBytes};
 ghost use Rattle.row_writing.specs.Contracts.{SizeWithin, mostCellBytes};
 ghost use Rattle.rows.specs.Bounds.{Within};
 ghost use Rattle.rows.specs.Convert.{Converts};
@@ -263,7 +262,7 @@ fn moved(
 ) -> Done
     requires { ⌜ Within (listed cols) × (mostElements ≤ length (now scratch)) × (mostFrameBytes ≤ length (now row)) ⌝ }
     requires { ⌜ (cursor .at ≤ length (now s)) × (p .rows ≤ cursor .at) × (p .bytes ≤ length (now out)) ⌝ }
-    ensures { λ r. ⌜ MovesRows from to (listed cols) (now (s .entry)) (now (out .entry)) (cursor .at) (p .rows) (p .bytes) (now (out .exit)) (r .place) (r .rows) (r .bytes) ⌝ }
+    ensures { λ r. ⌜ MovesRows from to (listed cols) (now (s .entry)) (now (out .entry)) (cursor .at) (p .rows) (p .bytes) (length (now (row .entry))) (now (out .exit)) (r .place) (r .rows) (r .bytes) ⌝ }
     ensures { λ _. ⌜ length (now (scratch .exit)) ≡ length (now (scratch .entry)) ⌝ }
     ensures { λ _. ⌜ length (now (row .exit)) ≡ length (now (row .entry)) ⌝ }
 {

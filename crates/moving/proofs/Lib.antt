@@ -2,3 +2,4 @@ pub mod Puts
 pub mod Lists
 pub mod Rows
 pub mod Cells
+pub mod Written

@@ -1,5 +1,5 @@
 -- A cell moved from the input into a row's buffer.
-use Prim.Native.Nat.{_≤_, ℕ}
+use Prim.Native.Nat.{_+_, _<_, _≤_, ℕ}
 use mathlib.Core.Bool.{Bool, false}
 use mathlib.Core.List.{List, []}
 use mathlib.Core.Path.{_≡_}
@@ -30,6 +30,20 @@ abbrev pub MovesCell : Rows → Rows → Column → Bool → List ℕ → ℕ �
 MovesCell from to c flagged s place old o new (Moved.Cell next e null) = CellMoved from to c flagged s place old o new next e null
 MovesCell from to c flagged s place old o new Moved.Careful = Puts old o [] new o
 
+-- a cell x has no form, or no room behind a place of a buffer
+abbrev pub CellUnfit : Rows → Column → Cell → List ℕ → ℕ → Type 0
+CellUnfit to c x old o = (bytes : List ℕ) → writeCell to c x ≡ good bytes → length old < o + length bytes
+
+-- a cell is left only where it is refused, has no form, or the buffer has no room for it
+pub record CellLeft (from to : Rows) (c : Column) (flagged : Bool) (s : List ℕ) (place : ℕ) (old : List ℕ) (o : ℕ) (new : List ℕ) : Type 0 where
+  pub puts : Puts old o [] new o
+  pub unfit : (x : Cell) (rest : List ℕ) → readCell from c flagged (drop place s) ≡ good (x, rest) → CellUnfit to c x old o
+
+-- a cell is moved wherever one can be
+abbrev pub SettlesCell : Rows → Rows → Column → Bool → List ℕ → ℕ → List ℕ → ℕ → List ℕ → Moved → Type 0
+SettlesCell from to c flagged s place old o new (Moved.Cell next e null) = CellMoved from to c flagged s place old o new next e null
+SettlesCell from to c flagged s place old o new Moved.Careful = CellLeft from to c flagged s place old o new
+
 -- a cell x that ends at a place of the input, put as it is written
 pub record CellPut (to : Rows) (c : Column) (x : Cell) (next : ℕ) (old : List ℕ) (o : ℕ) (new : List ℕ) (next′ e : ℕ) (null′ : Bool) : Type 0 where
   pub bytes : List ℕ
@@ -41,6 +55,11 @@ pub record CellPut (to : Rows) (c : Column) (x : Cell) (next : ℕ) (old : List 
 abbrev pub PutsCell : Rows → Column → Cell → ℕ → List ℕ → ℕ → List ℕ → Moved → Type 0
 PutsCell to c x next old o new (Moved.Cell next′ e null′) = CellPut to c x next old o new next′ e null′
 PutsCell to c x next old o new Moved.Careful = Puts old o [] new o
+
+-- a cell x is put wherever it can be
+abbrev pub SettlesPut : Rows → Column → Cell → ℕ → List ℕ → ℕ → List ℕ → Moved → Type 0
+SettlesPut to c x next old o new (Moved.Cell next′ e null′) = CellPut to c x next old o new next′ e null′
+SettlesPut to c x next old o new Moved.Careful = Puts old o [] new o × CellUnfit to c x old o
 
 -- ---- elements that were read
 

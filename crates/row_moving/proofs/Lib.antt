@@ -1,3 +1,4 @@
 pub mod Copying
 pub mod Moving
 pub mod Beginning
+pub mod Stopping

@@ -20,8 +20,8 @@ use text::put_bytes;
 ghost use mathlib.Core.Path.{_≡_};
 ghost use Prim.Native.Nat.{_+_, _<_, _≤_};
 ghost use lib.ListN.{length, take};
-ghost use Rattle.moving.specs.Rows.{MovesRows};
-ghost use Rattle.row_moving.specs.Contracts.{FramesRow, mostFrameBytes};
+ghost use Rattle.moving.specs.Rows.{MovesRows, mostFrameBytes};
+ghost use Rattle.row_moving.specs.Contracts.{FramesRow};
 ghost use Rattle.row_reading.specs.Contracts.{Begins};
 ghost use Rattle.rows.specs.Bounds.{Within};
 ghost use Rattle.table.specs.Cell.{mostElements};
@@ -165,7 +165,7 @@ pub fn move_rows(
 ) -> Done
     requires { ⌜ Within (listed cols) × (mostElements ≤ length (now scratch)) × (mostFrameBytes ≤ length (now row)) ⌝ }
     requires { ⌜ (start .place ≤ length (now s)) × (start .rows ≤ start .place) × (start .bytes ≤ length (now out)) ⌝ }
-    ensures { λ r. ⌜ MovesRows from to (listed cols) (now (s .entry)) (now (out .entry)) (start .place) (start .rows) (start .bytes) (now (out .exit)) (r .place) (r .rows) (r .bytes) ⌝ }
+    ensures { λ r. ⌜ MovesRows from to (listed cols) (now (s .entry)) (now (out .entry)) (start .place) (start .rows) (start .bytes) (length (now (row .entry))) (now (out .exit)) (r .place) (r .rows) (r .bytes) ⌝ }
     ensures { λ _. ⌜ length (now (scratch .exit)) ≡ length (now (scratch .entry)) ⌝ }
     ensures { λ _. ⌜ length (now (row .exit)) ≡ length (now (row .entry)) ⌝ }
 {

@@ -1,10 +1,9 @@
--- cell_moving::careful_cell: what was found is what the definition reads, and it is put as that.
+-- cell_moving::careful_cell: what was found is what the definition reads, and it is put as that wherever it can be.
 use mathlib.Core.Path.{_∙_, ap, subst}
-use lib.ListN.{take}
 use denote.Ref.{now}
 use native.Mathlib.Omega.{arith}
 use borrow.Author.Needs.{needs}
-use Rattle.moving.proofs.Cells.{cell-moved}
+use Rattle.moving.proofs.Cells.{cell-settled, refused-left}
 use Rattle.moving.proofs.Puts.{puts-none}
 use Rattle.row_reading.proofs.CellsFit.{bytes-of, found-few}
 use Rattle.table.specs.All.{AreBytes}
@@ -31,7 +30,10 @@ put-cell-requires-2 c κs =
 returns : tie.Need-returns
 returns c =
     let a = c .before .before .before .before .before .before .before .before in
-    (puts-none _ _ (a .pre .3), c .before .before .before .before .read-cell .ensures .long)
+    let s = now (a .args .s) in
+    let f = c .before .before .before .before .read-cell .ensures in
+    let q = f .found ∙ ap (foundAs s _) (c .before .found .given .1) in
+    (refused-left (a .args .from) (a .args .to) (a .args .column) (a .args .flagged) s (a .args .at) _ (a .args .o) _ _ q (puts-none _ _ (a .pre .3)), f .long)
 
 returns-2 : tie.Need-returns-2
 returns-2 c =
@@ -40,7 +42,7 @@ returns-2 c =
     let f = c .before .before .before .before .before .before .before .before .before .read-cell .ensures in
     let q = c .before .before .before .before .before .before .found2 .given .1 in
     let w = subst (FoundWithin s (a .args .at) _) q (f .within) in (
-      cell-moved (a .args .from) (a .args .to) (a .args .column) (a .args .flagged) s (a .args .at) null _ (now (a .args .row)) (a .args .o)
+      cell-settled (a .args .from) (a .args .to) (a .args .column) (a .args .flagged) s (a .args .at) (now (a .args .row)) (a .args .o) null _
           (c .before .before .put-cell .last .1 .1 .1 .1 .1 .1 .0) (c .before .before .put-cell .result) (f .found ∙ ap (foundAs s _) q) (w .0) (w .1)
           (c .before .before .put-cell .ensures),
       f .long,
@@ -53,7 +55,7 @@ returns-3 c =
     let f = c .before .before .before .before .before .before .before .before .before .read-cell .ensures in
     let q = c .before .before .before .before .before .before .found3 .given .1 in
     let w = subst (FoundWithin s (a .args .at) _) q (f .within) in (
-      cell-moved (a .args .from) (a .args .to) (a .args .column) (a .args .flagged) s (a .args .at) (shown _) _ (now (a .args .row)) (a .args .o)
+      cell-settled (a .args .from) (a .args .to) (a .args .column) (a .args .flagged) s (a .args .at) (now (a .args .row)) (a .args .o) (shown _) _
           (c .before .before .put-cell2 .last .1 .1 .1 .1 .1 .1 .0) (c .before .before .put-cell2 .result) (f .found ∙ ap (foundAs s _) q) (w .0) (w .1)
           (c .before .before .put-cell2 .ensures),
       f .long,

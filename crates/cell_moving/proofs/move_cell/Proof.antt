@@ -1,9 +1,9 @@
 -- cell_moving::move_cell: what the quick way moves is moved; what it declines leaves what stands before its place, and the careful way goes on there.
-use mathlib.Core.Path.{_∙_, refl, subst}
+use mathlib.Core.Path.{refl, subst}
 use denote.Ref.{now}
 use native.Mathlib.Omega.{arith}
 use borrow.Author.Needs.{needs}
-use Rattle.moving.proofs.Cells.{moved-after}
+use Rattle.moving.proofs.Cells.{settled-after}
 use Rattle.moving.specs.Cells.{MovesCell}
 use Rattle.moving.specs.declared.Moved.{Moved}
 use Rattle.cell_moving.proofs.move_cell.Statement.{statement}
@@ -34,8 +34,9 @@ careful-cell-requires c κs =
 returns-2 : tie.Need-returns-2
 returns-2 c =
     let a = c .before .before .before .before .before .before .before .before .before .before .before .before .before .before .args in
-    let m = c .before .before .before .careful-cell in (
-      moved-after (a .from) (a .to) (a .column) (a .flagged) (now (a .s)) (a .at) (now (a .row)) (a .o) _ (m .last .1 .1 .1 .1 .1 .1 .1 .0) (m .result) (declined (c .before .before .before .before .before .before)) (m .ensures .0),
+    let m = c .before .before .before .careful-cell in
+    let u = declined (c .before .before .before .before .before .before) in (
+      settled-after (a .from) (a .to) (a .column) (a .flagged) (now (a .s)) (a .at) (now (a .row)) (a .o) _ (m .last .1 .1 .1 .1 .1 .1 .1 .0) (m .result) u (m .ensures .0),
       m .ensures .1,
     )
 

@@ -1,11 +1,9 @@
--- cell_moving::put_cell: a cell that has a size has a form, and with room for it that is what is put.
-use Prim.Native.Nat.{_+_, _≤_}
+-- cell_moving::put_cell: a cell that has a size has a form, and with room for it that is what is put; with none, or with no size, it cannot be.
 use mathlib.Core.Path.{_∙_, _≡_, ap, sym}
-use lib.ListN.{length}
 use denote.Ref.{now}
 use native.Mathlib.Omega.{arith}
 use borrow.Author.Needs.{needs}
-use Rattle.cell_moving.proofs.Cells.{cell-put, form-length, held-null}
+use Rattle.cell_moving.proofs.Cells.{cell-put, form-length, held-null, no-form, no-room}
 use Rattle.moving.proofs.Puts.{puts-none}
 use Rattle.rows.specs.Stream.{writeCell}
 use Rattle.table.specs.Contracts.{held, sizeAs, sizeOf}
@@ -20,11 +18,15 @@ Sized = tie.After-known-told2
 abbrev begin : Sized → tie.Start
 begin c = c .before .before .before .before .before
 
-takes : (c : Sized) → good (c .before .size2 .given .0 .0) ≡ sizeOf (writeCell (begin c .args .to) (begin c .args .column) (held (begin c .args .null) (begin c .args .count) (now (begin c .args .scratch))))
+takes : (c : Sized)
+    → good (c .before .size2 .given .0 .0) ≡ sizeOf (writeCell (begin c .args .to) (begin c .args .column) (held (begin c .args .null) (begin c .args .count) (now (begin c .args .scratch))))
 takes c = sym (ap sizeAs (c .before .size2 .given .1)) ∙ c .before .before .before .size-cell .ensures .0
 
 returns : tie.Need-returns
-returns c = puts-none _ _ (begin (c .before) .pre .3)
+returns c =
+    let k = c .before in
+    let a = begin k in
+    (puts-none _ _ (a .pre .3), no-room (a .args .to) (a .args .column) _ (now (a .args .row)) (a .args .o) _ (takes k) (omega (arith, c .if1 .taken, a .pre .3)))
 
 write-cell-requires : tie.Need-write-cell-requires
 write-cell-requires c κs =
@@ -35,7 +37,10 @@ write-cell-requires c κs =
     )
 
 returns-2 : tie.Need-returns-2
-returns-2 c = puts-none _ _ (c .before .before .before .before .before .pre .3)
+returns-2 c =
+    let a = c .before .before .before .before .before in
+    let e = sym (ap sizeAs (c .before .size .given .1)) ∙ c .before .before .before .size-cell .ensures .0 in
+    (puts-none _ _ (a .pre .3), no-form (a .args .to) (a .args .column) _ (now (a .args .row)) (a .args .o) _ e)
 
 returns-3 : tie.Need-returns-3
 returns-3 c =

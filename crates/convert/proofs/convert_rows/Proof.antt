@@ -1,4 +1,4 @@
--- convert::convert_rows: the converter's loops. Over rows: the rows before are done (RowsDone, by MovesRows from where the loop begins), and the
+-- convert::convert_rows: the converter's loops. Over rows: the rows before are done (RowsDone, by RowsFurther from where the loop begins), and the
 -- answer for the whole input is the answer of going on from here; rows that are moved between two turns are done by `moved`'s promise. Over
 -- columns: what is read of the row is what has been read and what is still to come (RowRead), and what that will be written as (RowMeasured).
 -- Each way out is one law of Converting, plugged in where it happens.
@@ -17,7 +17,7 @@ use Rattle.convert.proofs.Converting.{Finished, acceptance, read-refusa
 use Rattle.convert.proofs.Measuring.{RowMeasured, held-ready, measured-more, measured-start, row-cannot, row-length, row-wrote}
 use Rattle.convert.specs.Contracts.{MeasuredBy, holdingOf, scratchLength}
 use Rattle.moving.proofs.Rows.{row-done, rows-start}
-use Rattle.moving.specs.Rows.{MovesRows, RowsDone}
+use Rattle.moving.specs.Rows.{RowsDone, RowsFurther}
 use Rattle.table.proofs.ColumnList.{listed-length, listed-next}
 use Rattle.table.proofs.Wrote.{wrote-long}
 use Rattle.table.specs.ColumnList.{listed, noColumn}
@@ -45,7 +45,7 @@ abbrev μ-loop : tie.MeasureT-loop
 
 abbrev Inv-rows : tie.InvT-rows
 Inv-rows from to s out₀ scratch₀ row₀ cols count around cursor₀ p₀ stop₀ out scratch row cursor p stop =
-    MovesRows from to (listed cols) s out₀ (cursor₀ .at) (p₀ .rows) (p₀ .bytes) out (cursor .at) (p .rows) (p .bytes)
+    RowsFurther from to (listed cols) s out₀ (cursor₀ .at) (p₀ .rows) (p₀ .bytes) out (cursor .at) (p .rows) (p .bytes)
     × (stop ≡ record { number = 0; row = 0; column = 0; place = length s })
     × (length scratch ≡ length scratch₀)
     × (length row ≡ length row₀)
@@ -110,7 +110,7 @@ done-at r =
     let m = r .before .before .before .before .before .before .moved in
     let n = r .before .before .before .before .before .before .before .before .before .before .before .start in
     let z = r .before .before .before .before .before .before .before .before .before .before .start2 in
-    r .rows .inv .0 .further (out-at r) (m .ensures .0 .further (out-at r) (rows-start (from-at r) (to-at r) (listed (cols-at r)) (s-at r) (out-at r) _ _ _ (n .ensures) (z .ensures)))
+    r .rows .inv .0 .further (out-at r) (m .ensures .0 .moved .done .further (out-at r) (rows-start (from-at r) (to-at r) (listed (cols-at r)) (s-at r) (out-at r) _ _ _ (n .ensures) (z .ensures)))
 
 scratch-kept : (r : AtRows) → length (r .rows .scratch) ≡ length (now (begin r .args .scratch))
 scratch-kept r = r .rows .inv .2 ∙ r .before .before .before .before .before .before .moved .ensures .1 .0
@@ -263,7 +263,7 @@ moved-requires c κs =
 
 rows-holds : tie.Need-rows-holds Inv-loop μ-loop Inv-rows μ-rows
 rows-holds c =
-    let m = c .before .before .before .before .before .moved .ensures .0 in
+    let m = c .before .before .before .before .before .moved .ensures .0 .moved .done in
     (record { inside = m .inside; fewer = m .fewer; room = m .room; long = refl; onward = le-refl _; further = λ o d. d }, refl, refl, refl)
 
 at-end-requires : tie.Need-at-end-requires Inv-loop μ-loop Inv-rows μ-rows
@@ -446,7 +446,7 @@ rows-less : tie.Need-rows-less Inv-loop μ-loop Inv-rows μ-rows
 rows-less c =
     let b = behind-of c in
     let n = onward (ended-of (formed-of b)) in
-    let m = c .before .before .before .before .before .moved2 .ensures .0 in
+    let m = c .before .before .before .before .before .moved2 .ensures .0 .moved .done in
     omega (arith, n .0, n .1, cursor-moves (b .before), m .onward, m .inside)
 
 rows-again : tie.Need-rows-again Inv-loop μ-loop Inv-rows μ-rows
@@ -454,14 +454,15 @@ rows-again c =
     let b = behind-of c in
     let r = turn-rows b in
     let m = c .before .before .before .before .before .moved2 .ensures in
+    let d = m .0 .moved .done in
     let i = r .rows .inv .0 in (
       record {
-        inside = m .0 .inside;
-        fewer = m .0 .fewer;
-        room = m .0 .room;
-        long = m .0 .long ∙ wrote-long (b .before .before .before .before .before .put-row .ensures .0) ∙ i .long;
-        onward = omega (arith, i .onward, onward (ended-of (formed-of b)) .0, cursor-moves (b .before), m .0 .onward);
-        further = λ o d. m .0 .further o (row-behind b o (i .further o d));
+        inside = d .inside;
+        fewer = d .fewer;
+        room = d .room;
+        long = d .long ∙ wrote-long (b .before .before .before .before .before .put-row .ensures .0) ∙ i .long;
+        onward = omega (arith, i .onward, onward (ended-of (formed-of b)) .0, cursor-moves (b .before), d .onward);
+        further = λ o before. d .further o (row-behind b o (i .further o before));
       },
       all-of (ended-of (formed-of b)) .before .loop .inv .2 ∙ r .rows .inv .1,
       m .1 .0 ∙ scratch-behind b ∙ r .rows .inv .2,

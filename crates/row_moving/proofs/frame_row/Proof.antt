@@ -1,7 +1,6 @@
--- row_moving::frame_row: what begins the row is stored in the room before its cells, what ends it behind them.
-use mathlib.Core.Path.{_∙_, ap, sym}
+-- row_moving::frame_row: what begins the row is stored in the room before its cells, what ends it behind them, where there is room.
+use mathlib.Core.Path.{_∙_, refl}
 use denote.Ref.{now}
-use lib.ListN.{length}
 use native.Mathlib.Omega.{arith}
 use borrow.Author.Needs.{needs}
 use Rattle.row_moving.proofs.Moving.{end-most, row-framed, start-most}
@@ -18,6 +17,9 @@ write-end-requires : tie.Need-write-end-requires
 write-end-requires c κs =
     let a = c .before .before .before .before .before .before .before in
     omega (arith, end-most (a .args .to), c .before .before .before .before .before .if1 .left, a .pre .2, wrote-long (c .before .before .before .write-start .ensures))
+
+returns : tie.Need-returns
+returns c = record { framed = omega (arith, c .if1 .taken, c .before .before .pre .2); long = refl }
 
 returns-2 : tie.Need-returns-2
 returns-2 c =
@@ -39,7 +41,7 @@ frame-row-spec =
     tie.close
     (tie.spec
     (λ c. search needs)
-    (λ c. search needs)
+    returns
     write-start-requires
     write-end-requires
     (λ c. search needs)

@@ -1,29 +1,28 @@
 -- row_moving::move_rows: rows made in the buffer and copied. Over columns: what is read of the row is what has been read and what is still to come
--- (RowRead), and its cells stand in the buffer as they are written (RowMoved). Over rows: some rows more are done (MovesRows). A way out gives back
--- what was done before.
+-- (RowRead), and its cells stand in the buffer as they are written (RowMoved). Over rows: some rows more are moved (RowsMoved). A way out gives back
+-- what was done before, and says why no row is moved there (Stopping).
 use Prim.Native.Nat.{_+_, _-_, _<_, _≤_, suc, ℕ}
-use mathlib.Core.Bool.{false}
 use mathlib.Core.List.{List, _++_, _∷_}
 use mathlib.Core.Path.{_∙_, _≡_, ap, refl, subst, sym}
 use lib.ListN.{drop, getD, length, length-append, take}
-use lib.Seq.{length-take-le, sets}
+use lib.Seq.{length-take-le}
 use denote.Ref.{now}
-use native.Mathlib.Nat.{le-refl}
 use native.Mathlib.Omega.{arith}
 use borrow.Author.Needs.{needs}
-use Rattle.moving.proofs.Rows.{row-done, row-left}
-use Rattle.moving.specs.Cells.{CellMoved, MovesCell}
-use Rattle.moving.specs.Rows.{MovesRows, RowsDone}
-use Rattle.row_moving.proofs.Moving.{RowMoved, moved-more, moved-row, moved-start, start-most}
+use Rattle.moving.proofs.Written.{rows-more, rows-none}
+use Rattle.moving.specs.Cells.{CellLeft, SettlesCell}
+use Rattle.moving.specs.Rows.{RowLeft, RowsMoved}
+use Rattle.row_moving.proofs.Moving.{RowMoved, moved-more, moved-row, moved-start}
+use Rattle.row_moving.proofs.Stopping.{cell-left, full-left, long-left, unread-left}
 use Rattle.row_moving.specs.Contracts.{FramedAs}
-use Rattle.row_reading.proofs.Parts.{RowRead, begun-within, cells-closed, closed-within, listed-bound}
-use Rattle.row_reading.proofs.Parts.{read-end, read-more, read-start, row-begun, row-onward}
+use Rattle.row_reading.proofs.Parts.{RowRead, begun-within, cells-closed, cells-open, closed-within, listed-bound}
+use Rattle.row_reading.proofs.Parts.{read-end, read-more, read-start, row-begun, row-onward, row-unbegun}
 use Rattle.row_reading.specs.Contracts.{cellsEnd, flagsIn}
 use Rattle.row_writing.specs.Contracts.{startBytes}
 use Rattle.rows.specs.Bounds.{Within}
 use Rattle.rows.specs.Stream.{readRow, writeEnd, writeRow}
 use Rattle.table.proofs.ColumnList.{listed-length, listed-next}
-use Rattle.table.proofs.Wrote.{wrote-long}
+use Rattle.table.proofs.Wrote.{wrote-as}
 use Rattle.table.specs.ColumnList.{listed, noColumn}
 use Rattle.table.specs.Result.{good}
 use Rattle.table.specs.declared.Column.{Column}
@@ -41,7 +40,7 @@ abbrev μ-loop : tie.MeasureT-loop
 
 abbrev Inv-rows : tie.InvT-rows
 Inv-rows from to s out₀ scratch₀ row₀ cols count first place₀ rows₀ bytes₀ out scratch row place rows bytes =
-    MovesRows from to (listed cols) s out₀ place₀ rows₀ bytes₀ out place rows bytes × (length scratch ≡ length scratch₀) × (length row ≡ length row₀)
+    RowsMoved from to (listed cols) s out₀ place₀ rows₀ bytes₀ out place rows bytes × (length scratch ≡ length scratch₀) × (length row ≡ length row₀)
 
 abbrev μ-rows : tie.MeasureT-rows
 μ-rows from to s out₀ scratch₀ row₀ cols count first place₀ rows₀ bytes₀ out scratch row place rows bytes = length s - place
@@ -174,28 +173,29 @@ size-at f = f .before .size .given .0 .0
 abbrev framed-row : Framed → List ℕ
 framed-row f = f .before .before .before .before .before .frame-row .last .1 .1 .1 .0
 
-abbrev row-bytes : Framed → List ℕ
-row-bytes f =
-    let l = all-of (ended-of f) .before .loop in
-    let r = rows-of (begun-of (ended-of f)) in
+abbrev row-bytes : Ended → List ℕ
+row-bytes e =
+    let l = all-of e .before .loop in
+    let r = rows-of (begun-of e) in
     startBytes (to-at r) (cols-at r .count) (l .nulls) ++ (l .inv .1 .w ++ writeEnd (to-at r))
 
-written-at : (f : Framed) → writeRow (to-at (rows-of (begun-of (ended-of f)))) (listed (cols-at (rows-of (begun-of (ended-of f))))) (all-of (ended-of f) .before .loop .inv .0 .acc) ≡ good (row-bytes f)
-written-at f =
-    let a = all-of (ended-of f) in
+written-at : (e : Ended) → writeRow (to-at (rows-of (begun-of e))) (listed (cols-at (rows-of (begun-of e)))) (all-of e .before .loop .inv .0 .acc) ≡ good (row-bytes e)
+written-at e =
+    let a = all-of e in
     let l = a .before .loop in
-    let r = rows-of (begun-of (ended-of f)) in
+    let r = rows-of (begun-of e) in
     moved-row (to-at r) (listed (cols-at r)) (l .inv .0 .acc) _ _ _ _ (l .nulls) (l .i) (cols-at r .count) (l .inv .1) (past a)
     (omega (arith, past a, l .inv .0 .upto, listed-length (cols-at r)))
 
-stands : (f : Framed) → (size-at f ≤ length (framed-row f)) × (take (size-at f) (framed-row f) ≡ row-bytes f)
+stands : (f : Framed) → (size-at f ≤ length (framed-row f)) × (take (size-at f) (framed-row f) ≡ row-bytes (ended-of f))
 stands f =
     let l = all-of (ended-of f) .before .loop in
     let r = rows-of (begun-of (ended-of f)) in
-    let k = subst (FramedAs (to-at r) (cols-at r .count) (l .nulls) (l .row) (l .end) (framed-row f)) (f .before .size .given .1) (f .before .before .before .before .before .frame-row .ensures .framed) in
+    let g = f .before .before .before .before .before .frame-row .ensures .framed in
+    let k = subst (FramedAs (to-at r) (cols-at r .count) (l .nulls) (l .row) (l .end) (framed-row f)) (f .before .size .given .1) g in
     (k .0, k .1 (l .inv .1 .w) (take (r .before .start-size .result) (r .rows .row)) (l .inv .1 .puts .front) (length-take-le _ (r .rows .row) (roomy r) ∙ sym (starts r (l .nulls))))
 
-as-many : (f : Framed) → length (row-bytes f) ≡ size-at f
+as-many : (f : Framed) → length (row-bytes (ended-of f)) ≡ size-at f
 as-many f = ap length (sym (stands f .1)) ∙ length-take-le (size-at f) (framed-row f) (stands f .0)
 
 -- ---- the loop over rows
@@ -206,10 +206,10 @@ start-size-requires c κs = omega (arith, c .before .before .before .pre .0 .0 .
 rows-holds : tie.Need-rows-holds Inv-loop μ-loop Inv-rows μ-rows
 rows-holds c =
     let a = c .before .before .before .before in
-    (record { inside = a .pre .1 .0; fewer = a .pre .1 .1; room = a .pre .1 .2; long = refl; onward = le-refl _; further = λ out₀ d. d }, refl, refl)
+    (rows-none (a .args .from) (a .args .to) (listed (a .args .t1)) (now (a .args .s)) _ _ _ _ (a .pre .1 .0) (a .pre .1 .1) (a .pre .1 .2), refl, refl)
 
 begin-quickly-requires : tie.Need-begin-quickly-requires Inv-loop μ-loop Inv-rows μ-rows
-begin-quickly-requires c κs = (c .rows .inv .0 .inside, omega (arith, are c .some, listed-length (cols-at c)), few c)
+begin-quickly-requires c κs = (c .rows .inv .0 .done .inside, omega (arith, are c .some, listed-length (cols-at c)), few c)
 
 -- ---- the loop over columns
 
@@ -262,7 +262,7 @@ loop-again c =
     let r = rows-of b in
     let f = c .before .before .before .before .before .before .before .before .before .before .flag-of in
     let m = c .before .before .before .before .before .before .before .move-cell in
-    let x = subst (MovesCell (from-at r) (to-at r) (column-at t) (f .result) (s-at r) (l .at) (l .row) (l .end) _) (c .before .before .moved .given .1) (m .ensures .0) in (
+    let x = subst (SettlesCell (from-at r) (to-at r) (column-at t) (f .result) (s-at r) (l .at) (l .row) (l .end) _) (c .before .before .moved .given .1) (m .ensures .0) in (
       read-more (from-at r) (listed (cols-at r)) _ (s-at r) (body-at b) (l .at) (l .i) (l .inv .0) (column-at t) (next-column t) (f .result) (f .ensures) (x .cell) _
           (omega (arith, listed-length (cols-at r), t .loop-test .taken)) (x .reads) (x .onward) (x .inside),
       moved-more (to-at r) (listed (cols-at r)) (l .inv .0 .acc) _ _ (l .row) (l .end) (l .nulls) (l .i) (l .inv .1) (column-at t) (next-column t) (from-at r) (f .result) (s-at r) (l .at) _ _ _ _ x _
@@ -283,12 +283,12 @@ frame-row-requires c κs =
     (few r, omega (arith, l .inv .1 .puts .long, r .rows .inv .2, begin r .pre .0 .2), omega (arith, l .inv .1 .puts .room, l .inv .1 .puts .long))
 
 sub-if1 : tie.Need-sub-if1 Inv-loop μ-loop Inv-rows μ-rows
-sub-if1 c = rows-of (begun-of (ended-of c)) .rows .inv .0 .room
+sub-if1 c = rows-of (begun-of (ended-of c)) .rows .inv .0 .done .room
 
 put-row-requires : tie.Need-put-row-requires Inv-loop μ-loop Inv-rows μ-rows
 put-row-requires c κs =
     let f = c .before .before .before in
-    (stands f .0, omega (arith, c .before .before .if1 .left, rows-of (begun-of (ended-of f)) .rows .inv .0 .room))
+    (stands f .0, omega (arith, c .before .before .if1 .left, rows-of (begun-of (ended-of f)) .rows .inv .0 .done .room))
 
 abbrev framed-of : tie.After-slice-known5 Inv-loop μ-loop Inv-rows μ-rows → Framed
 framed-of c = c .before .before .before .before .before .before
@@ -297,7 +297,7 @@ add-rows : tie.Need-add-rows Inv-loop μ-loop Inv-rows μ-rows
 add-rows c =
     let e = ended-of (framed-of c) in
     let r = rows-of (begun-of e) in
-    omega (arith, r .rows .inv .0 .fewer, onward e .0, onward e .1, begin r .good)
+    omega (arith, r .rows .inv .0 .done .fewer, onward e .0, onward e .1, begin r .good)
 
 rows-less : tie.Need-rows-less Inv-loop μ-loop Inv-rows μ-rows
 rows-less c = let e = ended-of (framed-of c) in omega (arith, onward e .0, onward e .1)
@@ -311,30 +311,37 @@ rows-again c =
     let l = all-of e .before .loop in
     let i = r .rows .inv .0 in
     let o = onward e in
-    let p = c .before .before .put-row .ensures in
+    let p = wrote-as (stands f .1) (c .before .before .put-row .ensures) in
     let fits = c .before .before .before .before .before .if1 .left in
     let g = f .before .before .before .before .before .frame-row .ensures in (
-      record {
-        inside = o .1;
-        fewer = omega (arith, i .fewer, o .0);
-        room = omega (arith, wrote-long p, p .next-is, ap length (stands f .1), as-many f, fits, i .room);
-        long = wrote-long p ∙ i .long;
-        onward = omega (arith, i .onward, o .0);
-        further = λ out₀ d. row-done (from-at r) (to-at r) (listed (cols-at r)) (are r) (s-at r) out₀ (r .rows .out) (r .rows .place) (r .rows .rows) (r .rows .bytes) (i .further out₀ d)
-            (row-left (from-at r) (listed (cols-at r)) _ _ _ (are r) (whole e)) (l .inv .0 .acc) _ (whole e) (row-bytes f) (written-at f) (omega (arith, as-many f, fits)) (next-at e) refl (o .0) (o .1) _
-            (p .now-is ∙ ap (sets (r .rows .out) (r .rows .bytes)) (stands f .1)) _ _ _ refl refl (p .next-is ∙ ap (λ (k : List ℕ). r .rows .bytes + length k) (stands f .1));
-      },
+      rows-more (from-at r) (to-at r) (listed (cols-at r)) (are r) (s-at r) _ _ _ _ (r .rows .out) (r .rows .place) (r .rows .rows) (r .rows .bytes) i
+          (l .inv .0 .acc) (next-at e) (whole e) (o .0) (o .1) (row-bytes e) (written-at e) (omega (arith, as-many f, fits, i .done .room)) _ _ p,
       l .inv .2 ∙ r .rows .inv .1,
       g .long ∙ l .inv .1 .puts .long ∙ r .rows .inv .2,
     )
 
--- ---- the ways out: what was done before is handed out, and every buffer is as long as it was
+-- ---- the ways out: what was done before is handed out, no row is moved there, and every buffer is as long as it was
+
+-- no row is moved from here
+abbrev LeftAt : AtRows → Type 0
+LeftAt r = RowLeft (from-at r) (to-at r) (listed (cols-at r)) (s-at r) (r .rows .place) (r .rows .out) (r .rows .bytes) (length (now (begin r .args .row)))
+
+-- a row that does not begin
+unbegun : (c : tie.After-known-told Inv-loop μ-loop Inv-rows μ-rows) → LeftAt (c .before .before .before .before)
+unbegun c =
+    let r = c .before .before .before .before in
+    let g = c .before .before .before .begin-quickly in
+    unread-left (from-at r) (to-at r) (listed (cols-at r)) (s-at r) (r .rows .place) (r .rows .out) (r .rows .bytes) _ _
+    (row-unbegun (from-at r) (listed (cols-at r)) (cols-at r .count) (listed-length (cols-at r)) (s-at r) (r .rows .place) (g .result) (g .ensures) _ (c .before .b .given .1))
 
 returns : tie.Need-returns Inv-loop μ-loop Inv-rows μ-rows
-returns c = let r = c .before .before .before .before in (r .rows .inv .0, (r .rows .inv .1, r .rows .inv .2))
+returns c = let r = c .before .before .before .before in (record { moved = r .rows .inv .0; stops = unbegun c }, (r .rows .inv .1, r .rows .inv .2))
 
 -- a cell that was not moved
-abbrev unmoved : tie.After-enum-told Inv-loop μ-loop Inv-rows μ-rows → Turning
+abbrev Unmoved : Type 0
+Unmoved = tie.After-enum-told Inv-loop μ-loop Inv-rows μ-rows
+
+abbrev unmoved : Unmoved → Turning
 unmoved c = c .before .before .before .before .before .before .before .before .before .before
 
 unmoved-scratch : tie.Need-same-length-5 Inv-loop μ-loop Inv-rows μ-rows
@@ -342,16 +349,35 @@ unmoved-scratch c =
     let t = unmoved c in
     c .before .before .before .before .before .move-cell .ensures .1 ∙ t .before .loop .inv .2 ∙ rows-of (t .before .before) .rows .inv .1
 
-unmoved-row : tie.Need-same-length-6 Inv-loop μ-loop Inv-rows μ-rows
-unmoved-row c =
+unmoved-cell : (c : Unmoved) → let t = unmoved c in
+    let l = t .before .loop in
+    let r = rows-of (t .before .before) in
+    CellLeft (from-at r) (to-at r) (column-at t) (c .before .before .before .before .before .before .before .before .flag-of .result) (s-at r) (l .at) (l .row) (l .end)
+    (c .before .before .before .before .before .move-cell .last .1 .1 .1 .1 .1 .1 .1 .0)
+unmoved-cell c =
     let t = unmoved c in
     let l = t .before .loop in
     let r = rows-of (t .before .before) in
-    let x = subst (MovesCell (from-at r) (to-at r) (column-at t) _ (s-at r) (l .at) (l .row) (l .end) _) (c .enum-told .given .1) (c .before .before .before .before .before .move-cell .ensures .0) in
-    x .long ∙ l .inv .1 .puts .long ∙ r .rows .inv .2
+    subst (SettlesCell (from-at r) (to-at r) (column-at t) _ (s-at r) (l .at) (l .row) (l .end) _) (c .enum-told .given .1) (c .before .before .before .before .before .move-cell .ensures .0)
+
+unmoved-row : tie.Need-same-length-6 Inv-loop μ-loop Inv-rows μ-rows
+unmoved-row c =
+    let l = unmoved c .before .loop in
+    let r = rows-of (unmoved c .before .before) in
+    unmoved-cell c .puts .long ∙ l .inv .1 .puts .long ∙ r .rows .inv .2
+
+uncelled : (c : Unmoved) → LeftAt (rows-of (unmoved c .before .before))
+uncelled c =
+    let t = unmoved c in
+    let l = t .before .loop in
+    let b = t .before .before in
+    let r = rows-of b in
+    let f = c .before .before .before .before .before .before .before .before .flag-of in
+    cell-left (from-at r) (to-at r) (listed (cols-at r)) (s-at r) (r .rows .place) (r .rows .out) (r .rows .bytes) _ _ (body-at b) (l .at) (l .i) (begun b) (l .inv .0)
+    (r .rows .row) _ (l .row) (l .end) (l .nulls) (l .inv .1) (r .before .start-size .ensures .0) (r .rows .inv .2) (column-at t) (next-column t) (f .result) (f .ensures) _ (unmoved-cell c)
 
 returns-2 : tie.Need-returns-2 Inv-loop μ-loop Inv-rows μ-rows
-returns-2 c = (rows-of (unmoved c .before .before) .rows .inv .0, (unmoved-scratch c, unmoved-row c))
+returns-2 c = (record { moved = rows-of (unmoved c .before .before) .rows .inv .0; stops = uncelled c }, (unmoved-scratch c, unmoved-row c))
 
 -- behind the loop over columns
 loop-scratch : (a : MovedAll) → length (a .before .loop .scratch) ≡ length (now (begin (rows-of (a .before .before)) .args .scratch))
@@ -361,20 +387,52 @@ loop-row : (a : MovedAll) → length (a .before .loop .row) ≡ length (now (beg
 loop-row a = a .before .loop .inv .1 .puts .long ∙ rows-of (a .before .before) .rows .inv .2
 
 -- a row that does not end
+unended : (c : tie.After-enum-told2 Inv-loop μ-loop Inv-rows μ-rows) → LeftAt (rows-of (c .before .before .before .before .before))
+unended c =
+    let a = c .before .before .before in
+    let b = a .before .before in
+    let r = rows-of b in
+    let l = a .before .loop in
+    let z = c .before .before .end-row in
+    let q = read-end (from-at r) (listed (cols-at r)) _ (s-at r) (body-at b) (l .at) (l .i) (l .inv .0) (past a) in
+    unread-left (from-at r) (to-at r) (listed (cols-at r)) (s-at r) (r .rows .place) (r .rows .out) (r .rows .bytes) _ _
+    (begun b ∙ cells-open (from-at r) (listed (cols-at r)) _ (s-at r) (body-at b) _ _ q (z .result) (z .ensures) _ (c .enum-told2 .given .1))
+
 returns-3 : tie.Need-returns-3 Inv-loop μ-loop Inv-rows μ-rows
-returns-3 c = let a = c .before .before .before in (rows-of (a .before .before) .rows .inv .0, (loop-scratch a, loop-row a))
+returns-3 c = let a = c .before .before .before in (record { moved = rows-of (a .before .before) .rows .inv .0; stops = unended c }, (loop-scratch a, loop-row a))
 
 -- one that the buffer has no room for
+too-long : (c : tie.After-enum-told3 Inv-loop μ-loop Inv-rows μ-rows) → LeftAt (rows-of (begun-of (c .before .before .before .before .before .before)))
+too-long c =
+    let e = c .before .before .before .before .before .before in
+    let r = rows-of (begun-of e) in
+    let l = all-of e .before .loop in
+    let g = c .before .before .before .before .frame-row .ensures in
+    let k = subst (FramedAs (to-at r) (cols-at r .count) (l .nulls) (l .row) (l .end) _) (c .enum-told3 .given .1) (g .framed) in
+    let start = startBytes (to-at r) (cols-at r .count) (l .nulls) in
+    let cells = l .inv .1 .w in
+    long-left (from-at r) (to-at r) (listed (cols-at r)) (s-at r) (r .rows .place) (r .rows .out) (r .rows .bytes) _ _ _ (row-bytes e) (whole e) (written-at e)
+    (omega (arith, k, g .long, loop-row (all-of e), l .inv .1 .puts .next-is, starts r (l .nulls), length-append start (cells ++ writeEnd (to-at r)), length-append cells (writeEnd (to-at r))))
+
 returns-4 : tie.Need-returns-4 Inv-loop μ-loop Inv-rows μ-rows
 returns-4 c =
     let e = c .before .before .before .before .before .before in
-    (rows-of (begun-of e) .rows .inv .0, (loop-scratch (all-of e), c .before .before .before .before .frame-row .ensures .long ∙ loop-row (all-of e)))
+    let g = c .before .before .before .before .frame-row .ensures in
+    (record { moved = rows-of (begun-of e) .rows .inv .0; stops = too-long c }, (loop-scratch (all-of e), g .long ∙ loop-row (all-of e)))
 
--- one that does not fit
+-- one that the output has no room for
+full : (c : tie.Then1 Inv-loop μ-loop Inv-rows μ-rows) → LeftAt (rows-of (begun-of (ended-of (c .before))))
+full c =
+    let e = ended-of (c .before) in
+    let r = rows-of (begun-of e) in
+    full-left (from-at r) (to-at r) (listed (cols-at r)) (s-at r) (r .rows .place) (r .rows .out) (r .rows .bytes) _ _ _ (row-bytes e) (whole e) (written-at e)
+    (omega (arith, c .if1 .taken, as-many (c .before), r .rows .inv .0 .done .room))
+
 returns-5 : tie.Need-returns-5 Inv-loop μ-loop Inv-rows μ-rows
 returns-5 c =
     let e = ended-of (c .before) in
-    (rows-of (begun-of e) .rows .inv .0, (loop-scratch (all-of e), c .before .before .before .before .before .before .frame-row .ensures .long ∙ loop-row (all-of e)))
+    let g = c .before .before .before .before .before .before .frame-row .ensures in
+    (record { moved = rows-of (begun-of e) .rows .inv .0; stops = full c }, (loop-scratch (all-of e), g .long ∙ loop-row (all-of e)))
 
 pub move-rows-spec : {M : Type 1} → statement M
 move-rows-spec =
@@ -411,23 +469,23 @@ move-rows-spec =
     add-rows
     rows-less
     rows-again
-    (λ c. returns c .0 .long)
+    (λ c. returns c .0 .moved .done .long)
     (λ c. returns c .1 .0)
     (λ c. returns c .1 .1)
     returns
-    (λ c. returns-2 c .0 .long)
+    (λ c. returns-2 c .0 .moved .done .long)
     unmoved-scratch
     unmoved-row
     returns-2
-    (λ c. returns-3 c .0 .long)
+    (λ c. returns-3 c .0 .moved .done .long)
     (λ c. returns-3 c .1 .0)
     (λ c. returns-3 c .1 .1)
     returns-3
-    (λ c. returns-4 c .0 .long)
+    (λ c. returns-4 c .0 .moved .done .long)
     (λ c. returns-4 c .1 .0)
     (λ c. returns-4 c .1 .1)
     returns-4
-    (λ c. returns-5 c .0 .long)
+    (λ c. returns-5 c .0 .moved .done .long)
     (λ c. returns-5 c .1 .0)
     (λ c. returns-5 c .1 .1)
     returns-5)
