@@ -4,7 +4,7 @@ use Prim.Native.Nat.{_+_, _-_, _<_, _≤_, suc, zero, ℕ}
 use native.Mathlib.Nat.{le-refl}
 use native.Mathlib.Omega.{arith}
 use mathlib.Core.List.{List, [], _++_, _∷_, map}
-use mathlib.Core.Path.{_∙_, _≡_, ap, refl, sym}
+use mathlib.Core.Path.{_∙_, _≡_, ap, refl, subst, sym}
 use lib.Dec.{lit≤}
 use lib.ListN.{drop, getD, length, replicate, set, take}
 use lib.Seq.{take-all}
@@ -16,10 +16,15 @@ use Rattle.planning.specs.Plan.{mostBytes, noStep, oneInteger, planOf, s
 use Rattle.planning.specs.declared.Plan.{Plan}
 use Rattle.planning.specs.declared.Step.{Step}
 use Rattle.planning.specs.declared.Want.{Want}
+use Rattle.rows.specs.Bounds.{Bounded, Within}
+use Rattle.table.proofs.ColumnList.{listed-next}
+use Rattle.table.proofs.Laws.{all-drop}
+use Rattle.table.specs.All.{All}
 use Rattle.table.specs.Cell.{bound, mostElements}
-use Rattle.table.specs.ColumnList.{noColumn}
+use Rattle.table.specs.ColumnList.{listed, noColumn}
 use Rattle.table.specs.Shape.{shape}
 use Rattle.table.specs.declared.Column.{Column}
+use Rattle.table.specs.declared.Columns.{Columns}
 use Rattle.table.specs.declared.Kind.{Kind}
 use Rattle.table.specs.declared.Len.{Len}
 
@@ -33,6 +38,13 @@ one-integer Integer.Long = refl
 
 pub want-by : (e r : Elements) (kind : Kind) (n : ℕ) → r ≡ e → shapeAs r ≡ shape kind → wantOf (shapeAs e) n ≡ wantOf (shape kind) n
 want-by e r kind n g q = ap (λ k. wantOf k n) (sym (ap shapeAs g) ∙ q)
+
+-- ---- the columns that are declared, each within its bounds
+
+pub listed-bounded : (cols : Columns) (i : ℕ) → Within (listed cols) → i < cols .count → Bounded (getD (cols .list) i noColumn)
+listed-bounded cols i a h =
+    let d : All Bounded (drop i (listed cols)) = all-drop Bounded i (listed cols) (a .each) in
+    subst (All Bounded) (listed-next cols i h) d .0
 
 -- ---- a list of columns: its steps so far, and none behind them
 

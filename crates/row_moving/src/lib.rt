@@ -6,6 +6,8 @@ use integers::eight_bytes;
 use integers::four_bytes;
 use integers::put_eight;
 use moving::Moved;
+use planned_moving::move_planned;
+use planning::plan_of;
 use row_reading::Begin;
 use row_reading::Close;
 use row_reading::begin_row;
@@ -45,8 +47,8 @@ pub enum Framed {
 // Room for what stands around a row's cells.
 const MOST_FRAME_BYTES: usize = 8;
 
-// A row above this is copied by a call.
-const MOST_BY_EIGHTS: usize = 512;
+// A row above this is copied by vectors.
+const MOST_BY_EIGHTS: usize = 128;
 
 // What begins a row and what ends it, around its cells, which end at a place of the buffer.
 fn frame_row(to: Rows, count: usize, nulls: u64, row: &mut [u8], end: usize) -> Framed
@@ -171,6 +173,7 @@ pub fn move_rows(
 {
     let count = cols.count;
     let first = start_size(to, count);
+    let plan = plan_of(cols);
     let mut place = start.place;
     let mut rows = start.rows;
     let mut bytes = start.bytes;
@@ -190,12 +193,30 @@ pub fn move_rows(
         let mut nulls: u64 = 0;
         let mut i: usize = 0;
         while i < count {
-            let c = cols.list[i];
             let flagged = flag_of(from, flags, count, i);
-            let moved = move_cell(from, to, c, flagged, s, at, scratch, row, end);
-            match moved {
-                Moved::Careful => break 'rows,
+            let step = plan.list[i];
+            let planned = move_planned(from, to, step, flagged, s, at, row, end);
+            match planned {
                 Moved::Cell(next, e, null) => {
+                    at = next;
+                    end = e;
+                    nulls = add_flag(nulls, i, null);
+                }
+                Moved::Careful => {
+                    let c = cols.list[i];
+                    let Moved::Cell(next, e, null) = move_cell(
+                        from,
+                        to,
+                        c,
+                        flagged,
+                        s,
+                        at,
+                        scratch,
+                        row,
+                        end,
+                    ) else {
+                        break 'rows;
+                    };
                     at = next;
                     end = e;
                     nulls = add_flag(nulls, i, null);

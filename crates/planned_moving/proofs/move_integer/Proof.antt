@@ -53,10 +53,10 @@ returns-3 x =
     let p = x .before .before .put-integer in
     let d = x .before .before .before .before .before .is-declared .ensures in
     λ from c one q n.
-        value-moved (InBinary (shape (c .kind)) 1 (now (a .s)) (a .at)) from (a .to) c (kind-of k) (value k) (now (a .row)) (a .o) (p .last .1 .1 .1 .0) (next k) one q
-        (subst (λ (y : Shape). InBinary y 1 (now (a .s)) (a .at) (next k) (value k ∷ [])) (sym q) (stands k)) (p .result) tt
-        (ap₂ isDeclared n (sym (fits k)) ∙ sym d ∙ x .before .before .before .before .if1 .left)
-        (puts-as (ap (oneForm (a .to) (kind-of k)) (fits k)) (p .ensures))
+    value-moved (InBinary (shape (c .kind)) 1 (now (a .s)) (a .at)) from (a .to) c (kind-of k) (value k) (now (a .row)) (a .o) (p .last .1 .1 .1 .0) (next k) one q
+    (subst (λ (y : Shape). InBinary y 1 (now (a .s)) (a .at) (next k) (value k ∷ [])) (sym q) (stands k)) (p .result) tt
+    (ap₂ isDeclared n (sym (fits k)) ∙ sym d ∙ x .before .before .before .before .if1 .left)
+    (puts-as (ap (oneForm (a .to) (kind-of k)) (fits k)) (p .ensures))
 
 pub move-integer-spec : {M : Type 1} → statement M
 move-integer-spec =

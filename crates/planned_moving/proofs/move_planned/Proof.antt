@@ -37,8 +37,8 @@ returns-3 x =
     let n = neither _ _ (e .if1 .left) in
     let m = x .before .before .move-wanted in
     λ c b q.
-        subst (λ (flagged : Bool). MovesCell (a .from) (a .to) c flagged (now (a .s)) (a .at) (now (a .row)) (a .o) (m .last .1 .1 .1 .1 .0) (m .result)) (sym (n .1))
-        (m .ensures (a .from) c (sym (e .before .is-text .ensures) ∙ n .0) b q)
+    subst (λ (flagged : Bool). MovesCell (a .from) (a .to) c flagged (now (a .s)) (a .at) (now (a .row)) (a .o) (m .last .1 .1 .1 .1 .0) (m .result)) (sym (n .1))
+    (m .ensures (a .from) c (sym (e .before .is-text .ensures) ∙ n .0) b q)
 
 pub move-planned-spec : {M : Type 1} → statement M
 move-planned-spec =

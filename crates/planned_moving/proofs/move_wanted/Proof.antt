@@ -42,10 +42,10 @@ returns-2 x =
     let m = x .before .before .move-bytes in
     let bytes : AreBytes (now (a .args .s)) = are-bytes (now (a .args .s)) (λ i. omega (arith, e .before .before .before .shared-slice-known .given i)) in
     λ from c t b q.
-        let w : stepOf c .want ≡ Want.Bytes = sym (ap (λ (y : Step). y .want) q) ∙ e .enum-told2 .given .1 in
-        let f = of-fixed c Want.Bytes w (λ z. false≢true (ap wantsBytes z)) in
-        passed-moved from (a .args .to) c (f .n) (a .args .step .bytes) (now (a .args .s)) (a .args .at) (now (a .args .row)) (a .args .o) (m .last .1 .1 .1 .1 .0) (m .result) t (f .len-is) (some c f b)
-        (sym (f .want-is) ∙ w) (ap (λ (y : Step). y .bytes) q ∙ f .bytes-is) bytes (omega (arith, a .pre .0)) (m .ensures)
+    let w : stepOf c .want ≡ Want.Bytes = sym (ap (λ (y : Step). y .want) q) ∙ e .enum-told2 .given .1 in
+    let f = of-fixed c Want.Bytes w (λ z. false≢true (ap wantsBytes z)) in
+    passed-moved from (a .args .to) c (f .n) (a .args .step .bytes) (now (a .args .s)) (a .args .at) (now (a .args .row)) (a .args .o) (m .last .1 .1 .1 .1 .0) (m .result) t (f .len-is) (some c f b)
+    (sym (f .want-is) ∙ w) (ap (λ (y : Step). y .bytes) q ∙ f .bytes-is) bytes (omega (arith, a .pre .0)) (m .ensures)
 
 returns-3 : tie.Need-returns-3
 returns-3 x =
@@ -54,15 +54,15 @@ returns-3 x =
     let integer = e .want .given .0 .0 in
     let m = x .before .before .move-integer in
     λ from c t b q.
-        let w : stepOf c .want ≡ Want.Integer integer = sym (ap (λ (y : Step). y .want) q) ∙ e .want .given .1 in
-        let f = of-fixed c (Want.Integer integer) w (λ z. false≢true (ap wantsInteger z)) in
-        let i = integer-wanted (c .kind) (f .n) integer (sym (f .want-is) ∙ w) in
-        let len : c .len ≡ Len.Fixed 1 = f .len-is ∙ ap Len.Fixed (i .0) in
-        let one : isScalar c ≡ true = ap isOne len in
-        let size : a .args .step .bytes ≡ contentBytes (shape (c .kind)) 1 = ap (λ (y : Step). y .bytes) q ∙ f .bytes-is ∙ ap (contentBytes (shape (c .kind))) (i .0) in
-        let null : c .null ≡ a .args .step .null = sym (ap (λ (y : Step). y .null) q ∙ f .null-is) in
-        fixed-moved from (a .args .to) c 1 (now (a .args .s)) (a .args .at) (now (a .args .row)) (a .args .o) (m .last .1 .1 .1 .1 .1 .0) (m .result) t len (lit≤ tt) (omega (arith, size, a .pre .0))
-        (m .ensures from c one (i .1) null)
+    let w : stepOf c .want ≡ Want.Integer integer = sym (ap (λ (y : Step). y .want) q) ∙ e .want .given .1 in
+    let f = of-fixed c (Want.Integer integer) w (λ z. false≢true (ap wantsInteger z)) in
+    let i = integer-wanted (c .kind) (f .n) integer (sym (f .want-is) ∙ w) in
+    let len : c .len ≡ Len.Fixed 1 = f .len-is ∙ ap Len.Fixed (i .0) in
+    let one : isScalar c ≡ true = ap isOne len in
+    let size : a .args .step .bytes ≡ contentBytes (shape (c .kind)) 1 = ap (λ (y : Step). y .bytes) q ∙ f .bytes-is ∙ ap (contentBytes (shape (c .kind))) (i .0) in
+    let null : c .null ≡ a .args .step .null = sym (ap (λ (y : Step). y .null) q ∙ f .null-is) in
+    fixed-moved from (a .args .to) c 1 (now (a .args .s)) (a .args .at) (now (a .args .row)) (a .args .o) (m .last .1 .1 .1 .1 .1 .0) (m .result) t len (lit≤ tt) (omega (arith, size, a .pre .0))
+    (m .ensures from c one (i .1) null)
 
 pub move-wanted-spec : {M : Type 1} → statement M
 move-wanted-spec =

@@ -2,15 +2,12 @@
 use Prim.Native.Nat.{_-_, _<_, _≤_, suc}
 use native.Mathlib.Numerals.{add-one}
 use mathlib.Core.List.{List, _∷_}
-use mathlib.Core.Path.{_∙_, _≡_, ap, subst}
+use mathlib.Core.Path.{_∙_, _≡_, ap}
 use lib.ListN.{drop, getD, replicate, set}
 use borrow.Author.Needs.{needs}
 use native.Mathlib.Omega.{arith}
-use Rattle.planning.proofs.Steps.{planned, steps-all, steps-more, stepsTo}
-use Rattle.rows.specs.Bounds.{Bounded}
+use Rattle.planning.proofs.Steps.{listed-bounded, planned, steps-all, steps-more, stepsTo}
 use Rattle.table.proofs.ColumnList.{listed-length, listed-next}
-use Rattle.table.proofs.Laws.{all-drop}
-use Rattle.table.specs.All.{All}
 use Rattle.table.specs.ColumnList.{listed, noColumn}
 use Rattle.table.specs.declared.Columns.{Columns}
 use Rattle.planning.proofs.plan_of.Statement.{statement}
@@ -44,7 +41,7 @@ mul-step-of c = record { fits = omega (arith, few c) }
 step-of-requires : tie.Need-step-of-requires Inv-loop μ-loop
 step-of-requires c κs =
     let t = c .before in
-    subst (All Bounded) (next-column t) (all-drop Bounded (t .before .loop .i) (listed (columns t)) (t .before .before .before .pre .each)) .0 .1
+    listed-bounded (columns t) (t .before .loop .i) (t .before .before .before .pre) (t .loop-test .taken) .1
 
 mul-list : tie.Need-mul-list Inv-loop μ-loop
 mul-list c = record { fits = omega (arith, few (c .before .before)) }
