@@ -45,7 +45,8 @@ rowsWritten from to cols (suc n) s = do
 
 -- so many rows more are written behind the bytes that stood there, and nothing else of the output has changed
 pub record RowsMoved (from to : Rows) (cols : List Column) (s old : List ℕ) (place rows bytes : ℕ) (new : List ℕ) (place′ rows′ bytes′ : ℕ) : Type 0 where
-  pub done : RowsFurther from to cols s old place rows bytes new place′ rows′ bytes′
+  pub inside : place′ ≤ length s
+  pub room : bytes′ ≤ length new
   pub count : ℕ
   pub added : List ℕ
   pub counted : rows′ ≡ rows + count

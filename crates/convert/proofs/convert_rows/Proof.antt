@@ -17,6 +17,7 @@ use Rattle.convert.proofs.Converting.{Finished, acceptance, read-refusa
 use Rattle.convert.proofs.Measuring.{RowMeasured, held-ready, measured-more, measured-start, row-cannot, row-length, row-wrote}
 use Rattle.convert.specs.Contracts.{MeasuredBy, holdingOf, scratchLength}
 use Rattle.moving.proofs.Rows.{row-done, rows-start}
+use Rattle.moving.proofs.Written.{rows-further}
 use Rattle.moving.specs.Rows.{RowsDone, RowsFurther}
 use Rattle.table.proofs.ColumnList.{listed-length, listed-next}
 use Rattle.table.proofs.Wrote.{wrote-long}
@@ -110,7 +111,8 @@ done-at r =
     let m = r .before .before .before .before .before .before .moved in
     let n = r .before .before .before .before .before .before .before .before .before .before .before .start in
     let z = r .before .before .before .before .before .before .before .before .before .before .start2 in
-    r .rows .inv .0 .further (out-at r) (m .ensures .0 .moved .done .further (out-at r) (rows-start (from-at r) (to-at r) (listed (cols-at r)) (s-at r) (out-at r) _ _ _ (n .ensures) (z .ensures)))
+    let f = rows-further (m .ensures .0 .moved) (are r) (omega (arith, n .ensures)) (omega (arith, n .ensures, z .ensures .0)) in
+    r .rows .inv .0 .further (out-at r) (f .further (out-at r) (rows-start (from-at r) (to-at r) (listed (cols-at r)) (s-at r) (out-at r) _ _ _ (n .ensures) (z .ensures)))
 
 scratch-kept : (r : AtRows) → length (r .rows .scratch) ≡ length (now (begin r .args .scratch))
 scratch-kept r = r .rows .inv .2 ∙ r .before .before .before .before .before .before .moved .ensures .1 .0
@@ -263,7 +265,11 @@ moved-requires c κs =
 
 rows-holds : tie.Need-rows-holds Inv-loop μ-loop Inv-rows μ-rows
 rows-holds c =
-    let m = c .before .before .before .before .before .moved .ensures .0 .moved .done in
+    let k = c .before .before .before .before .before in
+    let n = k .before .before .before .before .before .start .ensures in
+    let z = k .before .before .before .before .start2 .ensures in
+    let a = k .before .before .before .before .before .before .before .before .before .before in
+    let m = rows-further (k .moved .ensures .0 .moved) (a .pre .0) (omega (arith, n)) (omega (arith, n, z .0)) in
     (record { inside = m .inside; fewer = m .fewer; room = m .room; long = refl; onward = le-refl _; further = λ o d. d }, refl, refl, refl)
 
 at-end-requires : tie.Need-at-end-requires Inv-loop μ-loop Inv-rows μ-rows
@@ -442,11 +448,23 @@ moved-requires-2 c κs =
 abbrev behind-of : tie.After-slice-known7 Inv-loop μ-loop Inv-rows μ-rows → Behind
 behind-of c = c .before .before .before .before .before .before .before .before .before
 
+-- and are done, too
+more-done : (c : tie.After-slice-known7 Inv-loop μ-loop Inv-rows μ-rows) → let b = behind-of c in
+    let r = turn-rows b in
+    let m = c .before .before .before .before .before .moved2 in
+    RowsFurther (from-at r) (to-at r) (listed (cols-at r)) (s-at r) (out-behind b) (b .before .after .result .at) (b .after2 .result .rows) (b .after2 .result .bytes)
+    (m .last .1 .1 .1 .1 .1 .1 .0) (m .result .place) (m .result .rows) (m .result .bytes)
+more-done c =
+    let b = behind-of c in
+    let r = turn-rows b in
+    let d = row-behind b (out-at r) (done-at r) in
+    rows-further (c .before .before .before .before .before .moved2 .ensures .0 .moved) (are r) (d .inside) (d .fewer)
+
 rows-less : tie.Need-rows-less Inv-loop μ-loop Inv-rows μ-rows
 rows-less c =
     let b = behind-of c in
     let n = onward (ended-of (formed-of b)) in
-    let m = c .before .before .before .before .before .moved2 .ensures .0 .moved .done in
+    let m = more-done c in
     omega (arith, n .0, n .1, cursor-moves (b .before), m .onward, m .inside)
 
 rows-again : tie.Need-rows-again Inv-loop μ-loop Inv-rows μ-rows
@@ -454,7 +472,7 @@ rows-again c =
     let b = behind-of c in
     let r = turn-rows b in
     let m = c .before .before .before .before .before .moved2 .ensures in
-    let d = m .0 .moved .done in
+    let d = more-done c in
     let i = r .rows .inv .0 in (
       record {
         inside = d .inside;

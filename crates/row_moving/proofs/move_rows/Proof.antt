@@ -13,7 +13,7 @@ use native.Mathlib.Omega.{arith}
 use borrow.Author.Needs.{needs}
 use Rattle.binary.specs.Binary.{flagBit}
 use Rattle.moving.proofs.Cells.{settled-after}
-use Rattle.moving.proofs.Written.{rows-more, rows-none}
+use Rattle.moving.proofs.Written.{rows-further, rows-more, rows-none}
 use Rattle.moving.specs.Cells.{CellLeft, CellMoved, MovesCell, SettlesCell}
 use Rattle.moving.specs.Puts.{Puts}
 use Rattle.moving.specs.Rows.{RowLeft, RowsMoved}
@@ -33,7 +33,7 @@ use Rattle.row_writing.specs.Contracts.{startBytes}
 use Rattle.rows.specs.Bounds.{Within}
 use Rattle.rows.specs.Stream.{readRow, writeEnd, writeRow}
 use Rattle.table.proofs.ColumnList.{listed-length, listed-next}
-use Rattle.table.proofs.Wrote.{wrote-as}
+use Rattle.table.proofs.Wrote.{wrote-as, wrote-long}
 use Rattle.table.specs.ColumnList.{listed, noColumn}
 use Rattle.table.specs.Result.{good}
 use Rattle.table.specs.declared.Column.{Column}
@@ -226,10 +226,10 @@ plan-of-requires c κs = c .before .before .before .before .pre .0 .0
 rows-holds : tie.Need-rows-holds Inv-loop μ-loop Inv-rows μ-rows
 rows-holds c =
     let a = c .before .before .before .before .before in
-    (rows-none (a .args .from) (a .args .to) (listed (a .args .t1)) (now (a .args .s)) _ _ _ _ (a .pre .1 .0) (a .pre .1 .1) (a .pre .1 .2), refl, refl)
+    (rows-none (a .args .from) (a .args .to) (listed (a .args .t1)) (now (a .args .s)) _ _ _ _ (a .pre .1 .0) (a .pre .1 .2), refl, refl)
 
 begin-quickly-requires : tie.Need-begin-quickly-requires Inv-loop μ-loop Inv-rows μ-rows
-begin-quickly-requires c κs = (c .rows .inv .0 .done .inside, omega (arith, are c .some, listed-length (cols-at c)), few c)
+begin-quickly-requires c κs = (c .rows .inv .0 .inside, omega (arith, are c .some, listed-length (cols-at c)), few c)
 
 -- ---- the loop over columns
 
@@ -378,12 +378,12 @@ frame-row-requires c κs =
     (few r, omega (arith, l .inv .1 .puts .long, r .rows .inv .2, begin r .pre .0 .2), omega (arith, l .inv .1 .puts .room, l .inv .1 .puts .long))
 
 sub-if1 : tie.Need-sub-if1 Inv-loop μ-loop Inv-rows μ-rows
-sub-if1 c = rows-of (begun-of (ended-of c)) .rows .inv .0 .done .room
+sub-if1 c = rows-of (begun-of (ended-of c)) .rows .inv .0 .room
 
 put-row-requires : tie.Need-put-row-requires Inv-loop μ-loop Inv-rows μ-rows
 put-row-requires c κs =
     let f = c .before .before .before in
-    (stands f .0, omega (arith, c .before .before .if1 .left, rows-of (begun-of (ended-of f)) .rows .inv .0 .done .room))
+    (stands f .0, omega (arith, c .before .before .if1 .left, rows-of (begun-of (ended-of f)) .rows .inv .0 .room))
 
 abbrev framed-of : tie.After-slice-known6 Inv-loop μ-loop Inv-rows μ-rows → Framed
 framed-of c = c .before .before .before .before .before .before
@@ -392,7 +392,8 @@ add-rows : tie.Need-add-rows Inv-loop μ-loop Inv-rows μ-rows
 add-rows c =
     let e = ended-of (framed-of c) in
     let r = rows-of (begun-of e) in
-    omega (arith, r .rows .inv .0 .done .fewer, onward e .0, onward e .1, begin r .good)
+    let f = rows-further (r .rows .inv .0) (are r) (begin r .pre .1 .0) (begin r .pre .1 .1) in
+    omega (arith, f .fewer, onward e .0, onward e .1, begin r .good)
 
 rows-less : tie.Need-rows-less Inv-loop μ-loop Inv-rows μ-rows
 rows-less c = let e = ended-of (framed-of c) in omega (arith, onward e .0, onward e .1)
@@ -405,12 +406,11 @@ rows-again c =
     let r = rows-of b in
     let l = all-of e .before .loop in
     let i = r .rows .inv .0 in
-    let o = onward e in
     let p = wrote-as (stands f .1) (c .before .before .put-row .ensures) in
     let fits = c .before .before .before .before .before .if1 .left in
     let g = f .before .before .before .before .before .frame-row .ensures in (
-      rows-more (from-at r) (to-at r) (listed (cols-at r)) (are r) (s-at r) _ _ _ _ (r .rows .out) (r .rows .place) (r .rows .rows) (r .rows .bytes) i
-          (l .inv .0 .acc) (next-at e) (whole e) (o .0) (o .1) (row-bytes e) (written-at e) (omega (arith, as-many f, fits, i .done .room)) _ _ p,
+      rows-more (from-at r) (to-at r) (listed (cols-at r)) (s-at r) _ _ _ _ (r .rows .out) (r .rows .place) (r .rows .rows) (r .rows .bytes) i
+          (l .inv .0 .acc) (next-at e) (whole e) (onward e .1) (row-bytes e) (written-at e) (omega (arith, as-many f, fits, i .room)) _ _ p,
       l .inv .2 ∙ r .rows .inv .1,
       g .long ∙ l .inv .1 .puts .long ∙ r .rows .inv .2,
     )
@@ -527,7 +527,7 @@ full c =
     let e = ended-of (c .before) in
     let r = rows-of (begun-of e) in
     full-left (from-at r) (to-at r) (listed (cols-at r)) (s-at r) (r .rows .place) (r .rows .out) (r .rows .bytes) _ _ _ (row-bytes e) (whole e) (written-at e)
-    (omega (arith, c .if1 .taken, as-many (c .before), r .rows .inv .0 .done .room))
+    (omega (arith, c .if1 .taken, as-many (c .before), r .rows .inv .0 .room))
 
 returns-5 : tie.Need-returns-5 Inv-loop μ-loop Inv-rows μ-rows
 returns-5 c =
@@ -577,23 +577,23 @@ move-rows-spec =
     add-rows
     rows-less
     rows-again
-    (λ c. returns c .0 .moved .done .long)
+    (λ c. wrote-long (returns c .0 .moved .wrote))
     (λ c. returns c .1 .0)
     (λ c. returns c .1 .1)
     returns
-    (λ c. returns-2 c .0 .moved .done .long)
+    (λ c. wrote-long (returns-2 c .0 .moved .wrote))
     unmoved-scratch
     unmoved-row
     returns-2
-    (λ c. returns-3 c .0 .moved .done .long)
+    (λ c. wrote-long (returns-3 c .0 .moved .wrote))
     (λ c. returns-3 c .1 .0)
     (λ c. returns-3 c .1 .1)
     returns-3
-    (λ c. returns-4 c .0 .moved .done .long)
+    (λ c. wrote-long (returns-4 c .0 .moved .wrote))
     (λ c. returns-4 c .1 .0)
     (λ c. returns-4 c .1 .1)
     returns-4
-    (λ c. returns-5 c .0 .moved .done .long)
+    (λ c. wrote-long (returns-5 c .0 .moved .wrote))
     (λ c. returns-5 c .1 .0)
     (λ c. returns-5 c .1 .1)
     returns-5)
