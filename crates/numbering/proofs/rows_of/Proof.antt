@@ -1,9 +1,9 @@
 -- Each number in its arm, and any other is none of the three.
-use Rattle.sailmortar.specs.Face.{rowsOf}
-use Rattle.sailmortar.proofs.Numbers.{no-rows}
+use Rattle.numbering.specs.Numbering.{rowsOf}
+use Rattle.numbering.proofs.ByNumber.{no-rows}
 use mathlib.Core.Path.{ap, sym}
-use Rattle.sailmortar.proofs.rows_of.Statement.{statement}
-use Rattle.sailmortar.proofs.rows_of.Tie as tie
+use Rattle.numbering.proofs.rows_of.Statement.{statement}
+use Rattle.numbering.proofs.rows_of.Tie as tie
 
 returns : tie.Need-returns
 unfolding rowsOf

@@ -1,8 +1,8 @@
 -- The eight numbers are those of the record, in its order.
 use mathlib.Core.Path.{refl}
-use Rattle.sailmortar.specs.Face.{joinedNumbers}
-use Rattle.sailmortar.proofs.put_joined.Statement.{statement}
-use Rattle.sailmortar.proofs.put_joined.Tie as tie
+use Rattle.numbering.specs.Numbering.{joinedNumbers}
+use Rattle.numbering.proofs.put_joined.Statement.{statement}
+use Rattle.numbering.proofs.put_joined.Tie as tie
 
 returns : tie.Need-returns
 unfolding joinedNumbers

@@ -1,9 +1,9 @@
 -- The eight numbers in their order.
 use borrow.Author.Needs.{needs}
 use mathlib.Core.Path.{refl}
-use Rattle.sailmortar.specs.Face.{joinedOf}
-use Rattle.sailmortar.proofs.joined_of.Statement.{statement}
-use Rattle.sailmortar.proofs.joined_of.Tie as tie
+use Rattle.numbering.specs.Numbering.{joinedOf}
+use Rattle.numbering.proofs.joined_of.Statement.{statement}
+use Rattle.numbering.proofs.joined_of.Tie as tie
 
 returns : tie.Need-returns
 unfolding joinedOf

@@ -1,9 +1,9 @@
 -- Each number in its arm, and any other is none of the two.
-use Rattle.sailmortar.specs.Face.{binaryOf}
-use Rattle.sailmortar.proofs.Numbers.{no-binary}
+use Rattle.numbering.specs.Numbering.{binaryOf}
+use Rattle.numbering.proofs.ByNumber.{no-binary}
 use mathlib.Core.Path.{ap, sym}
-use Rattle.sailmortar.proofs.binary_of.Statement.{statement}
-use Rattle.sailmortar.proofs.binary_of.Tie as tie
+use Rattle.numbering.proofs.binary_of.Statement.{statement}
+use Rattle.numbering.proofs.binary_of.Tie as tie
 
 returns : tie.Need-returns
 unfolding binaryOf
