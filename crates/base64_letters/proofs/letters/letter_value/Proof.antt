@@ -1,8 +1,8 @@
--- `base64_coding::letters::letter_value` meets its contract: what is lent is the table.
+-- `base64_letters::letters::letter_value` meets its contract: what is lent is the table.
 use borrow.Author.Needs.{needs}
-use Rattle.base64_coding.specs.Contracts.{TableIs}
-use Rattle.base64_coding.proofs.letters.letter_value.Statement.{statement}
-use Rattle.base64_coding.proofs.letters.letter_value.Tie as tie
+use Rattle.base64_letters.specs.Letters.{TableIs}
+use Rattle.base64_letters.proofs.letters.letter_value.Statement.{statement}
+use Rattle.base64_letters.proofs.letters.letter_value.Tie as tie
 
 returns : tie.Need-returns
 unfolding TableIs

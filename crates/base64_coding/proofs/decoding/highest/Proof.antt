@@ -1,4 +1,4 @@
--- `base64_coding::letters::highest` meets its contract. The invariant: the highest of all bytes is that of the most so far and of what is left.
+-- `base64_coding::decoding::highest` meets its contract. The invariant: the highest of all bytes is that of the most so far and of what is left.
 use Prim.Native.Nat.{_-_, _≤_}
 use mathlib.Core.Bool.{cond}
 use mathlib.Core.Path.{_∙_, _≡_, refl, sym}
@@ -11,8 +11,8 @@ use borrow.Author.Tests.{le-ltb, lt-ltb}
 use native.Mathlib.Omega.{arith}
 use Rattle.base64_coding.specs.Contracts.{highestFrom}
 use Rattle.base64_coding.proofs.High.{highest-end, highest-more}
-use Rattle.base64_coding.proofs.letters.highest.Statement.{statement}
-use Rattle.base64_coding.proofs.letters.highest.Tie as tie
+use Rattle.base64_coding.proofs.decoding.highest.Statement.{statement}
+use Rattle.base64_coding.proofs.decoding.highest.Tie as tie
 
 abbrev Inv-loop : tie.InvT-loop
 Inv-loop s most₀ k₀ most k = (k ≤ length s) × (highestFrom 0 s ≡ highestFrom most (drop k s))

@@ -1,4 +1,4 @@
--- `base64_coding::encoding::write_letters` meets its contract. The invariant: what is left, stored from o on, makes the whole.
+-- `base64_letters::encoding::write_letters` meets its contract. The invariant: what is left, stored from o on, makes the whole.
 use Prim.Native.Nat.{_+_, _-_, _≤_, ℕ}
 use mathlib.Core.List.{List}
 use mathlib.Core.Path.{_∙_, _≡_, ap, refl}
@@ -6,11 +6,11 @@ use denote.Ref.{now}
 use lib.ListN.{drop, length}
 use lib.Seq.{sets}
 use Rattle.base64.specs.Base64.{encode}
-use Rattle.base64_coding.proofs.Coding.{length1, length2, length3, turn0, turn1, turn2, turn3}
+use Rattle.base64_letters.proofs.Coding.{length1, length2, length3, turn0, turn1, turn2, turn3}
 use borrow.Author.Needs.{needs}
 use native.Mathlib.Omega.{arith}
-use Rattle.base64_coding.proofs.encoding.write_letters.Statement.{statement}
-use Rattle.base64_coding.proofs.encoding.write_letters.Tie as tie
+use Rattle.base64_letters.proofs.encoding.write_letters.Statement.{statement}
+use Rattle.base64_letters.proofs.encoding.write_letters.Tie as tie
 
 abbrev Inv-loop : tie.InvT-loop
 Inv-loop s out₀ i₀ o₀ out i o = (i ≤ length s) × (length out ≡ length out₀) × (o + length (encode (drop i s)) ≤ length out) × (sets out o (encode (drop i s)) ≡ sets out₀ 0 (encode s))

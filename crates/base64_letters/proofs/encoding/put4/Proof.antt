@@ -1,10 +1,10 @@
--- `base64_coding::encoding::put4` meets its contract.
+-- `base64_letters::encoding::put4` meets its contract.
 use native.Mathlib.Omega.{arith}
 use native.Mathlib.Numerals.{towards-suc}
 use lib.ListN.{length-set}
 use borrow.Author.Needs.{needs}
-use Rattle.base64_coding.proofs.encoding.put4.Statement.{statement}
-use Rattle.base64_coding.proofs.encoding.put4.Tie as tie
+use Rattle.base64_letters.proofs.encoding.put4.Statement.{statement}
+use Rattle.base64_letters.proofs.encoding.put4.Tie as tie
 
 slice-write-out-2 : tie.Need-slice-write-out-2
 slice-write-out-2 c = simp length-set (omega arith)

@@ -8,8 +8,8 @@ use mathlib.Core.Path.{_∙_, _≡_, ap, subst⁻¹}
 use lib.ListN.{drop, drop-of-length-le, getD, length}
 use lib.Seq.{drop-cons, sets}
 use Rattle.base64.specs.Base64.{encode}
-use Rattle.base64_coding.specs.Contracts.{lettersOf}
-use Rattle.base64_coding.specs.declared.encoding.Letters.{Letters}
+use Rattle.base64_letters.specs.Letters.{lettersOf}
+use Rattle.base64_letters.specs.declared.encoding.Letters.{Letters}
 
 next3 : (s : List ℕ) (i : ℕ) → i + 3 ≤ length s → drop i s ≡ getD s i 0 ∷ getD s (i + 1) 0 ∷ getD s (i + 2) 0 ∷ drop (i + 3) s
 next3 s i h =

@@ -10,7 +10,7 @@ use lib.ListN.{getD}
 use borrow.Author.Tests.{eqb-true, le-ltb, lt-ltb}
 use Rattle.base64.proofs.Laws.{LetterOf, Only, letter-not-pad, letter-not-white, only, sextet-7, sextet-is}
 use Rattle.base64.specs.Base64.{isPad, letter, sextet}
-use Rattle.base64_coding.specs.Contracts.{TableIs, letterValue, valueOrNone}
+use Rattle.base64_letters.specs.Letters.{TableIs, letterValue, valueOrNone}
 use Rattle.table.proofs.Laws.{allBelow, each-below, holds-at}
 use Rattle.table.specs.Bytes.{isWhite}
 use Rattle.table.specs.Result.{Holds, Result, bad, good, holds}

@@ -1,8 +1,8 @@
--- `base64_coding::encoding::letters_of` meets its contract, letter by letter.
-use Rattle.base64_coding.specs.Contracts.{lettersOf}
+-- `base64_letters::encoding::letters_of` meets its contract, letter by letter.
+use Rattle.base64_letters.specs.Letters.{lettersOf}
 use borrow.Author.Needs.{needs}
-use Rattle.base64_coding.proofs.encoding.letters_of.Statement.{statement}
-use Rattle.base64_coding.proofs.encoding.letters_of.Tie as tie
+use Rattle.base64_letters.proofs.encoding.letters_of.Statement.{statement}
+use Rattle.base64_letters.proofs.encoding.letters_of.Tie as tie
 
 returns : tie.Need-returns
 unfolding lettersOf

@@ -5,7 +5,7 @@ ghost use mathlib.Core.Path.{_≡_};
 ghost use lib.ListN.{length};
 ghost use lib.Seq.{sets};
 ghost use Rattle.base64.specs.Base64.{encode, letter};
-ghost use Rattle.base64_coding.specs.Contracts.{lettersOf};
+ghost use Rattle.base64_letters.specs.Letters.{lettersOf};
 
 // Four letters.
 struct Letters {

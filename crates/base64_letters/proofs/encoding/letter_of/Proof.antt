@@ -1,12 +1,12 @@
--- `base64_coding::encoding::letter_of` meets its contract: by which of its tests the letter was set.
+-- `base64_letters::encoding::letter_of` meets its contract: by which of its tests the letter was set.
 use mathlib.Core.Path.{_∙_, ap, sym}
 use mathlib.Core.Logic.{⊎-elim}
 use native.Mathlib.Omega.{arith}
 use borrow.Author.Needs.{needs}
 use Rattle.base64.specs.Base64.{letter}
-use Rattle.base64_coding.proofs.Alphabet.{letter-digit, letter-lower, letter-upper}
-use Rattle.base64_coding.proofs.encoding.letter_of.Statement.{statement}
-use Rattle.base64_coding.proofs.encoding.letter_of.Tie as tie
+use Rattle.base64_letters.proofs.Alphabet.{letter-digit, letter-lower, letter-upper}
+use Rattle.base64_letters.proofs.encoding.letter_of.Statement.{statement}
+use Rattle.base64_letters.proofs.encoding.letter_of.Tie as tie
 
 returns : tie.Need-returns
 unfolding letter

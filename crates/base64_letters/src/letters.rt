@@ -1,7 +1,7 @@
 // Base64's letters and their values, as a table.
 ghost use Prim.Native.Nat.{_<_};
 ghost use mathlib.Core.Path.{_≡_};
-ghost use Rattle.base64_coding.specs.Contracts.{TableIs, highestFrom, letterValue};
+ghost use Rattle.base64_letters.specs.Letters.{TableIs, letterValue};
 
 // In place of a value where there is no letter: over every number that four letters make, so that one test tells whether all four are
 // letters.
@@ -156,20 +156,4 @@ pub fn letter_value(c: u8, values: &[u32; 128]) -> u32
 {
     let place = c as usize;
     values[place]
-}
-
-// The highest byte, and 0 of none. No branch leaves the loop, so it is done by vectors.
-pub fn highest(s: &[u8]) -> u8
-    ensures { λ r. ⌜ r ≡ highestFrom 0 (now (s .entry)) ⌝ }
-{
-    let mut most = 0;
-    let mut k = 0;
-    while k < s.len() {
-        let c = s[k];
-        if most < c {
-            most = c;
-        }
-        k += 1;
-    }
-    most
 }
