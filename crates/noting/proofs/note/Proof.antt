@@ -5,8 +5,8 @@ use denote.Ref.{now}
 use borrow.Author.Needs.{needs}
 use borrow.Author.Tests.{le-ltb, lt-ltb}
 use native.Mathlib.Omega.{arith}
-use Rattle.comparing.proofs.note.Statement.{statement}
-use Rattle.comparing.proofs.note.Tie as tie
+use Rattle.noting.proofs.note.Statement.{statement}
+use Rattle.noting.proofs.note.Tie as tie
 
 slice-write-places-2 : tie.Need-slice-write-places-2
 slice-write-places-2 c =

@@ -2,11 +2,11 @@
 use mathlib.Core.Path.{_∙_, ap}
 use lib.ListN.{length}
 use denote.Ref.{now}
-use Rattle.comparing.proofs.Noting.{noted-long, notes-none, notes-one}
+use Rattle.noting.proofs.Noting.{noted-long, notes-none, notes-one}
 use borrow.Author.Needs.{needs}
 use borrow.Author.Tests.{not-false, not-true}
-use Rattle.comparing.proofs.note_column.Statement.{statement}
-use Rattle.comparing.proofs.note_column.Tie as tie
+use Rattle.noting.proofs.note_column.Statement.{statement}
+use Rattle.noting.proofs.note_column.Tie as tie
 
 returns : tie.Need-returns
 returns c =

@@ -3,13 +3,13 @@ use Prim.Native.Nat.{_-_, _≤_, ℕ}
 use mathlib.Core.List.{[]}
 use mathlib.Core.Path.{_∙_, _≡_, ap}
 use denote.Ref.{now}
-use Rattle.comparing.proofs.Noting.{Noted, none-marked, noted-all, noted-next, noted-start, notes-none}
-use Rattle.comparing.specs.Contracts.{marked}
+use Rattle.noting.proofs.Noting.{Noted, none-marked, noted-all, noted-next, noted-start, notes-none}
+use Rattle.noting.specs.Places.{marked}
 use Rattle.number.proofs.Laws.{length-to}
 use Rattle.number.specs.Number.{toDigits}
 use native.Mathlib.Omega.{arith}
-use Rattle.comparing.proofs.note_row.Statement.{statement}
-use Rattle.comparing.proofs.note_row.Tie as tie
+use Rattle.noting.proofs.note_row.Statement.{statement}
+use Rattle.noting.proofs.note_row.Tie as tie
 
 abbrev Inv-loop : tie.InvT-loop
 Inv-loop places₀ noted row differing count n₀ i₀ places n i = Noted row (toDigits 2 count differing) noted places₀ places n i × (i ≤ count)

@@ -11,7 +11,7 @@ use lib.ListN.{drop, getD, length, length-append, length-set, set}
 use borrow.Author.Tests.{le-ltb, lt-ltb, ltb-false, ltb-true}
 use Rattle.binary.specs.Binary.{flagBit}
 use Rattle.compare.specs.Compare.{Place, cellDiffers, placed, rowDiffers, sameCell}
-use Rattle.comparing.specs.Contracts.{Notes, marked, markedAt, notedAt}
+use Rattle.noting.specs.Places.{Notes, marked, markedAt, notedAt}
 use Rattle.number.specs.Number.{toDigits}
 use Rattle.row_comparing.specs.Contracts.{differingBits}
 use Rattle.table.proofs.Laws.{cond-cases}
