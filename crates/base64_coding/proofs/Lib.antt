@@ -1,7 +1,5 @@
-pub mod Alphabet
 pub mod Fours
 pub mod High
 pub mod Plain
 pub mod Turns
-pub mod Coding
 pub mod Calls

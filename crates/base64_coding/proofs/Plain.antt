@@ -7,10 +7,11 @@ use mathlib.Core.List.{List, [], _++_, _∷_, append-assoc}
 use mathlib.Core.Path.{_∙_, _≡_, ap, ap₂, refl, subst, sym}
 use lib.ListN.{drop, getD, length, length-append}
 use lib.Seq.{drop-cons, sets}
-use Rattle.base64_coding.proofs.Alphabet.{black, is-letter, no-pad, none-or-small, value-most}
+use Rattle.base64_letters.proofs.Alphabet.{black, is-letter, no-pad, none-or-small, value-most}
 use Rattle.base64_coding.proofs.Fours.{dense-keep, fours-plain}
 use Rattle.base64.specs.Base64.{decode, dense, fours, threeBytes}
-use Rattle.base64_coding.specs.Contracts.{Bounded, LettersTo, before, fourNumber, fourSum, foursBytes, letterValue, numberBytes, valueAt, valuesAt}
+use Rattle.base64_coding.specs.Contracts.{Bounded, LettersTo, before, fourNumber, fourSum, foursBytes, numberBytes, valueAt, valuesAt}
+use Rattle.base64_letters.specs.Letters.{letterValue}
 use Rattle.base64_coding.specs.declared.decoding.FourValues.{FourValues}
 use Rattle.table.proofs.Wrote.{sets-append}
 use Rattle.table.specs.Result.{Result, bad, good}

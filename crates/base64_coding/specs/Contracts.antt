@@ -9,33 +9,17 @@ use lib.Seq.{sets}
 use Rattle.base64.specs.Base64.{decode, dense, letter, sextet}
 use Rattle.base64_coding.specs.declared.decoding.Four.{Four}
 use Rattle.base64_coding.specs.declared.decoding.Four.the-variants as four
-use Rattle.base64_coding.specs.declared.encoding.Letters.{Letters}
 use Rattle.base64_coding.specs.declared.decoding.Next.{Next}
 use Rattle.base64_coding.specs.declared.decoding.Next.the-variants as next
 use Rattle.base64_coding.specs.declared.decoding.FourValues.{FourValues}
 use Rattle.base64_coding.specs.declared.decoding.DecodedSize.{DecodedSize}
 use Rattle.base64_coding.specs.declared.decoding.DecodedSize.the-variants as size
+use Rattle.base64_letters.specs.Letters.{none, letterValue}
 use Rattle.table.specs.All.{All}
 use Rattle.table.specs.declared.Answer.{Answer}
 use Rattle.table.specs.Result.{Result, _>>=_, bad, good}
 
 -- ---- letters
-
--- in place of a value where there is no letter: over every number that four letters make
-abbrev pub none : ℕ
-none = 16777216
-
-abbrev pub valueOrNone : Result ℕ ℕ → ℕ
-valueOrNone (good v) = v
-valueOrNone (bad e) = none
-
--- a letter's value, and none for any other byte
-unfoldable pub letterValue : ℕ → ℕ
-letterValue c = valueOrNone (sextet c)
-
--- "Look each character up in a table of 128 entries": what is lent is that table
-unfoldable pub TableIs : List ℕ → Type 0
-TableIs values = (c : ℕ) → c < 128 → getD values c 0 ≡ letterValue c
 
 -- characters below 128, which alone are places of the table
 abbrev pub Low : List ℕ → Type 0
@@ -149,14 +133,3 @@ refusalOf n = record { number = n; row = 0; column = 0; rows = 0; bytes = 0 }
 
 abbrev pub acceptanceOf : ℕ → Answer
 acceptanceOf n = record { number = 0; row = 0; column = 0; rows = 0; bytes = n }
-
--- ---- encoding
-
--- the letters of three bytes
-unfoldable pub lettersOf : ℕ → ℕ → ℕ → Letters
-lettersOf a b c = record {
-  w = letter (a / 4);
-  x = letter (a % 4 * 16 + b / 16);
-  y = letter (b % 16 * 4 + c / 64);
-  z = letter (c % 64);
-}

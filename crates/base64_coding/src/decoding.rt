@@ -1,8 +1,7 @@
 // A text is decoded in two passes, since a refusal writes nothing: one says how many bytes there will be, the other writes them. Each
 // takes runs of letters, four at a time, as they stand from one white space to the next, and what is no such four the careful way.
-use crate::letters::NONE;
-use crate::letters::highest;
-use crate::letters::letter_value;
+use base64_letters::letters::NONE;
+use base64_letters::letters::letter_value;
 use text::skip_white;
 ghost use Prim.Native.Nat.{_+_, _-_, _/_, _<_, _≤_};
 ghost use mathlib.Core.List.{[], _∷_};
@@ -10,7 +9,8 @@ ghost use mathlib.Core.Path.{_≡_};
 ghost use lib.ListN.{drop, length, take};
 ghost use lib.Seq.{sets};
 ghost use Rattle.base64.specs.Base64.{decode, oneByte, threeBytes, twoBytes};
-ghost use Rattle.base64_coding.specs.Contracts.{Bounded, FitsAt, FourIs, LettersTo, Low, NextIs, TableIs, bufferWith, decodedSize, fourNumber, fourOf, fourSum, foursBytes, none, numberBytes, valuesAt};
+ghost use Rattle.base64_coding.specs.Contracts.{Bounded, FitsAt, FourIs, LettersTo, Low, NextIs, bufferWith, decodedSize, fourNumber, fourOf, fourSum, foursBytes, highestFrom, numberBytes, valuesAt};
+ghost use Rattle.base64_letters.specs.Letters.{TableIs, none};
 
 // The next byte that is no white space, and the place after it.
 enum Next {
@@ -40,6 +40,22 @@ pub enum DecodedSize {
 }
 
 // ---- the careful way
+
+// The highest byte, and 0 of none. No branch leaves the loop, so it is done by vectors.
+fn highest(s: &[u8]) -> u8
+    ensures { λ r. ⌜ r ≡ highestFrom 0 (now (s .entry)) ⌝ }
+{
+    let mut most = 0;
+    let mut k = 0;
+    while k < s.len() {
+        let c = s[k];
+        if most < c {
+            most = c;
+        }
+        k += 1;
+    }
+    most
+}
 
 fn next_byte(s: &[u8], from: usize) -> Next
     requires { ⌜ from ≤ length (now s) ⌝ }

@@ -1,7 +1,5 @@
 // Base64: the two calls, decoding and encoding, a step of its own over bytes.
 mod decoding;
-mod encoding;
-mod letters;
 
 use decoding::DecodedSize;
 use table::Answer;
@@ -44,7 +42,7 @@ pub fn decode(input: &[u8], out: &mut [u8]) -> Answer
     if MOST_INPUT < input.len() {
         return refusal(6);
     }
-    let values = letters::letter_table();
+    let values = base64_letters::letters::letter_table();
     match decoding::decoded_size(input, &values) {
         DecodedSize::Refused(number) => refusal(number),
         DecodedSize::Good(n) => {
@@ -69,6 +67,6 @@ pub fn encode(input: &[u8], out: &mut [u8]) -> Answer
     if out.len() < n {
         return refusal(17);
     }
-    encoding::write_letters(input, out);
+    base64_letters::encoding::write_letters(input, out);
     acceptance(n)
 }

@@ -12,8 +12,9 @@ use lib.ListN.{drop, length, length-append}
 use borrow.Author.Tests.{eqb-true, ltb-false}
 use Rattle.compare.proofs.Placed.{placed-enough}
 use Rattle.compare.specs.Compare.{Place, differences, filled, placed, rowDiffers}
-use Rattle.comparing.proofs.Noting.{marked-few, row-marked}
-use Rattle.comparing.specs.Contracts.{Counts, Notes, StandIn, Steps, atStart, differFrom, haveRows, inStep, marked, stepsOn}
+use Rattle.noting.proofs.Noting.{marked-few, row-marked}
+use Rattle.comparing.specs.Contracts.{Counts, StandIn, Steps, atStart, differFrom, haveRows, inStep, stepsOn}
+use Rattle.noting.specs.Places.{Notes, marked}
 use Rattle.comparing.specs.declared.Abreast.{Abreast}
 use Rattle.comparing.specs.declared.Stepped.{Stepped}
 use Rattle.number.proofs.Laws.{length-to}

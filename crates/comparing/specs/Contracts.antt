@@ -1,11 +1,11 @@
 -- What the functions that compare two inputs promise: places in a buffer, and how far both were read in step.
-use Prim.Native.Nat.{_*_, _+_, _/_, _≤_, ℕ}
-use mathlib.Core.Bool.{Bool, _&&_, cond, not}
-use mathlib.Core.List.{List, [], _++_, _∷_}
+use Prim.Native.Nat.{_*_, _≤_, ℕ}
+use mathlib.Core.Bool.{Bool, _&&_, not}
+use mathlib.Core.List.{List, [], _++_}
 use mathlib.Core.Logic.{_⊎_}
 use mathlib.Core.Path.{_≡_}
-use lib.Dec.{eqb, ltb}
-use lib.ListN.{drop, length, set}
+use lib.Dec.{ltb}
+use lib.ListN.{drop, length}
 use Rattle.compare.specs.Compare.{Place, differences, placed, refusedIn, rowsShown}
 use Rattle.compare.specs.declared.Comparison.{Comparison}
 use Rattle.comparing.specs.declared.Abreast.{Abreast}
@@ -18,26 +18,6 @@ use Rattle.table.specs.Result.{Result, _>>=_, bad, good, refusedAs}
 use Rattle.table.specs.declared.Answer.{Answer}
 use Rattle.table.specs.declared.Column.{Column}
 use Rattle.table.specs.declared.Rows.{Rows}
-
--- ---- places in the buffer
-
--- a place behind n others, where there are two numbers for it
-abbrev pub notedAt : ℕ → ℕ → ℕ → List ℕ → List ℕ
-notedAt n row column places = cond (ltb n (length places / 2)) (set (set places (2 * n) row) (2 * n + 1) column) places
-
-abbrev pub markedAt : ℕ → ℕ → Bool → List Place
-markedAt r k differs = cond differs (record { row = r; column = k } ∷ []) []
-
--- the places of row r from column k on, where the columns' bits are set
-unfoldable pub marked : ℕ → ℕ → List ℕ → List Place
-marked r k [] = []
-marked r k (b ∷ bs) = markedAt r k (eqb b 1) ++ marked r (k + 1) bs
-
--- places noted behind n others, whatever these are and whatever buffer is below them; and how many there are then
-pub record Notes (n : ℕ) (entry : List ℕ) (ps : List Place) (exit : List ℕ) (r : ℕ) : Type 0 where
-  pub counts : r ≡ n + length ps
-  pub leaves : (ds : List Place) (start : List ℕ) → length ds ≡ n → entry ≡ placed ds start → exit ≡ placed (ds ++ ps) start
-  pub long : length exit ≡ length entry
 
 -- ---- both inputs in step
 

@@ -1,7 +1,7 @@
 // Two inputs compared: both in step as far as both have rows, then what each has beyond; and in a lent buffer the places that differ.
 use compare::Comparison;
 use declaring::front;
-use flags::is_flagged;
+use noting::note_row;
 use row_comparing::Cursor;
 use row_comparing::RowPair;
 use row_comparing::compare_row;
@@ -11,10 +11,9 @@ use table::Columns;
 use table::Rows;
 ghost use mathlib.Core.Bool.{cond};
 ghost use mathlib.Core.Path.{_≡_};
-ghost use Prim.Native.Nat.{_+_, _-_, _<_, _^_, _≤_, suc};
+ghost use Prim.Native.Nat.{_-_, _<_, _^_, _≤_, suc};
 ghost use lib.Dec.{eqb};
 ghost use lib.ListN.{drop, length};
-ghost use Rattle.number.specs.Number.{toDigits};
 ghost use Rattle.table.specs.Cell.{mostElements};
 ghost use Rattle.table.specs.ColumnList.{listed};
 ghost use Rattle.table.specs.Outcome.{at};
@@ -22,49 +21,7 @@ ghost use Rattle.rows.specs.Bounds.{Within};
 ghost use Rattle.rows.specs.Stream.{read, readRow};
 ghost use Rattle.row_comparing.specs.Contracts.{PairsRow};
 ghost use Rattle.compare.specs.Compare.{Compares, beforeRows, comparedAs, filled, placed, refusedIn, rowsShown};
-ghost use Rattle.comparing.specs.Contracts.{Counts, Notes, StandIn, Steps, behindFirst, inStep, marked, markedAt, notedAt, rowsBoth, stepsOn};
-
-// ---- places in the buffer
-
-// A place behind so many others, where there are two numbers for it.
-fn note(places: &mut [u32], noted: usize, row: u32, column: u32)
-    ensures { λ _. ⌜ now (places .exit) ≡ notedAt noted row column (now (places .entry)) ⌝ }
-{
-    if noted < places.len() / 2 {
-        places[2 * noted] = row;
-        places[2 * noted + 1] = column;
-    }
-}
-
-// A column of a row, if its cells differ: how many places there are with it.
-fn note_column(places: &mut [u32], noted: usize, row: u32, column: u32, differs: bool) -> usize
-    requires { ⌜ noted + 1 < 2 ^ 64 ⌝ }
-    ensures { λ r. ⌜ Notes noted (now (places .entry)) (markedAt row column differs) (now (places .exit)) r ⌝ }
-{
-    if !differs {
-        return noted;
-    }
-    note(places, noted, row, column);
-    noted + 1
-}
-
-// The places of a row, by the flags of its columns, behind so many others.
-fn note_row(places: &mut [u32], noted: usize, row: u32, differing: u64, count: usize) -> usize
-    requires { ⌜ (count ≤ 64) × (noted + count < 2 ^ 64) ⌝ }
-    ensures { λ r. ⌜ Notes noted (now (places .entry)) (marked row 0 (toDigits 2 count differing)) (now (places .exit)) r ⌝ }
-{
-    if differing == 0 {
-        return noted;
-    }
-    let mut n = noted;
-    let mut i: usize = 0;
-    while i < count {
-        let differs = is_flagged(differing, count, i);
-        n = note_column(places, n, row, i as u32, differs);
-        i += 1;
-    }
-    n
-}
+ghost use Rattle.comparing.specs.Contracts.{Counts, StandIn, Steps, behindFirst, inStep, rowsBoth, stepsOn};
 
 // ---- both inputs in step
 

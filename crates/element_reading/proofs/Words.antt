@@ -16,12 +16,12 @@ use Rattle.table.specs.Bytes.{isWhite, notEmpty, words}
 use Rattle.table.specs.Result.{Result, _>>=_, bad, every, good}
 use Rattle.table.specs.Shape.{Shape}
 use Rattle.tabledata.specs.TableData.{textElements}
-use Rattle.element_reading.proofs.characters.Passing.{onward-broken, passed-none, passed-then}
+use Rattle.element_reading.proofs.Passing.{onward-broken, passed-none, passed-then}
 use Rattle.element_reading.proofs.elements.Laws.{stored-none}
-use Rattle.element_reading.specs.Characters.{charactersOf}
+use Rattle.character_reading.specs.Characters.{charactersOf}
 use Rattle.element_reading.specs.Elements.{Passed, Stored, TakenAs, TakesElements, elementsFrom, onward}
 use Rattle.element_reading.specs.Words.{AddedAs, Adds, CutAt, LastAt, firstBad, is-added, is-refused, judgedAs}
-use Rattle.element_reading.specs.declared.characters.Source.{Source}
+use Rattle.character_reading.specs.declared.characters.Source.{Source}
 use Rattle.element_reading.specs.declared.elements.Added.{Added}
 use Rattle.element_reading.specs.declared.elements.Taken.{Taken}
 

@@ -9,8 +9,8 @@ use lib.ListN.{drop, length, take}
 use Rattle.table.specs.Result.{Result, _>>=_, bad, good}
 use Rattle.table.specs.Shape.{Shape}
 use Rattle.tabledata.specs.TableData.{allText, bitLetter, textElements}
-use Rattle.element_reading.specs.Characters.{charactersOf}
-use Rattle.element_reading.specs.declared.characters.Source.{Source}
+use Rattle.character_reading.specs.Characters.{charactersOf}
+use Rattle.character_reading.specs.declared.characters.Source.{Source}
 use Rattle.element_reading.specs.declared.elements.Counted.the-variants.{All}
 use Rattle.element_reading.specs.declared.elements.Counted.{Counted}
 use Rattle.element_reading.specs.declared.elements.Taken.the-variants.{Held}

@@ -1,4 +1,2 @@
-pub mod References
-pub mod Characters
 pub mod Elements
 pub mod Words

@@ -12,9 +12,9 @@ use Rattle.table.specs.All.{All}
 use Rattle.table.specs.Bytes.{isWhite, notEmpty}
 use Rattle.table.specs.Result.{Result, _>>=_, bad, every, good}
 use Rattle.tabledata.specs.TableData.{integerWord, lower}
-use Rattle.element_reading.specs.Characters.{charactersOf}
+use Rattle.character_reading.specs.Characters.{charactersOf}
 use Rattle.element_reading.specs.Elements.{Passed, Stored, onward}
-use Rattle.element_reading.specs.declared.characters.Source.{Source}
+use Rattle.character_reading.specs.declared.characters.Source.{Source}
 use Rattle.element_reading.specs.declared.elements.Added.{Added}
 use Rattle.element_reading.specs.declared.elements.Taken.the-variants.{Held}
 use Rattle.element_reading.specs.declared.elements.Taken.{Taken}

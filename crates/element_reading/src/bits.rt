@@ -1,11 +1,11 @@
 // Bit cells: "`0` and `1` only, nothing between."
-use super::characters::Item;
-use super::characters::Source;
-use super::characters::character_at;
-use super::characters::spoiled;
 use super::elements::Taken;
 use super::elements::as_element;
 use super::elements::put;
+use character_reading::characters::Item;
+use character_reading::characters::Source;
+use character_reading::characters::character_at;
+use character_reading::characters::spoiled;
 use text::is_white;
 ghost use Prim.Native.Nat.{_≤_};
 ghost use Rattle.table.specs.Shape.{Bits};

@@ -1,11 +1,11 @@
 // Char cells.
-use super::characters::Item;
-use super::characters::Source;
-use super::characters::character_at;
-use super::characters::spoiled;
 use super::elements::Taken;
 use super::elements::as_element;
 use super::elements::put;
+use character_reading::characters::Item;
+use character_reading::characters::Source;
+use character_reading::characters::character_at;
+use character_reading::characters::spoiled;
 use tabledata::is_plain;
 use tabledata::is_text;
 ghost use Prim.Native.Nat.{_≤_};

@@ -1,11 +1,11 @@
 // A text's elements, by their kind.
 use super::bits::bits;
-use super::characters::Source;
 use super::chars::chars;
 use super::elements::Counted;
 use super::elements::Taken;
 use super::numerals::integers;
 use super::truths::truths;
+use character_reading::characters::Source;
 use number::Elements;
 use number::elements_of;
 use table::Kind;

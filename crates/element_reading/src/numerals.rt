@@ -1,13 +1,13 @@
 // Integer cells, word by word.
-use super::characters::Item;
-use super::characters::Source;
-use super::characters::character_at;
 use super::elements::Added;
 use super::elements::Taken;
 use super::elements::first_bad;
 use super::elements::judged;
 use super::elements::put;
 use super::elements::with_last;
+use character_reading::characters::Item;
+use character_reading::characters::Source;
+use character_reading::characters::character_at;
 use number::Integer;
 use text::Tag;
 use text::goes_on;
@@ -22,7 +22,7 @@ ghost use Rattle.words.specs.Words.{feed, fresh};
 ghost use Rattle.table.specs.Shape.{Whole};
 ghost use Rattle.tabledata.specs.TableData.{integerWord};
 ghost use Rattle.element_reading.specs.Words.{Adds, NumeralIs, QuickWordIs, begunForm, letterOf, spaceAt};
-ghost use Rattle.element_reading.specs.Characters.{TextEnds};
+ghost use Rattle.character_reading.specs.Characters.{TextEnds};
 ghost use Rattle.element_reading.specs.Elements.{TakesElements, elementsFrom};
 ghost use lib.ListN.{drop, length};
 ghost use mathlib.Core.Path.{_≡_};

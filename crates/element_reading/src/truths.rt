@@ -1,13 +1,13 @@
 // Boolean cells, word by word.
-use super::characters::Item;
-use super::characters::Source;
-use super::characters::character_at;
 use super::elements::Added;
 use super::elements::Taken;
 use super::elements::as_element;
 use super::elements::first_bad;
 use super::elements::put;
 use super::elements::with_last;
+use character_reading::characters::Item;
+use character_reading::characters::Source;
+use character_reading::characters::character_at;
 use text::is_white;
 ghost use Prim.Native.Nat.{_<_, _≤_};
 ghost use Rattle.table.specs.Shape.{Truths};

@@ -1,5 +1,1 @@
 pub mod Laws
-pub mod Pieces
-pub mod Parts
-pub mod Steps
-pub mod OneRow

@@ -1,31 +1,25 @@
 -- The demands of calls of the face: what holds between the slices and the numbers that a caller has in hand.
-use Prim.Native.Nat.{_*_, _+_, _/_, _<_, _≤_, ℕ}
-use mathlib.Core.Bool.{cond, true}
+use Prim.Native.Nat.{_<_, _≤_, ℕ}
+use mathlib.Core.Bool.{true}
 use mathlib.Core.List.{List, [], _++_, _∷_}
 use mathlib.Core.Logic.{_↔_}
 use mathlib.Core.Option.{none, some}
 use mathlib.Core.Path.{_≡_}
-use lib.Dec.{eqb}
-use lib.ListN.{drop, getD, length, take}
+use lib.ListN.{getD, length}
 use Rattle.demands.specs.Demands.{Accepted, Comes, Ended, SameFate, Stream, output}
-use Rattle.demands.specs.OneRow.{FetchEnded, FetchesAlike, IndexEnded, StopsAsConverted}
 use Rattle.demands.specs.Places.{showsAt}
 use Rattle.demands.specs.Tables.{lines, upTo}
 use Rattle.fields.specs.Fields.{declare}
-use Rattle.grammar.specs.Base64Text.{Base64Text}
-use Rattle.grammar.specs.DeclarationRefusals.{NotDeclared}
 use Rattle.grammar.specs.Declarations.{Declares}
-use Rattle.grammar.specs.Exact.{Answers, CutFile, InGrammar, NotDecoded, Refuses, tableOf}
-use Rattle.grammar.specs.Parts.{firstOf}
+use Rattle.grammar.specs.Exact.{Answers, CutFile, InGrammar, Refuses, tableOf}
 use Rattle.grammar.specs.Valid.{Spells}
 use Rattle.rows.specs.Stream.{read}
-use Rattle.sailmortar.specs.Face.{binaryOf, rowsOf}
+use Rattle.sailmortar.specs.Face.{rowsOf}
 use Rattle.table.specs.All.{AreBytes}
 use Rattle.table.specs.Cell.{Cell}
 use Rattle.table.specs.LineEnds.{lineEnds}
-use Rattle.table.specs.Outcome.{Call, accepted, at, ending, mostInput, mostNumber, refused}
+use Rattle.table.specs.Outcome.{Call, accepted, mostInput, mostNumber}
 use Rattle.table.specs.Result.{good}
-use Rattle.table.specs.declared.Answer.{Answer}
 use Rattle.table.specs.declared.Column.{Column}
 use Rattle.table.specs.declared.Rows.{Rows}
 use Rattle.table.specs.declared.Rows.the-variants.{Binary2, TableData}
@@ -132,122 +126,3 @@ abbrev pub ThereAndBack : (decls input binary text : List ℕ) (there back : Cal
 ThereAndBack decls input binary text there back =
     (cs : List Column) (rows : List (List Cell)) → Declares decls cs → length input ≤ 1073741824 → Spells TableData cs input rows
     → RoomEnough cs rows binary text → Carried cs Binary2 rows there × Carried cs TableData rows back
-
--- ---- base64
-
--- demand 1: "Whatever bytes come in, .. as base64, the software ends with rows or with one numbered refusal": with all the bytes that the text
--- spells, or with a number, and then nothing is touched
-pub data DecodedOrRefused (input out : List ℕ) : Call → Type 0 where
-  all-decoded : {b : List ℕ} → Base64Text input b → length b ≤ length out → DecodedOrRefused input out (ending (accepted 0 b) out)
-  not-decoded : {n : ℕ} → NotDecoded input (length out) n → DecodedOrRefused input out (ending (refused (at 0 n) 0 []) out)
-
--- demand 2 of a decoding step: "It accepts exactly what .. 01 calls valid"
-pub record DecodesExactly (input out : List ℕ) (c : Call) : Type 0 where
-  pub ended : DecodedOrRefused input out c
-  -- accepted with these bytes exactly when the text spells them, within its size, and they have room
-  pub exactly : (b : List ℕ) → ((length input ≤ 1073741824) × Base64Text input b × (length b ≤ length out)) ↔ (c ≡ ending (accepted 0 b) out)
-  -- refused with this number exactly when the grammar says so
-  pub refused-exactly : (n : ℕ) → NotDecoded input (length out) n ↔ ((c ≡ ending (refused (at 0 n) 0 []) out) × (0 < n))
-
--- and so of encoding: with all the letters of the bytes and nothing among them, or with a number, and then nothing is touched
-pub data EncodedOrRefused (input out : List ℕ) : Call → Type 0 where
-  -- "Written without line breaks.": four letters for every three bytes, or what is left of three
-  all-encoded : {b : List ℕ} → Base64Text b input → length b ≡ (length input + 2) / 3 * 4 → length b ≤ length out → EncodedOrRefused input out (ending (accepted 0 b) out)
-  -- 6: "an input over its size"
-  bytes-too-long : 1073741824 < length input → EncodedOrRefused input out (ending (refused (at 0 6) 0 []) out)
-  -- 17: "the base64 result is longer than the room left"
-  no-room-for-letters : length input ≤ 1073741824 → length out < (length input + 2) / 3 * 4 → EncodedOrRefused input out (ending (refused (at 0 17) 0 []) out)
-
--- both steps are accepted, the first writes a text that spells the input, and the second the input
-pub record ComesBack (input : List ℕ) (encoding decoding : Call) : Type 0 where
-  pub encoded : Accepted encoding
-  pub spelled : Base64Text (output encoding) input
-  pub decoded : Accepted decoding
-  pub same : output decoding ≡ input
-
--- bytes to base64 and back: four letters for every three bytes, or what is left of three, are within the size of an input and have room
-abbrev pub EncodedAndDecoded : (input text bytes : List ℕ) (encoding decoding : Call) → Type 0
-EncodedAndDecoded input text bytes encoding decoding =
-    (length input + 2) / 3 * 4 ≤ 1073741824 → (length input + 2) / 3 * 4 ≤ length text → length input ≤ length bytes → ComesBack input encoding decoding
-
--- ---- declarations
-
--- demand 1: "Whatever bytes come in, as column declarations, .. the software ends .. with one numbered refusal and the .. column where it
--- stopped", or with the number of columns
-pub data DeclaredOrRefused (decls : List ℕ) : List ℕ → Type 0 where
-  all-declared : {cs : List Column} → Declares decls cs → DeclaredOrRefused decls (0 ∷ 0 ∷ 0 ∷ length cs ∷ 0 ∷ [])
-  not-declared : {n place : ℕ} → NotDeclared decls n place → 0 < n → n ≤ mostNumber → DeclaredOrRefused decls (n ∷ 0 ∷ place ∷ 0 ∷ 0 ∷ [])
-
--- demand 2 of declarations alone: "It accepts exactly what .. 01 calls valid"
-pub record DeclaresExactly (decls numbers : List ℕ) : Type 0 where
-  pub ended : DeclaredOrRefused decls numbers
-  -- accepted exactly when columns are declared
-  pub exactly : (getD numbers 0 0 ≡ 0) ↔ ((cs : List Column) × Declares decls cs)
-  pub columns : (cs : List Column) → Declares decls cs → numbers ≡ 0 ∷ 0 ∷ 0 ∷ length cs ∷ 0 ∷ []
-  -- refused with this number at this place exactly when the grammar says so
-  pub refused-exactly : (n place : ℕ) → NotDeclared decls n place ↔ (numbers ≡ n ∷ 0 ∷ place ∷ 0 ∷ 0 ∷ [])
-
--- ---- in pieces
-
--- one answer from two: rows and bytes are added, and a refusal is at the second's row behind the first's rows
-unfoldable pub joinedAnswer : Answer → Answer → Answer
-joinedAnswer a b =
-    record {
-      number = b .number;
-      row = cond (eqb (b .number) 0) 0 (a .rows + b .row);
-      column = b .column;
-      rows = a .rows + b .rows;
-      bytes = a .bytes + b .bytes;
-    }
-
--- a call, and behind it another into the same buffer
-unfoldable pub joinedCall : Call → Call → List ℕ → Call
-joinedCall c d out =
-    record { answer = joinedAnswer (c .answer) (d .answer); buffer = (output c ++ output d) ++ drop (length (output c ++ output d)) out }
-
--- demand 3: "whatever stands around them": a piece of the input, and then what stands behind the place that it answers, are together one call on the
--- whole, in a buffer that has the room of both
-abbrev pub OneByTwo : (decls input : List ℕ) (first : Call) (rest : List ℕ) (second : Call) (out : List ℕ) (whole : Call) → Rows → Rows → Type 0
-OneByTwo decls input first rest second out whole from to =
-    (cs : List Column) → Declares decls cs → length input ≤ 1073741824 → length out ≡ first .answer .bytes + length rest → whole ≡ joinedCall first second out
-
--- ---- in parts
-
--- the nine numbers of a part that its call answered with these six
-abbrev pub partNumbers : ℕ → ℕ → ℕ → List ℕ → List ℕ
-partNumbers start size room answer =
-    start ∷ size ∷ room ∷ getD answer 0 0 ∷ getD answer 1 0 ∷ getD answer 2 0 ∷ getD answer 3 0 ∷ getD answer 4 0 ∷ getD answer 5 0 ∷ []
-
--- two parts, the input up to a cut and from there on, each by a call of its own, and their numbers joined; and one call on the whole
-pub record JoinedAsOne (decls input : List ℕ) (cut : ℕ) (first second : Call) (joined out1 out2 out3 : List ℕ) (whole : Call) (from to : Rows) : Type 0 where
-  -- where joining has ended it is that call: each of its numbers, and every byte of its buffer
-  pub one-call : getD joined 7 0 ≡ 1 → length input ≤ 1073741824
-      → whole ≡ callOf joined (firstOf (getD joined 6 0) (output first ∷ output second ∷ []) ++ drop (length (firstOf (getD joined 6 0) (output first ∷ output second ∷ []))) out3)
-  -- and it has ended where the cut stands behind whole rows, and the second part had the room that the first leaves
-  pub ends : InGrammar decls from to (take cut input) (length out1) → length input ≤ 1073741824 → length out3 ≡ first .answer .bytes + length out2
-      → getD joined 7 0 ≡ 1
-
--- ---- one row by an index
-
--- what holds of BINARY or BINARY2, as a number names them
-abbrev pub OfBinary : ℕ → (Rows → Type 0) → Type 0
-OfBinary from P = (source : Rows) → binaryOf from ≡ some source → P source
-
--- a number that names neither: 255 and zeros, and what was lent is untouched
-abbrev pub NotBinary : ℕ → List ℕ → List ℕ → List ℕ → Type 0
-NotBinary from lent numbers exit = binaryOf from ≡ none → (numbers ≡ 255 ∷ 0 ∷ 0 ∷ 0 ∷ 0 ∷ []) × (exit ≡ lent)
-
--- 02, #101: "keep, beside a BINARY or BINARY2 stream, an index in a lent buffer of 32-bit numbers: place k holds the start of row 64k"
-pub record Indexed (decls input entry : List ℕ) (c : Call) (from : Rows) : Type 0 where
-  -- which rows are counted, which places are filled, and why it ended there
-  pub ended : IndexEnded (declare decls) from input entry c
-  -- "A stream that is refused in reading gets the same refusal while indexing."
-  pub stops : StopsAsConverted decls from input entry c
-
--- "Fetching a row with the index that was built from that stream and those declarations"
-abbrev pub FetchedRow : List ℕ → List ℕ → ℕ → ℕ → List ℕ → Call → Rows → Type 0
-FetchedRow decls input rows row out d from = FetchEnded (declare decls) decls from input rows row out d
-
--- two fetches that look at the same
-abbrev pub SameFetched : List ℕ → List ℕ → List ℕ → List ℕ → List ℕ → ℕ → List ℕ → List ℕ → Call → Call → Rows → Type 0
-SameFetched decls input other index others row out room c d from = FetchesAlike decls from input other index others row out room c d

@@ -1,5 +1,5 @@
 -- The numbers of a declaration's answer, and the kinds of rows by number: by cases on the definitions.
-use Prim.Native.Nat.{suc, zero, ℕ}
+use Prim.Native.Nat.{ℕ}
 use mathlib.Core.Option.{none, some}
 use mathlib.Core.List.{List, [], _∷_}
 use mathlib.Core.Path.{_≡_, refl}
@@ -19,20 +19,6 @@ pub declared-numbers : (r : Result Refusal (List Column)) → numbersOf (answere
 unfolding answered declaredNumbers
 declared-numbers (good cs) = refl
 declared-numbers (bad e) = refl
-
-pub no-rows : (n : ℕ) → (n ≡ 0 → ⊥) → (n ≡ 1 → ⊥) → (n ≡ 2 → ⊥) → rowsOf n ≡ none
-unfolding rowsOf
-no-rows zero a b c = absurd (a refl)
-no-rows (suc zero) a b c = absurd (b refl)
-no-rows (suc (suc zero)) a b c = absurd (c refl)
-no-rows (suc (suc (suc n))) a b c = refl
-
-pub no-binary : (n : ℕ) → (n ≡ 1 → ⊥) → (n ≡ 2 → ⊥) → binaryOf n ≡ none
-unfolding binaryOf
-no-binary zero a b = refl
-no-binary (suc zero) a b = absurd (a refl)
-no-binary (suc (suc zero)) a b = absurd (b refl)
-no-binary (suc (suc (suc n))) a b = refl
 
 -- ---- a call, by what its one number names, or its two
 

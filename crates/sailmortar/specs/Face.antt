@@ -1,35 +1,21 @@
 -- The public face: what each function for C answers, in numbers, and what it leaves in the buffer that it was lent.
-use Prim.Native.Nat.{suc, zero, ℕ}
-use mathlib.Core.List.{List, [], _++_, _∷_}
+use Prim.Native.Nat.{ℕ}
+use mathlib.Core.List.{List, [], _∷_}
 use mathlib.Core.Option.{Option, none, some}
-use lib.ListN.{getD, length, replicate}
+use lib.ListN.{length, replicate}
 use Rattle.base64.specs.Base64.{decodeCall, encodeCall}
 use Rattle.compare.specs.Compare.{Compared, compare}
-use Rattle.compare.specs.declared.Comparison.{Comparison}
 use Rattle.fields.specs.Fields.{declare}
 use Rattle.index.specs.Fetch.{fetch}
 use Rattle.index.specs.Index.{index}
 use Rattle.parts.specs.Join.{join, partsOf}
-use Rattle.parts.specs.declared.Joined.{Joined}
 use Rattle.rows.specs.Convert.{convert}
 use Rattle.rows.specs.Pieces.{PieceCall, convertPiece}
 use Rattle.table.specs.Outcome.{Call, Refusal}
 use Rattle.table.specs.Result.{Result, bad, good}
-use Rattle.table.specs.declared.Answer.{Answer}
 use Rattle.table.specs.declared.Column.{Column}
 use Rattle.table.specs.declared.Rows.{Rows}
-use Rattle.table.specs.declared.Rows.the-variants.{Binary, Binary2, TableData}
-
--- row kinds by number: 0 TABLEDATA, 1 BINARY, 2 BINARY2
-unfoldable pub rowsOf : ℕ → Option Rows
-rowsOf zero = some TableData
-rowsOf (suc zero) = some Binary
-rowsOf (suc (suc zero)) = some Binary2
-rowsOf (suc (suc (suc n))) = none
-
--- "The answer has the number, the row and column from 0, the rows done and the bytes written."
-unfoldable pub five : Answer → List ℕ
-five a = a .number ∷ a .row ∷ a .column ∷ a .rows ∷ a .bytes ∷ []
+unfoldable pub use Rattle.numbering.specs.Numbering.{binaryOf, eight, five, joinedNumbers, joinedOf, rowsOf, six}
 
 -- the numbers, and every byte of the buffer
 pub record Faced : Type 0 where
@@ -56,9 +42,6 @@ convertFace decls from to input out =
 
 -- ---- conversion of a piece: the five numbers, and sixth the place where the rows done end
 
-unfoldable pub six : Answer → ℕ → List ℕ
-six a place = five a ++ (place ∷ [])
-
 unfoldable pub pieceFaced : PieceCall → Faced
 pieceFaced p = record { numbers = six (p .call .answer) (p .place); buffer = p .call .buffer }
 
@@ -67,12 +50,6 @@ pieceFace decls from to input out =
     betweenKinds (rowsOf from) (rowsOf to) (noSuchKind 5 out) (λ source target. pieceFaced (convertPiece decls source target input out))
 
 -- ---- an index and one row by it, of BINARY and BINARY2: "beside a BINARY or BINARY2 stream"
-
-unfoldable pub binaryOf : ℕ → Option Rows
-binaryOf zero = none
-binaryOf (suc zero) = some Binary
-binaryOf (suc (suc zero)) = some Binary2
-binaryOf (suc (suc (suc n))) = none
 
 unfoldable pub ofKind : Option Rows → Faced → (Rows → Faced) → Faced
 ofKind (some from) otherwise call = call from
@@ -87,9 +64,6 @@ fetchFace decls from input entries rows row out =
 
 -- ---- two inputs compared: number, row, column, input, cells that differ, rows that the first has beyond, rows that the second has beyond, places filled
 
-unfoldable pub eight : Comparison → List ℕ
-eight c = c .number ∷ c .row ∷ c .column ∷ c .input ∷ c .differing ∷ c .first ∷ c .second ∷ c .places ∷ []
-
 unfoldable pub comparedFaced : Compared → Faced
 comparedFaced c = record { numbers = eight (c .answer); buffer = c .buffer }
 
@@ -99,21 +73,6 @@ compareFace decls from-first first from-second second places =
 
 -- ---- parts joined: number, row, column, rows, bytes, place, parts used, and whether it has ended; at entry how far it has come, at exit how far with
 -- these parts, nine numbers each
-
-unfoldable pub joinedOf : List ℕ → Joined
-joinedOf s = record {
-  number = getD s 0 0;
-  row = getD s 1 0;
-  column = getD s 2 0;
-  rows = getD s 3 0;
-  bytes = getD s 4 0;
-  place = getD s 5 0;
-  parts = getD s 6 0;
-  ended = getD s 7 0;
-}
-
-unfoldable pub joinedNumbers : Joined → List ℕ
-joinedNumbers j = j .number ∷ j .row ∷ j .column ∷ j .rows ∷ j .bytes ∷ j .place ∷ j .parts ∷ j .ended ∷ []
 
 unfoldable pub joinFace : ℕ → ℕ → List ℕ → List ℕ → List ℕ
 joinFace length room parts joined = joinedNumbers (join length room (joinedOf joined) (partsOf parts))

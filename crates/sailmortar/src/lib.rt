@@ -1,13 +1,8 @@
 // The public face: the functions for C, Rust and Python, numbers and slices only. `answer` gets the number, the row, the column, the rows done
 // and the bytes written.
-use compare::Comparison;
-use convert::Piece;
-use parts::Joined;
-use table::Answer;
-use table::Rows;
+use numbering::Named;
 ghost use mathlib.Core.Path.{_≡_};
-ghost use Rattle.sailmortar.specs.Face.{binaryOf, compareFace, convertFace, declareFace, decodeFace, eight, encodeFace, fetchFace, five, indexFace, joinFace, joinedNumbers, joinedOf, pieceFace, rowsOf, six};
-ghost use Rattle.sailmortar.specs.Named.{namedAs};
+ghost use Rattle.sailmortar.specs.Face.{compareFace, convertFace, declareFace, decodeFace, encodeFace, fetchFace, indexFace, joinFace, pieceFace};
 
 // 01 has no number for it.
 const NO_SUCH_KIND: [u64; 5] = [255, 0, 0, 0, 0];
@@ -15,37 +10,6 @@ const NO_SUCH_KIND: [u64; 5] = [255, 0, 0, 0, 0];
 const NO_SUCH_KIND_OF_PIECE: [u64; 6] = [255, 0, 0, 0, 0, 0];
 
 const NO_SUCH_KIND_TO_COMPARE: [u64; 8] = [255, 0, 0, 0, 0, 0, 0, 0];
-
-fn put_answer(a: Answer, answer: &mut [u64; 5])
-    ensures { λ _. ⌜ now (answer .exit) ≡ five a ⌝ }
-{
-    *answer = [a.number, a.row, a.column, a.rows, a.bytes];
-}
-
-fn put_piece(piece: Piece, answer: &mut [u64; 6])
-    ensures { λ _. ⌜ now (answer .exit) ≡ six (piece .answer) (piece .place) ⌝ }
-{
-    let a = piece.answer;
-    let place = piece.place as u64;
-    *answer = [a.number, a.row, a.column, a.rows, a.bytes, place];
-}
-
-// A kind of rows by its number, or none.
-pub enum Named {
-    Known(Rows),
-    Unknown,
-}
-
-fn rows_of(number: u32) -> Named
-    ensures { λ r. ⌜ namedAs r ≡ rowsOf number ⌝ }
-{
-    match number {
-        0 => Named::Known(Rows::TableData),
-        1 => Named::Known(Rows::Binary),
-        2 => Named::Known(Rows::Binary2),
-        _ => Named::Unknown,
-    }
-}
 
 // Rows of one kind to rows of another. A number that names no kind is answered 255, before anything else is judged.
 #[no_mangle]
@@ -60,15 +24,15 @@ pub extern "C" fn sailmortar_convert(
     ensures numbers { λ _. ⌜ now (answer .exit) ≡ convertFace (now (decls .entry)) from to (now (input .entry)) (now (out .entry)) .numbers ⌝ }
     ensures buffer { λ _. ⌜ now (out .exit) ≡ convertFace (now (decls .entry)) from to (now (input .entry)) (now (out .entry)) .buffer ⌝ }
 {
-    let Named::Known(source) = rows_of(from) else {
+    let Named::Known(source) = numbering::rows_of(from) else {
         *answer = NO_SUCH_KIND;
         return;
     };
-    let Named::Known(target) = rows_of(to) else {
+    let Named::Known(target) = numbering::rows_of(to) else {
         *answer = NO_SUCH_KIND;
         return;
     };
-    put_answer(convert::convert(decls, source, target, input, out), answer);
+    numbering::put_answer(convert::convert(decls, source, target, input, out), answer);
 }
 
 // The same for a piece of a table: sixth, `answer` gets the place in the input where the rows done end, so that the caller can go on from there.
@@ -84,27 +48,16 @@ pub extern "C" fn sailmortar_convert_piece(
     ensures numbers { λ _. ⌜ now (answer .exit) ≡ pieceFace (now (decls .entry)) from to (now (input .entry)) (now (out .entry)) .numbers ⌝ }
     ensures buffer { λ _. ⌜ now (out .exit) ≡ pieceFace (now (decls .entry)) from to (now (input .entry)) (now (out .entry)) .buffer ⌝ }
 {
-    let Named::Known(source) = rows_of(from) else {
+    let Named::Known(source) = numbering::rows_of(from) else {
         *answer = NO_SUCH_KIND_OF_PIECE;
         return;
     };
-    let Named::Known(target) = rows_of(to) else {
+    let Named::Known(target) = numbering::rows_of(to) else {
         *answer = NO_SUCH_KIND_OF_PIECE;
         return;
     };
     let piece = convert::convert_piece(decls, source, target, input, out);
-    put_piece(piece, answer);
-}
-
-// BINARY or BINARY2 by its number, or none.
-fn binary_of(number: u32) -> Named
-    ensures { λ r. ⌜ namedAs r ≡ binaryOf number ⌝ }
-{
-    match number {
-        1 => Named::Known(Rows::Binary),
-        2 => Named::Known(Rows::Binary2),
-        _ => Named::Unknown,
-    }
+    numbering::put_piece(piece, answer);
 }
 
 // An index of a stream: `index` gets the start of row 64k at place k, and `answer` the number, the row, the column, the rows and 0.
@@ -119,11 +72,11 @@ pub extern "C" fn sailmortar_index(
     ensures numbers { λ _. ⌜ now (answer .exit) ≡ indexFace (now (decls .entry)) from (now (input .entry)) (now (index .entry)) .numbers ⌝ }
     ensures buffer { λ _. ⌜ now (index .exit) ≡ indexFace (now (decls .entry)) from (now (input .entry)) (now (index .entry)) .buffer ⌝ }
 {
-    let Named::Known(source) = binary_of(from) else {
+    let Named::Known(source) = numbering::binary_of(from) else {
         *answer = NO_SUCH_KIND;
         return;
     };
-    put_answer(indexing::index(decls, source, input, index), answer);
+    numbering::put_answer(indexing::index(decls, source, input, index), answer);
 }
 
 // One row by an index and the count of rows that came with it, as its TABLEDATA line.
@@ -141,29 +94,14 @@ pub extern "C" fn sailmortar_fetch(
     ensures numbers { λ _. ⌜ now (answer .exit) ≡ fetchFace (now (decls .entry)) from (now (input .entry)) (now (index .entry)) rows row (now (out .entry)) .numbers ⌝ }
     ensures buffer { λ _. ⌜ now (out .exit) ≡ fetchFace (now (decls .entry)) from (now (input .entry)) (now (index .entry)) rows row (now (out .entry)) .buffer ⌝ }
 {
-    let Named::Known(source) = binary_of(from) else {
+    let Named::Known(source) = numbering::binary_of(from) else {
         *answer = NO_SUCH_KIND;
         return;
     };
-    put_answer(
+    numbering::put_answer(
         fetching::fetch(decls, source, input, index, rows, row, out),
         answer,
     );
-}
-
-fn put_comparison(c: Comparison, answer: &mut [u64; 8])
-    ensures { λ _. ⌜ now (answer .exit) ≡ eight c ⌝ }
-{
-    *answer = [
-        c.number,
-        c.row,
-        c.column,
-        c.input,
-        c.differing,
-        c.first,
-        c.second,
-        c.places,
-    ];
 }
 
 // Two inputs, each of its own kind: `places` gets the rows and columns of the first cells that differ, and `answer` the number, the row, the column and
@@ -181,46 +119,16 @@ pub extern "C" fn sailmortar_compare(
     ensures numbers { λ _. ⌜ now (answer .exit) ≡ compareFace (now (decls .entry)) from (now (first .entry)) kind (now (second .entry)) (now (places .entry)) .numbers ⌝ }
     ensures buffer { λ _. ⌜ now (places .exit) ≡ compareFace (now (decls .entry)) from (now (first .entry)) kind (now (second .entry)) (now (places .entry)) .buffer ⌝ }
 {
-    let Named::Known(source) = rows_of(from) else {
+    let Named::Known(source) = numbering::rows_of(from) else {
         *answer = NO_SUCH_KIND_TO_COMPARE;
         return;
     };
-    let Named::Known(other) = rows_of(kind) else {
+    let Named::Known(other) = numbering::rows_of(kind) else {
         *answer = NO_SUCH_KIND_TO_COMPARE;
         return;
     };
     let c = comparing::compare(decls, source, first, other, second, places);
-    put_comparison(c, answer);
-}
-
-fn joined_of(joined: &[u64; 8]) -> Joined
-    ensures { λ r. ⌜ r ≡ joinedOf (now (joined .entry)) ⌝ }
-{
-    Joined {
-        number: joined[0],
-        row: joined[1],
-        column: joined[2],
-        rows: joined[3],
-        bytes: joined[4],
-        place: joined[5],
-        parts: joined[6],
-        ended: joined[7],
-    }
-}
-
-fn put_joined(j: Joined, joined: &mut [u64; 8])
-    ensures { λ _. ⌜ now (joined .exit) ≡ joinedNumbers j ⌝ }
-{
-    *joined = [
-        j.number,
-        j.row,
-        j.column,
-        j.rows,
-        j.bytes,
-        j.place,
-        j.parts,
-        j.ended,
-    ];
+    numbering::put_comparison(c, answer);
 }
 
 // Parts of an input of this length, each converted by itself, joined in the room of the whole: `joined` has at entry how far it has come, all 0 at
@@ -229,8 +137,8 @@ fn put_joined(j: Joined, joined: &mut [u64; 8])
 pub extern "C" fn sailmortar_join(length: u64, room: u64, parts: &[u64], joined: &mut [u64; 8])
     ensures { λ _. ⌜ now (joined .exit) ≡ joinFace length room (now (parts .entry)) (now (joined .entry)) ⌝ }
 {
-    let so_far = joined_of(joined);
-    put_joined(joining::join(length, room, parts, so_far), joined);
+    let so_far = numbering::joined_of(joined);
+    numbering::put_joined(joining::join(length, room, parts, so_far), joined);
 }
 
 // Base64 to bytes.
@@ -239,7 +147,7 @@ pub extern "C" fn sailmortar_base64_decode(input: &[u8], out: &mut [u8], answer:
     ensures numbers { λ _. ⌜ now (answer .exit) ≡ decodeFace (now (input .entry)) (now (out .entry)) .numbers ⌝ }
     ensures buffer { λ _. ⌜ now (out .exit) ≡ decodeFace (now (input .entry)) (now (out .entry)) .buffer ⌝ }
 {
-    put_answer(base64_coding::decode(input, out), answer);
+    numbering::put_answer(base64_coding::decode(input, out), answer);
 }
 
 // Bytes to base64, without line breaks.
@@ -248,7 +156,7 @@ pub extern "C" fn sailmortar_base64_encode(input: &[u8], out: &mut [u8], answer:
     ensures numbers { λ _. ⌜ now (answer .exit) ≡ encodeFace (now (input .entry)) (now (out .entry)) .numbers ⌝ }
     ensures buffer { λ _. ⌜ now (out .exit) ≡ encodeFace (now (input .entry)) (now (out .entry)) .buffer ⌝ }
 {
-    put_answer(base64_coding::encode(input, out), answer);
+    numbering::put_answer(base64_coding::encode(input, out), answer);
 }
 
 // Declarations alone: `answer` gets the number, 0, the place, how many columns are declared, and 0.

@@ -17,13 +17,13 @@ use Rattle.table.specs.Result.{Result, bad, every, good}
 use Rattle.table.specs.Shape.{Bits}
 use Rattle.tabledata.specs.TableData.{bitLetter, bitWords, textElements}
 use Rattle.element_reading.proofs.Words.{every-append}
-use Rattle.element_reading.proofs.characters.Passing.{passed-code, passed-then}
+use Rattle.element_reading.proofs.Passing.{passed-code, passed-then}
 use Rattle.element_reading.proofs.elements.Laws.{ReadTo, read-more, read-spoilt}
-use Rattle.element_reading.specs.Characters.{ItemIs, charactersOf, spoiledNumber}
+use Rattle.character_reading.specs.Characters.{ItemIs, charactersOf, spoiledNumber}
 use Rattle.element_reading.specs.Elements.{BitIs, TakesElements, bitAs, elementsFrom}
-use Rattle.element_reading.specs.declared.characters.Item.the-variants.{Code}
+use Rattle.character_reading.specs.declared.characters.Item.the-variants.{Code}
 use Rattle.element_reading.specs.declared.elements.Taken.{Taken}
-use Rattle.element_reading.specs.declared.characters.Source.{Source}
+use Rattle.character_reading.specs.declared.characters.Source.{Source}
 
 pub bit-none : (c : ℕ) → (c ≡ 48 → ⊥) → (c ≡ 49 → ⊥) → bitAs 2 ≡ bitLetter c
 unfolding bitAs bitLetter

@@ -9,10 +9,10 @@ use lib.ListN.{set}
 use Rattle.table.specs.Result.{bad, good}
 use Rattle.table.specs.Shape.{Text}
 use Rattle.tabledata.specs.TableData.{allText, isText, textElements}
-use Rattle.element_reading.proofs.characters.Passing.{passed-then}
+use Rattle.element_reading.proofs.Passing.{passed-then}
 use Rattle.element_reading.proofs.elements.Laws.{ReadTo, stored-more}
 use Rattle.element_reading.specs.Elements.{Copied, Stored}
-use Rattle.element_reading.specs.declared.characters.Source.{Source}
+use Rattle.character_reading.specs.declared.characters.Source.{Source}
 
 -- ---- all characters are text
 

@@ -15,13 +15,13 @@ use borrow.Author.Tests.{ltb-false, ltb-true}
 use Rattle.table.specs.Result.{bad, good}
 use Rattle.table.specs.Shape.{Shape}
 use Rattle.tabledata.specs.TableData.{textElements}
-use Rattle.element_reading.proofs.characters.Passing.{onward-bad, onward-broken, onward-end, passed-code, passed-none, passed-then}
-use Rattle.element_reading.specs.Characters.{ItemIs, charactersOf, spoiledNumber}
+use Rattle.element_reading.proofs.Passing.{onward-bad, onward-broken, onward-end, passed-code, passed-none, passed-then}
+use Rattle.character_reading.specs.Characters.{ItemIs, charactersOf, spoiledNumber}
 use Rattle.element_reading.specs.Elements.{Passed, Stored, TakesElements, elementsFrom, onward}
-use Rattle.element_reading.specs.declared.characters.Item.the-variants.{Code, End}
+use Rattle.character_reading.specs.declared.characters.Item.the-variants.{Code, End}
 use Rattle.element_reading.specs.declared.elements.Taken.the-variants.{Held}
 use Rattle.element_reading.specs.declared.elements.Taken.{Taken}
-use Rattle.element_reading.specs.declared.characters.Source.{Source}
+use Rattle.character_reading.specs.declared.characters.Source.{Source}
 
 -- ---- elements in the scratch
 

@@ -5,7 +5,7 @@ use mathlib.Core.Path.{_∙_, _≡_, ap, refl, sym}
 use lib.IntN.{ℤ}
 use Rattle.tabledata.specs.TableData.{textElements}
 use Rattle.element_reading.specs.Elements.{CountsElements, TakesElements, elementsFrom, onward}
-use Rattle.element_reading.specs.declared.characters.Source.the-variants.{Plain}
+use Rattle.character_reading.specs.declared.characters.Source.the-variants.{Plain}
 use Rattle.element_reading.specs.declared.elements.Counted.the-variants.{All}
 use Rattle.element_reading.specs.declared.elements.Counted.{Counted}
 use Rattle.element_reading.specs.declared.elements.Taken.the-variants.{Held}

@@ -24,13 +24,13 @@ use Rattle.tabledata.proofs.Characters.{plain-yes}
 use Rattle.tabledata.specs.Contracts.{isPlain}
 use Rattle.tabledata.specs.TableData.{faultNumber, integerWord, textElements}
 use Rattle.element_reading.proofs.Words.{added-word}
-use Rattle.element_reading.proofs.characters.Laws.{itself}
-use Rattle.element_reading.proofs.characters.Passing.{WordTo, passed-none, passed-plain, passed-then, word-cuts, word-ends}
+use Rattle.character_reading.proofs.characters.Laws.{itself}
+use Rattle.element_reading.proofs.Passing.{WordTo, passed-none, passed-plain, passed-then, word-cuts, word-ends}
 use Rattle.element_reading.proofs.elements.Laws.{put-more}
-use Rattle.element_reading.specs.Characters.{TextEnds, ItemIs, charactersOf}
+use Rattle.character_reading.specs.Characters.{TextEnds, ItemIs, charactersOf}
 use Rattle.element_reading.specs.Elements.{Passed}
 use Rattle.element_reading.specs.Words.{Adds, CutAt, LastAt, WordOf, begunForm, is-added, letterOf, spaceAt}
-use Rattle.element_reading.specs.declared.characters.Item.the-variants.{Code}
+use Rattle.character_reading.specs.declared.characters.Item.the-variants.{Code}
 use Rattle.text.specs.declared.Tag.the-variants.{At}
 use Rattle.words.proofs.WordLaws.{fed-reads, feed-more}
 use Rattle.words.specs.Contracts.{IsPlain, QuickAt}
@@ -38,7 +38,7 @@ use Rattle.words.specs.Words.{addDecimal, addHexadecimal, brokenWord, capped, d
 use Rattle.words.specs.declared.Form.the-variants.{Decimal, Hexadecimal, Minus, Plus, Start, Zero}
 use Rattle.words.specs.declared.Form.{Form}
 use Rattle.words.specs.declared.Word.{Word}
-use Rattle.element_reading.specs.declared.characters.Source.{Source}
+use Rattle.character_reading.specs.declared.characters.Source.{Source}
 
 -- ---- a word that has begun
 

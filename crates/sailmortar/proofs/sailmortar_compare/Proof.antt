@@ -1,7 +1,7 @@
 -- Each number names a kind or none; where both do, the comparison goes out as eight numbers and its buffer is the one lent.
 use Rattle.sailmortar.proofs.Numbers.{known, no-source, no-target}
 use Rattle.sailmortar.specs.Face.{Faced, compareFace, comparedFaced, eight, noSuchKind}
-use Rattle.sailmortar.specs.Named.{namedAs}
+use Rattle.numbering.specs.Named.{namedAs}
 use borrow.Author.Needs.{needs}
 use mathlib.Core.Path.{_∙_, ap, sym}
 use Rattle.sailmortar.proofs.sailmortar_compare.Statement.{statement}

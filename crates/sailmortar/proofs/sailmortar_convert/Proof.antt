@@ -1,7 +1,7 @@
 -- Each number names a kind or none; where both do, the converter's answer goes out as five numbers and its buffer is the one lent.
 use Rattle.sailmortar.proofs.Numbers.{known, no-source, no-target}
 use Rattle.sailmortar.specs.Face.{Faced, convertFace, faced, five, noSuchKind}
-use Rattle.sailmortar.specs.Named.{namedAs}
+use Rattle.numbering.specs.Named.{namedAs}
 use borrow.Author.Needs.{needs}
 use mathlib.Core.Path.{_∙_, ap, sym}
 use Rattle.sailmortar.proofs.sailmortar_convert.Statement.{statement}

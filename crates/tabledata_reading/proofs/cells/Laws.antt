@@ -23,7 +23,7 @@ use Rattle.tabledata.specs.TableData.{characters, countFits, plain, readText, t
 use Rattle.tabledata_reading.specs.Cells.{CellShows, FoundCount, FoundNext, roomAnd, shownIn}
 use Rattle.tabledata_reading.specs.Openings.{OpeningIs}
 use Rattle.element_reading.specs.Elements.{Stored, TakesElements, elementsFrom, onward}
-use Rattle.element_reading.specs.declared.characters.Source.the-variants.{Markup}
+use Rattle.character_reading.specs.declared.characters.Source.the-variants.{Markup}
 use Rattle.tabledata_reading.specs.declared.openings.Opening.the-variants.{Content, Empty}
 use Rattle.tabledata_reading.specs.declared.openings.Opening.{Opening}
 use Rattle.element_reading.specs.declared.elements.Taken.the-variants.{Held}

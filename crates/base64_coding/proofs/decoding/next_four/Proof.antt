@@ -6,7 +6,8 @@ use borrow.Author.Tests.{ne-eqb}
 use denote.Ref.{now}
 use lib.ListN.{drop}
 use Rattle.base64.specs.Base64.{dense, fours, isPad}
-use Rattle.base64_coding.specs.Contracts.{FourIs, TableIs}
+use Rattle.base64_coding.specs.Contracts.{FourIs}
+use Rattle.base64_letters.specs.Letters.{TableIs}
 use Rattle.base64_coding.proofs.High.{four-low}
 use Rattle.base64_coding.proofs.Fours.{Run, at-byte, at-end, four-inside, four-none, four-one, four-short, four-three, four-two, run-more, run-start}
 use borrow.Author.Needs.{needs}

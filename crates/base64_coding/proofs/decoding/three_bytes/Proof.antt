@@ -1,6 +1,6 @@
 -- `base64_coding::decoding::three_bytes` meets its contract: each test decides what a letter's value is.
 use Rattle.base64.specs.Base64.{threeBytes}
-use Rattle.base64_coding.proofs.Alphabet.{is-letter, no-letter}
+use Rattle.base64_letters.proofs.Alphabet.{is-letter, no-letter}
 use borrow.Author.Needs.{needs}
 use Rattle.base64_coding.proofs.decoding.three_bytes.Statement.{statement}
 use Rattle.base64_coding.proofs.decoding.three_bytes.Tie as tie

@@ -11,8 +11,8 @@ use mir.Syntax.{w64}
 use Rattle.table.specs.Shape.{Bits}
 use Rattle.element_reading.proofs.bits.Laws.{BitsTo, bits-passed, bits-read, bits-spoilt, bits-start, bits-to-end}
 use Rattle.element_reading.proofs.elements.Laws.{ReadTo, read-broken, read-end, read-none}
-use Rattle.element_reading.specs.Characters.{ItemIs, charactersOf}
-use Rattle.element_reading.specs.declared.characters.Item.the-variants.{Code}
+use Rattle.character_reading.specs.Characters.{ItemIs, charactersOf}
+use Rattle.character_reading.specs.declared.characters.Item.the-variants.{Code}
 use Rattle.element_reading.proofs.bits.bits.Statement.{statement}
 use Rattle.element_reading.proofs.bits.bits.Tie as tie
 

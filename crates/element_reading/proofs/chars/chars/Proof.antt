@@ -11,8 +11,8 @@ use mir.Syntax.{w64}
 use Rattle.table.specs.Shape.{Text}
 use Rattle.element_reading.proofs.chars.Laws.{CharsAre, char-more, chars-are, chars-copied, chars-none, chars-spoilt}
 use Rattle.element_reading.proofs.elements.Laws.{ReadTo, read-broken, read-end, read-more, read-none, read-spoilt}
-use Rattle.element_reading.specs.Characters.{ItemIs, charactersOf}
-use Rattle.element_reading.specs.declared.characters.Item.the-variants.{Code}
+use Rattle.character_reading.specs.Characters.{ItemIs, charactersOf}
+use Rattle.character_reading.specs.declared.characters.Item.the-variants.{Code}
 use Rattle.element_reading.proofs.chars.chars.Statement.{statement}
 use Rattle.element_reading.proofs.chars.chars.Tie as tie
 

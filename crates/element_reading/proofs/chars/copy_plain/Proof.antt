@@ -13,8 +13,8 @@ use mir.Facts.{toZ-ofZ}
 use mir.Syntax.{w64}
 use Rattle.tabledata.proofs.Characters.{plain-is}
 use Rattle.tabledata.specs.Contracts.{isPlain}
-use Rattle.element_reading.proofs.characters.Laws.{take-more}
-use Rattle.element_reading.proofs.characters.Passing.{passed-none, passed-plain, passed-then}
+use Rattle.character_reading.proofs.characters.Laws.{take-more}
+use Rattle.element_reading.proofs.Passing.{passed-none, passed-plain, passed-then}
 use Rattle.element_reading.proofs.chars.Laws.{stored-char, text-more, text-none}
 use Rattle.element_reading.specs.Elements.{Copied}
 use Rattle.element_reading.proofs.chars.copy_plain.Statement.{statement}

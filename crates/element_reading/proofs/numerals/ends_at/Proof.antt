@@ -1,7 +1,7 @@
 -- `element_reading::numerals::ends_at` meets its contract: a bare end tag ends a cell, the last byte a part.
 use borrow.Author.Needs.{needs}
 use denote.Ref.{now}
-use Rattle.element_reading.proofs.characters.Laws.{ends-bare, plain-end}
+use Rattle.character_reading.proofs.characters.Laws.{ends-bare, plain-end}
 use Rattle.element_reading.proofs.numerals.ends_at.Statement.{statement}
 use Rattle.element_reading.proofs.numerals.ends_at.Tie as tie
 

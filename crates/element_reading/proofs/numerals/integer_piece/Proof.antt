@@ -6,10 +6,10 @@ use mathlib.Core.Path.{_∙_, _≡_, subst, sym}
 use lib.ListN.{drop, length}
 use borrow.Author.Needs.{needs}
 use denote.Ref.{now}
-use Rattle.element_reading.proofs.characters.Passing.{WordTo, word-broken, word-cuts, word-ends, word-more, word-none}
+use Rattle.element_reading.proofs.Passing.{WordTo, word-broken, word-cuts, word-ends, word-more, word-none}
 use Rattle.element_reading.proofs.numerals.Laws.{fed-letter, feed-start}
-use Rattle.element_reading.specs.Characters.{ItemIs, charactersOf}
-use Rattle.element_reading.specs.declared.characters.Item.the-variants.{Code}
+use Rattle.character_reading.specs.Characters.{ItemIs, charactersOf}
+use Rattle.character_reading.specs.declared.characters.Item.the-variants.{Code}
 use Rattle.words.specs.Words.{feed, fresh}
 use Rattle.element_reading.proofs.numerals.integer_piece.Statement.{statement}
 use Rattle.element_reading.proofs.numerals.integer_piece.Tie as tie

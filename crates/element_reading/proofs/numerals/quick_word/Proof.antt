@@ -7,7 +7,7 @@ use denote.Ref.{now}
 use mir.Syntax.{w64}
 use mir.Val.{ofZ, toZ}
 use Rattle.element_reading.proofs.numerals.Laws.{quick-cut, quick-last}
-use Rattle.element_reading.specs.Characters.{TextEnds}
+use Rattle.character_reading.specs.Characters.{TextEnds}
 use Rattle.element_reading.specs.Words.{QuickWordIs}
 use Rattle.element_reading.specs.declared.numerals.QuickWord.{QuickWord}
 use Rattle.words.proofs.QuickLaws.{quick-at}

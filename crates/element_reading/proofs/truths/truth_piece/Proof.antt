@@ -6,11 +6,11 @@ use mathlib.Core.Path.{_∙_, _≡_, refl, subst, sym}
 use lib.ListN.{drop, length}
 use borrow.Author.Needs.{needs}
 use denote.Ref.{now}
-use Rattle.element_reading.proofs.characters.Passing.{WordTo, word-broken, word-cuts, word-ends, word-more, word-none}
+use Rattle.element_reading.proofs.Passing.{WordTo, word-broken, word-cuts, word-ends, word-more, word-none}
 use Rattle.element_reading.proofs.truths.Laws.{spelling-more}
-use Rattle.element_reading.specs.Characters.{ItemIs, charactersOf}
+use Rattle.character_reading.specs.Characters.{ItemIs, charactersOf}
 use Rattle.element_reading.specs.Words.{spelled, spelling}
-use Rattle.element_reading.specs.declared.characters.Item.the-variants.{Code}
+use Rattle.character_reading.specs.declared.characters.Item.the-variants.{Code}
 use Rattle.element_reading.proofs.truths.truth_piece.Statement.{statement}
 use Rattle.element_reading.proofs.truths.truth_piece.Tie as tie
 

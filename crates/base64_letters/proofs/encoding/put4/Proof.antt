@@ -1,0 +1,33 @@
+-- `base64_letters::encoding::put4` meets its contract.
+use native.Mathlib.Omega.{arith}
+use native.Mathlib.Numerals.{towards-suc}
+use lib.ListN.{length-set}
+use borrow.Author.Needs.{needs}
+use Rattle.base64_letters.proofs.encoding.put4.Statement.{statement}
+use Rattle.base64_letters.proofs.encoding.put4.Tie as tie
+
+slice-write-out-2 : tie.Need-slice-write-out-2
+slice-write-out-2 c = simp length-set (omega arith)
+
+slice-write-out-3 : tie.Need-slice-write-out-3
+slice-write-out-3 c = simp length-set (omega arith)
+
+slice-write-out-4 : tie.Need-slice-write-out-4
+slice-write-out-4 c = simp length-set (omega arith)
+
+returns : tie.Need-returns
+returns c = simp towards-suc
+
+pub put4-spec : {M : Type 1} → statement M
+put4-spec =
+    tie.close
+    (tie.spec
+    (λ c. search needs)
+    (λ c. search needs)
+    slice-write-out-2
+    (λ c. search needs)
+    slice-write-out-3
+    (λ c. search needs)
+    slice-write-out-4
+    (λ c. search needs)
+    returns)
