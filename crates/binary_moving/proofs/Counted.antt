@@ -86,7 +86,8 @@ shown-empty Binary2 c es = refl
 
 module _ (c : Column) (n : ℕ) (s : List ℕ) (place : ℕ) (room : place + contentBytes (shape (c .kind)) n ≤ length s) where
   -- elements that are not skipped
-  reads-elements : (from : Rows) (flagged : Bool) (es : List ℤ) → NotText from → skipped from flagged n ≡ false → content (shape (c .kind)) n (take (contentBytes (shape (c .kind)) n) (drop place s)) ≡ good es
+  reads-elements : (from : Rows) (flagged : Bool) (es : List ℤ) → NotText from → skipped from flagged n ≡ false
+      → content (shape (c .kind)) n (take (contentBytes (shape (c .kind)) n) (drop place s)) ≡ good es
       → countedCell from c flagged n (drop place s) ≡ good (shownAs from c es, drop (place + contentBytes (shape (c .kind)) n) s)
   unfolding countedCell flagAs skipped emptyAs shownAs
   reads-elements TableData flagged es h k e = absurd h
@@ -94,7 +95,8 @@ module _ (c : Column) (n : ℕ) (s : List ℕ) (place : ℕ) (room : place + con
   reads-elements Binary2 flagged es h k e = rw (k, counted-reads c n s place room es e)
 
   -- a cell that is skipped
-  reads-null : (from : Rows) (flagged : Bool) → NotText from → skipped from flagged n ≡ true → countedCell from c flagged n (drop place s) ≡ good (null, drop (place + contentBytes (shape (c .kind)) n) s)
+  reads-null : (from : Rows) (flagged : Bool) → NotText from → skipped from flagged n ≡ true
+      → countedCell from c flagged n (drop place s) ≡ good (null, drop (place + contentBytes (shape (c .kind)) n) s)
   unfolding countedCell flagAs skipped emptyAs
   reads-null TableData flagged h k = absurd h
   reads-null Binary flagged h k =

@@ -93,7 +93,8 @@ binary2-writes c es = refl
 
 -- ---- elements that were read, put
 
-module _ (Reads : ℕ → List ℤ → Type 0) (from : Rows) (c : Column) (never : NeverNull c) (old : List ℕ) (o : ℕ) (new : List ℕ) (next : ℕ) (es : List ℤ) (reads : Reads next es) (some : 1 ≤ length es) where
+module _ (Reads : ℕ → List ℤ → Type 0) (from : Rows) (c : Column) (never : NeverNull c) (old : List ℕ) (o : ℕ) (new : List ℕ) (next : ℕ) (es : List ℤ) (reads : Reads next es)
+    (some : 1 ≤ length es) where
   -- as text between its tags
   pub text-put : (t : List ℕ) (e : ℕ) → elementText (shape (c .kind)) es ≡ good t → Puts old o (tagged t) new e → MovesRead Reads from TableData c old o new (Moved.Cell next e false)
   unfolding isNull

@@ -31,7 +31,8 @@ use Rattle.table.specs.All.{All, AreBytes}
 use Rattle.table.specs.Bytes.{between}
 use Rattle.table.specs.Result.{good}
 use Rattle.table.specs.Shape.{inRange}
-use Rattle.words.proofs.WordLaws.{after-minus, decimal-parts, down-in, up-in}
+use Rattle.words.proofs.QuickLaws.{minus-in}
+use Rattle.words.proofs.WordLaws.{after-minus, decimal-parts, up-in}
 use Rattle.words.specs.Contracts.{IsPlain, top}
 
 -- ---- which of eight bytes are digits
@@ -154,11 +155,6 @@ module _ {s : List ℕ} {from most next : ℕ} (r : Numeral s from most next) wh
     }
 
 -- ---- and one after a minus
-
-minus-in : (k : Integer) (n : ℕ) → isSigned k ≡ true → n ≤ top k → inRange (isSigned k) (size k) (withSign true n) ≡ true
-unfolding withSign
-minus-in k zero g h = up-in k 0 (omega arith)
-minus-in k (suc n) g h = down-in k n g (omega arith)
 
 minus-shown : (n : ℕ) (w : List ℕ) → digits 20 n ≡ w → 49 ≤ getD w 0 0 → 45 ∷ w ≡ shortest (withSign true n)
 unfolding withSign shortest digits

@@ -29,7 +29,8 @@ returns-3 c =
     let r = c .before .before .before .before .before .before .before .read-count .ensures in
     let w = subst (CountWithin (now (a .args .s)) (a .args .at) (bound (a .args .column .len))) q (r .within) in
     let m = c .before .before .move-counted in
-    λ h. whole-moved (a .args .from) (a .args .to) (a .args .column) (a .args .flagged) _ (now (a .args .s)) (a .args .at) _ (now (a .args .row)) (a .args .o) (m .last .1 .1 .1 .1 .1 .1 .1 .0) (m .result) h
+    λ h. whole-moved (a .args .from) (a .args .to) (a .args .column) (a .args .flagged) _ (now (a .args .s)) (a .args .at) _ (now (a .args .row)) (a .args .o)
+    (m .last .1 .1 .1 .1 .1 .1 .1 .0) (m .result) h
     (r .found ∙ ap (countAs (now (a .args .s))) q) (w .0) (m .ensures h)
 
 pub move-binary-spec : {M : Type 1} → statement M

@@ -34,7 +34,8 @@ abbrev next : Found → ℕ
 next c = c .before .z .given .0 .1 .0
 
 stands : (c : Found) → let a = begin c in InBinary (Whole (isSigned (a .args .integer)) (widthOf (a .args .integer))) 1 (now (a .args .s)) (a .args .at) (next c) (value c ∷ [])
-stands c = let a = begin c in subst (FindsOne (InBinary (Whole (isSigned (a .args .integer)) (widthOf (a .args .integer))) 1 (now (a .args .s)) (a .args .at))) (c .before .z .given .1) (c .before .before .before .binary-integer .ensures)
+stands c = let a = begin c in subst (FindsOne (InBinary (Whole (isSigned (a .args .integer)) (widthOf (a .args .integer))) 1 (now (a .args .s)) (a .args .at))) (c .before .z .given .1)
+    (c .before .before .before .binary-integer .ensures)
 
 fits : (c : Found) → toZ w64 (ofZ w64 (value c)) ≡ value c
 fits c = search needs
@@ -44,7 +45,8 @@ returns-2 c =
     let k = c .before .before .before .before .before .before in
     let a = begin k in
     let p = c .before .before .put-null in
-    λ from one q. null-moved (InBinary (shape (a .args .column .kind)) 1 (now (a .args .s)) (a .args .at)) from (a .args .to) (a .args .column) (Whole (isSigned (a .args .integer)) (widthOf (a .args .integer))) (value k) (now (a .args .row)) (a .args .o)
+    λ from one q. null-moved (InBinary (shape (a .args .column .kind)) 1 (now (a .args .s)) (a .args .at)) from (a .args .to) (a .args .column)
+    (Whole (isSigned (a .args .integer)) (widthOf (a .args .integer))) (value k) (now (a .args .row)) (a .args .o)
     (p .last .1 .1 .1 .0) (next k) one q (subst (λ (y : Shape). InBinary y 1 (now (a .args .s)) (a .args .at) (next k) (value k ∷ [])) (sym q) (stands k)) (p .result)
     (sym (ap (isDeclared (a .args .column .null)) (fits k)) ∙ sym (c .before .before .before .before .before .is-declared .ensures) ∙ c .before .before .before .before .if1 .taken) (p .ensures)
 

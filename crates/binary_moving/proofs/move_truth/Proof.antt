@@ -56,7 +56,8 @@ returns-3 c =
     let p = c .before .before .put-truth in
     λ from one q. value-moved (InBinary (shape (a .args .column .kind)) 1 (now (a .args .s)) (a .args .at)) from (a .args .to) (a .args .column) Truths (value k) (now (a .args .row)) (a .args .o)
     (p .last .1 .1 .0) (next k) one q (subst (λ (y : Shape). InBinary y 1 (now (a .args .s)) (a .args .at) (next k) (value k ∷ [])) (sym q) (stands k)) (p .result) tt
-    (sym (ap (λ (z : ℤ). sameInteger z (pos 2)) (fits k)) ∙ sym (c .before .before .before .before .before .same-integer .ensures) ∙ c .before .before .before .before .if1 .left) (puts-as (ap (oneForm (a .args .to) Truths) (fits k)) (p .ensures))
+    (sym (ap (λ (z : ℤ). sameInteger z (pos 2)) (fits k)) ∙ sym (c .before .before .before .before .before .same-integer .ensures) ∙ c .before .before .before .before .if1 .left)
+    (puts-as (ap (oneForm (a .args .to) Truths) (fits k)) (p .ensures))
 
 pub move-truth-spec : {M : Type 1} → statement M
 move-truth-spec =

@@ -30,7 +30,8 @@ move-truth-requires c κs = let a = c .before .before .before .before .before .b
 returns-3 : tie.Need-returns-3
 returns-3 c =
     let a = c .before .before .before .before .before .before .before .before .before .before .before in
-    let x = subst (ScalarIs (a .args .column)) (c .before .before .before .before .before .before .integer .given .1) (c .before .before .before .before .before .before .before .before .scalar-of .ensures) in
+    let x = subst (ScalarIs (a .args .column)) (c .before .before .before .before .before .before .integer .given .1)
+    (c .before .before .before .before .before .before .before .before .scalar-of .ensures) in
     let m = c .before .before .move-integer in
     λ from. subst (λ (n : ℕ). MovesRead (InBinary (shape (a .args .column .kind)) n (now (a .args .s)) (a .args .at)) from (a .args .to) (a .args .column) (now (a .args .row)) (a .args .o)
     (m .last .1 .1 .1 .1 .1 .0) (m .result)) (sym (c .before .before .before .before .if1 .left)) (m .ensures from (x .0) (x .1))
@@ -46,7 +47,8 @@ returns-4 c =
 returns-5 : tie.Need-returns-5
 returns-5 c =
     let a = c .before .before .before .before .before .before .before .before .before in
-    λ from. c .before .before .move-elements .ensures from (subst (ScalarIs (a .args .column)) (c .before .before .before .before .enum-told2 .given .1) (c .before .before .before .before .before .before .scalar-of .ensures))
+    λ from. c .before .before .move-elements .ensures from (subst (ScalarIs (a .args .column)) (c .before .before .before .before .enum-told2 .given .1)
+    (c .before .before .before .before .before .before .scalar-of .ensures))
 
 pub move-unflagged-spec : {M : Type 1} → statement M
 move-unflagged-spec =

@@ -52,10 +52,12 @@ moved c =
 unfilled : (c : Told) → Puts (now (begin c .args .row)) (begin c .args .o) [] (mid c) (begin c .args .o)
 unfilled c = puts-lower (moved c .puts) (omega arith)
 
-declined : (c : tie.After-enum-told) → let a = c .before .before .before .before .before .before .before .before .before .before .before in Puts (now (a .args .row)) (a .args .o) [] (c .before .before .before .before .pass-content .last .1 .1 .1 .1 .0) (a .args .o)
+declined : (c : tie.After-enum-told) → let a = c .before .before .before .before .before .before .before .before .before .before .before in Puts (now (a .args .row)) (a .args .o) []
+    (c .before .before .before .before .pass-content .last .1 .1 .1 .1 .0) (a .args .o)
 declined c =
     let a = c .before .before .before .before .before .before .before .before .before .before .before in
-    let x = subst (MovesContent _ _ (now (a .args .row)) (a .args .o + c .before .before .before .before .before .before .before .count-size .result) (c .before .before .before .before .pass-content .last .1 .1 .1 .1 .0)) (c .enum-told .given .1)
+    let x = subst (MovesContent _ _ (now (a .args .row)) (a .args .o + c .before .before .before .before .before .before .before .count-size .result)
+    (c .before .before .before .before .pass-content .last .1 .1 .1 .1 .0)) (c .enum-told .given .1)
     (c .before .before .before .before .pass-content .ensures) in
     puts-lower x (omega arith)
 
@@ -72,9 +74,11 @@ returns-5 c =
     let n = c .before .before .before .before .before .before .before .before .before .before .before .before .before .before .count-size .ensures .1 (k .before .count .given .0 .0) in
     let some : 1 ≤ k .before .count .given .0 .0 = omega (arith, c .before .before .before .before .before .if2 .left) in
     let f = c .before .before .fill-up in (
-      λ from never. bytes-moved (InBinary (shape (a .column .kind)) (a .n) (now (a .s)) (a .at)) from (a .column) never (now (a .row)) (a .o) (inner k) Binary (mid k) (f .last .1 .1 .1 .0) _ _ _ _ (f .result)
+      λ from never. bytes-moved (InBinary (shape (a .column .kind)) (a .n) (now (a .s)) (a .at)) from (a .column) never (now (a .row)) (a .o) (inner k) Binary (mid k) (f .last .1 .1 .1 .0) _
+          _ _ _ (f .result)
           (λ es m. binary-writes (a .column) es m) (moved k) refl n some (f .ensures),
-      λ from never. bytes-moved (InBinary (shape (a .column .kind)) (a .n) (now (a .s)) (a .at)) from (a .column) never (now (a .row)) (a .o) (inner k) Binary2 (mid k) (f .last .1 .1 .1 .0) _ _ _ _ (f .result)
+      λ from never. bytes-moved (InBinary (shape (a .column .kind)) (a .n) (now (a .s)) (a .at)) from (a .column) never (now (a .row)) (a .o) (inner k) Binary2 (mid k) (f .last .1 .1 .1 .0)
+          _ _ _ _ (f .result)
           (λ es m. binary2-writes (a .column) es) (moved k) refl n some (f .ensures),
     )
 

@@ -46,7 +46,8 @@ moved c =
 unclosed : (c : Told) → Puts (now (begin c .args .row)) (begin c .args .o) [] (mid c) (begin c .args .o)
 unclosed c = puts-before (puts-then (c .before .before .before .before .before .before .before .before .before .put-open .ensures) (moved c .puts))
 
-declined : (c : tie.After-enum-told) → let a = c .before .before .before .before .before .before .before .before .before .before .before .before in Puts (now (a .args .row)) (a .args .o) [] (c .before .before .before .before .show-content .last .1 .1 .1 .1 .0) (a .args .o)
+declined : (c : tie.After-enum-told) → let a = c .before .before .before .before .before .before .before .before .before .before .before .before in Puts (now (a .args .row)) (a .args .o) []
+    (c .before .before .before .before .show-content .last .1 .1 .1 .1 .0) (a .args .o)
 declined c =
     let a = c .before .before .before .before .before .before .before .before .before .before .before .before in
     let u = c .before .before .before .before .before .before .before .before .put-open in
@@ -65,7 +66,8 @@ returns-4 c =
     let k = c .before .before .before .before .before .before in
     let a = begin k .args in
     λ from never. text-moved (InBinary (shape (a .column .kind)) (a .n) (now (a .s)) (a .at)) from (a .column) never (now (a .row)) (a .o) (inner k) (opened k) (mid k) _ _ _ _ _
-    (k .before .before .before .before .before .before .before .before .before .put-open .ensures) (moved k) (omega (arith, c .before .before .before .before .before .if1 .left)) (c .before .before .put-close .ensures)
+    (k .before .before .before .before .before .before .before .before .before .put-open .ensures) (moved k) (omega (arith, c .before .before .before .before .before .if1 .left))
+    (c .before .before .put-close .ensures)
 
 pub show-elements-spec : {M : Type 1} → statement M
 show-elements-spec =

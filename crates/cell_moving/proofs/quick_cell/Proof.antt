@@ -9,7 +9,8 @@ use Rattle.cell_moving.proofs.quick_cell.Tie as tie
 returns : tie.Need-returns
 returns c =
     let a = c .before .before .before .before .before .before .before .before in
-    rw (text-is (a .args .from) (sym (c .before .before .before .before .before .is-text .ensures) ∙ c .before .before .before .before .if1 .taken)) (c .before .before .move-text .ensures (a .args .flagged))
+    rw (text-is (a .args .from) (sym (c .before .before .before .before .before .is-text .ensures) ∙ c .before .before .before .before .if1 .taken))
+    (c .before .before .move-text .ensures (a .args .flagged))
 
 returns-2 : tie.Need-returns-2
 returns-2 c =

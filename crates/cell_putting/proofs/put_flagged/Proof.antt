@@ -25,7 +25,14 @@ returns-2 c =
     record {
       bytes = _;
       writes = refl;
-      puts = puts-wrote (c .before .before .put-null .ensures) (omega (arith, zeros-length (a .args .column), c .before .before .before .before .before .room-size .ensures, c .before .before .before .before .if1 .left, a .pre .1));
+      puts = puts-wrote (c .before .before .put-null .ensures) (omega (
+        arith,
+        zeros-length
+            (a .args .column),
+        c .before .before .before .before .before .room-size .ensures,
+        c .before .before .before .before .if1 .left,
+        a .pre .1,
+      ));
       same-next = refl;
       null-is = refl;
     }

@@ -35,17 +35,22 @@ returns : tie.Need-returns
 unfolding oneForm elementBytes spaced truthText
 returns c =
     let a = c .before .before .before .before .before .before .before .before .before .before .before .before .before .before .before in
-    rw (text-is (a .args .to) (sym (c .before .before .before .before .before .before .before .before .before .before .before .before .before .is-text .ensures) ∙ c .before .before .before .before .before .before .before .before .before .before .before .before .if1 .taken))
-    (puts-as (ap (oneForm TableData (Whole (isSigned (a .args .integer)) (widthOf (a .args .integer)))) (toZ-ofZ (a .fits .z))) (tagged-put (c .before .before .before .before .before .before .before .before .before .before .put-open .ensures) (c .before .before .before .before .before .before .show-integer .ensures) (c .before .before .put-close .ensures)))
+    rw (text-is (a .args .to) (sym (c .before .before .before .before .before .before .before .before .before .before .before .before .before .is-text .ensures)
+    ∙ c .before .before .before .before .before .before .before .before .before .before .before .before .if1 .taken))
+    (puts-as (ap (oneForm TableData (Whole (isSigned (a .args .integer)) (widthOf (a .args .integer)))) (toZ-ofZ (a .fits .z)))
+    (tagged-put (c .before .before .before .before .before .before .before .before .before .before .put-open .ensures)
+    (c .before .before .before .before .before .before .show-integer .ensures) (c .before .before .put-close .ensures)))
 
 returns-2 : tie.Need-returns-2
 unfolding oneForm
 returns-2 c =
     let a = c .before .before .before .before .before .before .before in
     let p = c .before .before .pass-integer in
-    no-text (λ (rows : Rows). Puts (now (a .args .row)) (a .args .o) (oneForm rows (Whole (isSigned (a .args .integer)) (widthOf (a .args .integer))) (a .args .z)) (p .last .1 .1 .0) (p .result)) (a .args .to)
+    no-text (λ (rows : Rows). Puts (now (a .args .row)) (a .args .o) (oneForm rows (Whole (isSigned (a .args .integer)) (widthOf (a .args .integer))) (a .args .z)) (p .last .1 .1 .0)
+    (p .result)) (a .args .to)
     (sym (c .before .before .before .before .before .is-text .ensures) ∙ c .before .before .before .before .if1 .left)
-    (puts-as (ap (oneForm Binary (Whole (isSigned (a .args .integer)) (widthOf (a .args .integer)))) (toZ-ofZ (a .fits .z))) (p .ensures)) (puts-as (ap (oneForm Binary2 (Whole (isSigned (a .args .integer)) (widthOf (a .args .integer)))) (toZ-ofZ (a .fits .z))) (p .ensures))
+    (puts-as (ap (oneForm Binary (Whole (isSigned (a .args .integer)) (widthOf (a .args .integer)))) (toZ-ofZ (a .fits .z))) (p .ensures))
+    (puts-as (ap (oneForm Binary2 (Whole (isSigned (a .args .integer)) (widthOf (a .args .integer)))) (toZ-ofZ (a .fits .z))) (p .ensures))
 
 pub put-integer-spec : {M : Type 1} → statement M
 put-integer-spec =

@@ -31,8 +31,10 @@ returns : tie.Need-returns
 unfolding oneForm elementBytes spaced truthText
 returns c =
     let a = c .before .before .before .before .before .before .before .before .before .before .before .before .before .before .before in
-    rw (text-is (a .args .to) (sym (c .before .before .before .before .before .before .before .before .before .before .before .before .before .is-text .ensures) ∙ c .before .before .before .before .before .before .before .before .before .before .before .before .if1 .taken))
-    (puts-as (ap (oneForm TableData Truths) (toZ-ofZ (a .fits .z))) (tagged-put (c .before .before .before .before .before .before .before .before .before .before .put-open .ensures) (c .before .before .before .before .before .before .show-truth .ensures) (c .before .before .put-close .ensures)))
+    rw (text-is (a .args .to) (sym (c .before .before .before .before .before .before .before .before .before .before .before .before .before .is-text .ensures)
+    ∙ c .before .before .before .before .before .before .before .before .before .before .before .before .if1 .taken))
+    (puts-as (ap (oneForm TableData Truths) (toZ-ofZ (a .fits .z))) (tagged-put (c .before .before .before .before .before .before .before .before .before .before .put-open .ensures)
+    (c .before .before .before .before .before .before .show-truth .ensures) (c .before .before .put-close .ensures)))
 
 returns-2 : tie.Need-returns-2
 unfolding oneForm

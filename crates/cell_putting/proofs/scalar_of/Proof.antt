@@ -12,12 +12,18 @@ returns : tie.Need-returns
 returns c = array-never (c .before .before .args .column) (sym (c .before .is-scalar .ensures) ∙ not-true _ (c .if1 .taken))
 
 returns-2 : tie.Need-returns-2
-returns-2 c =
-    (sym (c .before .before .before .before .before .is-scalar .ensures) ∙ not-false _ (c .before .before .before .before .if1 .left), sym (c .before .before .before .elements-of .ensures) ∙ ap shapeAs (c .before .integer .given .1))
+returns-2 c = (
+  sym (c .before .before .before .before .before .is-scalar .ensures) ∙ not-false _ (c .before .before .before .before .if1 .left),
+  sym (c .before .before .before .elements-of .ensures)
+      ∙ ap shapeAs (c .before .integer .given .1),
+)
 
 returns-3 : tie.Need-returns-3
-returns-3 c =
-    (sym (c .before .before .before .before .is-scalar .ensures) ∙ not-false _ (c .before .before .before .if1 .left), sym (c .before .before .elements-of .ensures) ∙ ap shapeAs (c .enum-told .given .1))
+returns-3 c = (
+  sym (c .before .before .before .before .is-scalar .ensures) ∙ not-false _ (c .before .before .before .if1 .left),
+  sym (c .before .before .elements-of .ensures) ∙ ap shapeAs
+      (c .enum-told .given .1),
+)
 
 returns-4 : tie.Need-returns-4
 returns-4 c = bits-never (c .before .before .before .before .before .args .column) (sym (c .before .before .elements-of .ensures) ∙ ap shapeAs (c .enum-told2 .given .1))

@@ -415,7 +415,8 @@ out-behind c = c .before .before .before .before .before .put-row .last .1 .1 .1
 
 -- it is done, too
 row-behind : (c : Behind) (o : List ℕ)
-    → RowsDone (from-at (turn-rows c)) (to-at (turn-rows c)) (listed (cols-at (turn-rows c))) (s-at (turn-rows c)) o (turn-rows c .rows .out) (turn-rows c .rows .cursor .at) (turn-rows c .rows .p .rows)
+    → RowsDone (from-at (turn-rows c)) (to-at (turn-rows c)) (listed (cols-at (turn-rows c))) (s-at (turn-rows c)) o (turn-rows c .rows .out) (turn-rows c .rows .cursor .at)
+    (turn-rows c .rows .p .rows)
     (turn-rows c .rows .p .bytes)
     → RowsDone (from-at (turn-rows c)) (to-at (turn-rows c)) (listed (cols-at (turn-rows c))) (s-at (turn-rows c)) o (out-behind c) (c .before .after .result .at) (c .after2 .result .rows)
     (c .after2 .result .bytes)
@@ -427,7 +428,8 @@ row-behind c o d =
     let n = onward e in
     let w = c .before .before .before .before .before .put-row .ensures in
     let h = c .before .before .before .before .before .before .before .before .holding-of .ensures in
-    row-done (from-at r) (to-at r) (listed (cols-at r)) (are r) (s-at r) o (r .rows .out) (r .rows .cursor .at) (r .rows .p .rows) (r .rows .p .bytes) d (left (left-of (begun-of e))) (l .inv .0 .acc) _
+    row-done (from-at r) (to-at r) (listed (cols-at r)) (are r) (s-at r) o (r .rows .out) (r .rows .cursor .at) (r .rows .p .rows) (r .rows .p .bytes) d (left (left-of (begun-of e)))
+    (l .inv .0 .acc) _
     (whole e) (row-at f) (written-at f) (omega (arith, size-at f, c .before .before .before .before .before .before .before .before .before .if3 .left)) _ refl (n .0) (n .1) _
     (w .0 .now-is ∙ ap (λ (y : Holding). sets (r .rows .out) (r .rows .p .bytes) (row-held f y)) h) _ _ _ (cursor-moves (c .before)) (c .after2 .ensures .0)
     (c .after2 .ensures .1 ∙ ap (λ (k : ℕ). r .rows .p .bytes + k) (sym (size-at f)))
@@ -541,7 +543,8 @@ returns-5 c =
     let l = a .before .loop in
     let q = row-cannot (from-at r) (to-at r) (cols-at r) (flags-at b) (s-at r) (body-at b) (l .at) (l .i) (l .inv .0) (l .scratch) (l .m) (l .inv .1) (listed-length (cols-at r))
     (a .loop-test .left) (c .if2 .taken) in
-    let d = write-refusal (from-at r) (to-at r) (listed (cols-at r)) (are r) (s-at r) (out-at r) (r .rows .out) (r .rows .cursor .at) (r .rows .p .rows) (r .rows .p .bytes) (done-at r) (left (left-of b))
+    let d = write-refusal (from-at r) (to-at r) (listed (cols-at r)) (are r) (s-at r) (out-at r) (r .rows .out) (r .rows .cursor .at) (r .rows .p .rows) (r .rows .p .bytes) (done-at r)
+    (left (left-of b))
     (l .inv .0 .acc) _ (whole e) _ q in
     (d .answers, (d .stands, d .leaves))
 
@@ -551,7 +554,8 @@ returns-6 c =
     let e = ended-of f in
     let b = begun-of e in
     let r = rows-of b in
-    let d = room-refusal (from-at r) (to-at r) (listed (cols-at r)) (are r) (s-at r) (out-at r) (r .rows .out) (r .rows .cursor .at) (r .rows .p .rows) (r .rows .p .bytes) (done-at r) (left (left-of b))
+    let d = room-refusal (from-at r) (to-at r) (listed (cols-at r)) (are r) (s-at r) (out-at r) (r .rows .out) (r .rows .cursor .at) (r .rows .p .rows) (r .rows .p .bytes) (done-at r)
+    (left (left-of b))
     (all-of e .before .loop .inv .0 .acc) _ (whole e) (row-at f) (written-at f)
     (omega (arith, size-at f, c .if3 .taken)) in
     (d .answers, (d .stands, d .leaves))

@@ -329,7 +329,8 @@ advance p new next e null q x w =
     let f = p .before .before .before .before .before .flag-of in (
       read-more (from-at r) (listed (cols-at r)) _ (s-at r) (body-at b) (l .at) (l .i) (l .inv .0) (column-at t) (next-column t) (f .result) (f .ensures) (x .cell) _
           (omega (arith, listed-length (cols-at r), t .loop-test .taken)) (x .reads) (x .onward) (x .inside),
-      moved-more (to-at r) (listed (cols-at r)) (l .inv .0 .acc) _ _ (l .row) (l .end) (l .nulls) (l .i) (l .inv .1) (column-at t) (next-column t) (from-at r) (f .result) (s-at r) (l .at) _ _ _ _ x q w,
+      moved-more (to-at r) (listed (cols-at r)) (l .inv .0 .acc) _ _ (l .row) (l .end) (l .nulls) (l .i) (l .inv .1) (column-at t) (next-column t) (from-at r) (f .result) (s-at r) (l .at) _
+          _ _ _ x q w,
     )
 
 add-flag-requires : tie.Need-add-flag-requires Inv-loop μ-loop Inv-rows μ-rows
