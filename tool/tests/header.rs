@@ -259,6 +259,29 @@ fn every_function_and_number_from_cplusplus() {
     }
 }
 
+/// The same cases in a thread that has as much stack as the header says; more than that ends the program.
+const IN_A_THREAD: &str = r#"
+#include <pthread.h>
+static void *in_a_thread(void *wrong) {
+    *(int *)wrong = cases();
+    return NULL;
+}
+int main(void) {
+    pthread_attr_t attributes;
+    pthread_t thread;
+    int wrong = 255;
+    if (pthread_attr_init(&attributes) != 0 || pthread_attr_setstacksize(&attributes, 128 * 1024) != 0) return 254;
+    if (pthread_create(&thread, &attributes, in_a_thread, &wrong) != 0 || pthread_join(thread, NULL) != 0) return 253;
+    return wrong;
+}
+"#;
+
+#[test]
+fn every_function_in_128_kb_of_stack() {
+    let text = CASES.replace("int main(void)", "static int cases(void)") + IN_A_THREAD;
+    assert_no_line_is_wrong(&mut Command::new(program("cc", &["-std=gnu99", "-pthread"], "thread.c", &text)));
+}
+
 const VERSION: &str = r#"
 #include "sailmortar.h"
 #include <stdio.h>
