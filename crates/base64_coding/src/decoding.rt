@@ -10,7 +10,7 @@ use base64_letters::letters::{NONE, letter_value};
 use text::skip_white;
 
 // The next byte that is no white space, and the place after it.
-#[derive(Drop)]
+#[derive(Clone, Copy)]
 enum Next {
     End,
     Byte(u8, usize),
@@ -18,14 +18,14 @@ enum Next {
 
 // What the next four characters give: the first so many of three bytes, and the place after the characters. With fewer than three
 // nothing follows.
-#[derive(Drop)]
+#[derive(Clone, Copy)]
 enum Four {
     Bad,
     Bytes(usize, u8, u8, u8, usize),
 }
 
 // The values of four characters.
-#[derive(Drop)]
+#[derive(Clone, Copy)]
 struct FourValues {
     w: u32,
     x: u32,
@@ -34,7 +34,7 @@ struct FourValues {
 }
 
 // How many bytes a text gives, or the number that it is refused with.
-#[derive(Drop)]
+#[derive(Clone, Copy)]
 pub enum DecodedSize {
     Refused(u64),
     Good(usize),

@@ -1,4 +1,6 @@
 // Base64: the two calls, decoding and encoding, a step of its own over bytes.
+#![tactic(auto)]
+
 mod decoding;
 
 ghost use Rattle.std.specs.Prelude.{◌≡◌};

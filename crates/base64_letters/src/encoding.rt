@@ -5,7 +5,7 @@ ghost use Rattle.base64_rules.specs.Base64.{encode, letter};
 ghost use Rattle.base64_letters.specs.Letters.{letters_of};
 
 // Four letters.
-#[derive(Drop)]
+#[derive(Clone, Copy)]
 struct Letters {
     w: u8,
     x: u8,

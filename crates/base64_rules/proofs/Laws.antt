@@ -224,7 +224,7 @@ fours-encode (a ∷ b ∷ []) h =
     (ap₂ (λ (x y : ℕ). good (x ∷ y ∷ [])) (omega arith) (omega arith))
 fours-encode (a ∷ b ∷ c ∷ []) h = rw (letter-not-pad (c % 64) (omega arith)) (three_back a b c h.0 h.1.0 h.1.1.0)
 fours-encode (a ∷ b ∷ c ∷ d ∷ s) h =
-    fours-more _ _ _ _ (encode (d ∷ s)) (let l = length-encode (d ∷ s) in omega arith)
+    fours-more (letter (a / 4)) (letter (a % 4 * 16 + b / 16)) (letter (b % 16 * 4 + c / 64)) (letter (c % 64)) (encode (d ∷ s)) (let l = length-encode (d ∷ s) in omega arith)
     ∙ rw (three_back a b c h.0 h.1.0 h.1.1.0, fours-encode (d ∷ s) h.1.1.1)
 
 -- THE ROUND TRIP: what is encoded decodes to itself

@@ -1,5 +1,7 @@
 // Runs base64 on RFC 4648's vectors and on the cases of 01, there and back and damaged. A line has the call, its input with `_` for white
 // space and for what has no letter, the answer (number, row, column, rows, bytes) and the whole buffer, which held `.` before.
+#![tactic(auto)]
+
 use libc::STDOUT_FILENO;
 use table::Answer;
 

@@ -1,5 +1,7 @@
 // The definitions of cells of BINARY and BINARY2 and their laws; of code only what reading (crate binary_reading) and writing (crate
 // binary_writing) both ask.
+#![tactic(auto)]
+
 ghost use Rattle.std.specs.Prelude.{◌≡◌, ◌≤◌};
 ghost use Rattle.table.specs.Cell.{most_elements};
 ghost use Rattle.table.specs.Shape.{shape};

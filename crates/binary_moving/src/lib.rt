@@ -1,4 +1,6 @@
 // Cells of BINARY and BINARY2, moved where they are plain.
+#![tactic(auto)]
+
 ghost use Rattle.std.specs.Prelude.{true, ◌≡◌, ◌+◌, ◌≤◌, length};
 ghost use Rattle.binary.specs.Binary.{content_bytes};
 ghost use Rattle.binary_moving.specs.Clauses.{MovesCounted, NotText, skipped};

@@ -1,4 +1,6 @@
 // A cell of BINARY and BINARY2, read into the scratch.
+#![tactic(auto)]
+
 ghost use Rattle.std.specs.Prelude.{map, ◌≡◌, ◌*◌, ◌+◌, ◌<◌, ◌≤◌, pos, drop, length};
 ghost use Rattle.std.proofs.lemmas.List.Edits.{sets};
 ghost use Rattle.number.specs.Clauses.{is_signed, size, width_of};
@@ -15,14 +17,14 @@ use number::{Elements, Integer, elements_of};
 use table::{Column, Found, Kind, Len};
 
 // A count of elements and the place after it, or the number of its refusal.
-#[derive(Drop)]
+#[derive(Clone, Copy)]
 pub enum Count {
     Elements(usize, usize),
     Uncounted(u64),
 }
 
 // How many elements stand in the scratch, or the number of the content's refusal.
-#[derive(Drop)]
+#[derive(Clone, Copy)]
 pub enum Content {
     Filled(usize),
     Broken(u64),

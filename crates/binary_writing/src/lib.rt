@@ -1,4 +1,6 @@
 // A cell of BINARY and BINARY2: measured, and written from the scratch.
+#![tactic(auto)]
+
 ghost use Rattle.std.specs.Prelude.{map, ◌≡◌, ◌*◌, ◌+◌, ◌-◌, ◌^◌, ◌<◌, ◌≤◌, drop, length, replicate, take};
 ghost use Rattle.number.specs.Clauses.{size};
 ghost use Rattle.number.specs.Number.{of_digits, pattern};

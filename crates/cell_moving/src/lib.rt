@@ -1,4 +1,6 @@
 // A cell of any kind of rows, moved from the input into a row's buffer: read, and written as the other kind has it.
+#![tactic(auto)]
+
 ghost use Rattle.std.specs.Prelude.{◌≡◌, ◌≤◌, length};
 ghost use Rattle.moving.specs.Cells.{MovesCell, SettlesCell, SettlesPut};
 ghost use Rattle.table.specs.Cell.{bound, most_elements};

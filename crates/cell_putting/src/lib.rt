@@ -1,4 +1,6 @@
 // A cell put into a row's buffer: null, one element by its value, or elements whose bytes stand there already.
+#![tactic(auto)]
+
 ghost use Rattle.std.specs.Prelude.{◌≡◌, ℕ, ◌+◌, ◌≤◌, length};
 ghost use Rattle.binary.specs.Binary.{count_bytes};
 ghost use Rattle.cell_putting.specs.Clauses.{FillsUp, ScalarIs, fill_size, is_text, most_room, one_form};
@@ -137,7 +139,7 @@ pub fn put_truth(to: Rows, z: i64, row: &mut [u8], o: usize) -> usize
 // ---- which columns may have an element that stands for null
 
 // A scalar integer, a scalar boolean, or a column that has none.
-#[derive(Drop)]
+#[derive(Clone, Copy)]
 pub enum Scalar {
     Integer(Integer),
     Truth,

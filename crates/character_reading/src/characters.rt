@@ -9,14 +9,14 @@ use super::references::{Reference, expand};
 use text::{Tag, whole_tag};
 
 // Where characters are read: in the markup of a cell, or in a plain part of a text.
-#[derive(Drop)]
+#[derive(Clone, Copy)]
 pub enum Source {
     Markup,
     Plain,
 }
 
 // A character with its reference expanded and the place after it, or the place after the end of the text; or what breaks it.
-#[derive(Drop)]
+#[derive(Clone, Copy)]
 pub enum Item {
     Code(u32, usize),
     End(usize),

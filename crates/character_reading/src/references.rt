@@ -6,7 +6,7 @@ ghost use Rattle.character_reading.specs.References.{base_in, reference_as, valu
 use text::{digit_value, same_bytes};
 
 // What stands between `&` and `;`: the code of a character, or nothing known.
-#[derive(Drop)]
+#[derive(Clone, Copy)]
 pub enum Reference {
     Means(u32),
     Unknown,

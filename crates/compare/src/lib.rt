@@ -1,8 +1,10 @@
 // What two inputs show differently: no code, but for the answer.
+#![tactic(auto)]
+
 
 // The number, row, column and input of a refusal, all 0 where both inputs read; how many cells differ; the rows that each has beyond the other; and
 // how many places were filled.
-#[derive(Drop)]
+#[derive(Clone, Copy)]
 pub struct Comparison {
     pub number: u64,
     pub row: u64,

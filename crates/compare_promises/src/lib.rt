@@ -1,5 +1,7 @@
 // Two nights compared, of the face itself: functions whose bodies are calls of the functions for C and no more, and whose contracts are the theorems of
 // request #110, over the slices at entry and at exit. None has a `requires`: "Callers check nothing first."
+#![tactic(auto)]
+
 ghost use Rattle.compare_promises.specs.Comparisons.{ComparedAlike, ComparedBothWays, ComparedExactly, NotKinds, SameNight, comparison_of};
 ghost use Rattle.promises.specs.Promises.{Between};
 

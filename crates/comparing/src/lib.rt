@@ -1,4 +1,6 @@
 // Two inputs compared: both in step as far as both have rows, then what each has beyond; and in a lent buffer the places that differ.
+#![tactic(auto)]
+
 ghost use Rattle.std.specs.Prelude.{cond, ◌≡◌, ◌-◌, ◌<◌, ◌^◌, ◌≤◌, suc, eqb, drop, length};
 ghost use Rattle.table.specs.Cell.{most_elements};
 ghost use Rattle.table.specs.ColumnList.{listed};
@@ -19,7 +21,7 @@ use table::{Columns, Rows};
 // ---- both inputs in step
 
 // Both inputs behind as many rows, and the place after them in each.
-#[derive(Drop)]
+#[derive(Clone, Copy)]
 struct Abreast {
     rows: u64,
     first: usize,
@@ -27,7 +29,7 @@ struct Abreast {
 }
 
 // How many cells differ from a start on, where both stand then, and where both stood before the first row that differs.
-#[derive(Drop)]
+#[derive(Clone, Copy)]
 struct Stepped {
     differing: usize,
     end: Abreast,

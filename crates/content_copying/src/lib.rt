@@ -1,5 +1,7 @@
 // The contents of cells of TABLEDATA as the text of a cell of TABLEDATA, in a row's buffer: most bytes go as they stand, and what is not plain is left
 // to the careful way.
+#![tactic(auto)]
+
 ghost use Rattle.std.specs.Prelude.{◌+◌, ◌<◌, ◌≤◌, drop, length, take, true, [], ◌++◌, ◌∷◌, ◌≡◌};
 ghost use Rattle.content_copying.specs.Passing.{PassTo};
 ghost use Rattle.content_copying.specs.Wording.{CopiesWord, InRange, NumeralTo, OwnTo, is_digit};
@@ -230,7 +232,7 @@ fn word_end(integer: Integer, s: &[u8], at: usize) -> usize
 }
 
 // A word's end, and the place after its bytes and a space behind them; or it is for the careful way.
-#[derive(Drop)]
+#[derive(Clone, Copy)]
 enum Word {
     Is(usize, usize),
     Careful,

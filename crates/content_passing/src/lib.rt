@@ -1,4 +1,6 @@
 // Contents of cells that go from BINARY or BINARY2 to BINARY or BINARY2: most go as they stand.
+#![tactic(auto)]
+
 ghost use Rattle.std.specs.Prelude.{[], ◌∷◌, ◌≡◌, ◌*◌, ◌+◌, ◌<◌, ◌≤◌, drop, length, take};
 ghost use Rattle.eights.specs.Marks.{is_letter, run};
 ghost use Rattle.moving.specs.Contents.{AsBinary, FindsOne, InBinary, MovesContent, content_form};

@@ -1,5 +1,7 @@
 // The elements of a cell of TABLEDATA, moved into a row's buffer as a cell of BINARY or BINARY2 has them: what is plain at once, everything else is
 // left to the careful way.
+#![tactic(auto)]
+
 ghost use Rattle.std.specs.Prelude.{false, ◌≡◌, ◌+◌, ◌-◌, ◌<◌, ◌≤◌, pos, length};
 ghost use Rattle.content_reading.specs.Letters.{LetterIs, truth_number};
 ghost use Rattle.eights.specs.Marks.{Marks};
@@ -83,7 +85,7 @@ fn plain_end(s: &[u8], from: usize) -> usize
 }
 
 // A character and the place after it; or it is for the careful way.
-#[derive(Drop)]
+#[derive(Clone, Copy)]
 pub enum Letter {
     Is(u8, usize),
     Careful,

@@ -1,4 +1,6 @@
 // The contents of cells of BINARY and BINARY2 as the text of a cell of TABLEDATA, in a row's buffer.
+#![tactic(auto)]
+
 ghost use Rattle.std.specs.Prelude.{◌*◌, ◌+◌, ◌-◌, ◌<◌, ◌≤◌, nat_abs, drop, length, replicate, take, false, [], ◌++◌, ◌∷◌, ◌≡◌};
 ghost use Rattle.binary.specs.Binary.{all_zero, bit_bytes, bits_of, content_bytes};
 ghost use Rattle.content_showing.specs.Showing.{TruthsPut, bit_letters, byte_word, filled, first_part, is_itself, middle_part, reference, sign, truth_shown};

@@ -1,4 +1,6 @@
 // Rows of one kind to rows of another: a loop over rows with a loop over columns inside.
+#![tactic(auto)]
+
 ghost use Rattle.std.specs.Prelude.{◌≡◌, ◌*◌, ◌+◌, ◌<◌, ◌^◌, ◌≤◌, drop, length};
 ghost use Rattle.table.specs.Cell.{bound, most_elements};
 ghost use Rattle.table.specs.Outcome.{answer_of, buffer_of};
@@ -19,7 +21,7 @@ use row_writing::{Holding, frame_size, put_row, size_cell};
 use table::{Answer, Column, Columns, Found, Rows, Size};
 
 // A place in the input, where the next row begins.
-#[derive(Drop)]
+#[derive(Clone, Copy)]
 struct Cursor {
     at: usize,
 }
@@ -41,7 +43,7 @@ impl Cursor {
 }
 
 // The rows done and the bytes written.
-#[derive(Drop)]
+#[derive(Clone, Copy)]
 struct Progress {
     rows: u64,
     bytes: usize,
@@ -68,7 +70,7 @@ impl Progress {
 
 // A row while it is measured: its null cells as a word of flags, the length of its cells as they will be written, the first refusal in writing with
 // its column, and how much of the scratch holds the cells so far. Numbers, and not enums, since they are carried from cell to cell.
-#[derive(Drop)]
+#[derive(Clone, Copy)]
 struct Measured {
     nulls: u64,
     size: usize,
@@ -78,7 +80,7 @@ struct Measured {
 }
 
 // A cell more: where it ends, and the row with it; or the number of its refusal.
-#[derive(Drop)]
+#[derive(Clone, Copy)]
 enum Turn {
     Next(usize, Measured),
     Refused(u64),
@@ -86,7 +88,7 @@ enum Turn {
 
 // What stops the loop over rows: a refusal's number, row and column, as the answer has them, all 0 where no row is left; and the place in the input
 // where the rows done end.
-#[derive(Drop)]
+#[derive(Clone, Copy)]
 struct Stop {
     number: u64,
     row: u64,
@@ -95,7 +97,7 @@ struct Stop {
 }
 
 // An answer, and the place in the input where the rows done end.
-#[derive(Drop)]
+#[derive(Clone, Copy)]
 pub struct Piece {
     pub answer: Answer,
     pub place: usize,

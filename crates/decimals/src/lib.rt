@@ -1,4 +1,6 @@
 // Integers in words: "integers shortest decimal, no `+`".
+#![tactic(auto)]
+
 ghost use Rattle.std.specs.Prelude.{◌≡◌, ◌+◌, ◌<◌, ◌≤◌, nat_abs, length};
 ghost use Rattle.std.proofs.lemmas.List.Edits.{sets};
 ghost use Rattle.decimals.specs.Clauses.{numerals};

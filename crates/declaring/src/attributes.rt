@@ -7,21 +7,21 @@ use crate::spans::{Class, span_end};
 use text::{Tag, ends, same_bytes, skip_white};
 
 // A value as written: where it begins and where it ends.
-#[derive(Drop)]
+#[derive(Clone, Copy)]
 pub enum Value {
     Absent,
     Present(usize, usize),
 }
 
 // A value in its quotes.
-#[derive(Drop)]
+#[derive(Clone, Copy)]
 enum Quoted {
     Broken,
     Holds(usize, usize),
 }
 
 // How often an attribute was met, and its value if once.
-#[derive(Drop)]
+#[derive(Clone, Copy)]
 pub enum Met {
     Never,
     Once(usize, usize),
@@ -29,7 +29,7 @@ pub enum Met {
 }
 
 // The attributes that count in some tag; all others are skipped.
-#[derive(Drop)]
+#[derive(Clone, Copy)]
 pub struct Tally {
     pub datatype: Met,
     pub arraysize: Met,
@@ -37,7 +37,7 @@ pub struct Tally {
 }
 
 // The attributes of a tag, and the place behind them.
-#[derive(Drop)]
+#[derive(Clone, Copy)]
 pub enum Attributes {
     Broken,
     Tallied(Tally, usize),

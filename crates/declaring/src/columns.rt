@@ -13,31 +13,31 @@ use table::{Column, Kind, Len, Null, column_of, is_scalar};
 use text::same_bytes;
 
 // What an attribute's value says, or that it says nothing.
-#[derive(Drop)]
+#[derive(Clone, Copy)]
 enum KindRead {
     NotCarried,
     Carried(Kind),
 }
 
-#[derive(Drop)]
+#[derive(Clone, Copy)]
 enum LengthRead {
     Broken,
     Elements(usize),
 }
 
-#[derive(Drop)]
+#[derive(Clone, Copy)]
 enum LenRead {
     Broken,
     Shaped(Len),
 }
 
-#[derive(Drop)]
+#[derive(Clone, Copy)]
 enum NullRead {
     Broken,
     Counts(Null),
 }
 
-#[derive(Drop)]
+#[derive(Clone, Copy)]
 pub enum Judged {
     Refused(u64),
     Declares(Column),

@@ -7,14 +7,14 @@ use crate::attributes::{Attributes, Met, Value, read_attributes};
 use text::{Tag, ends, goes_on, skip_white, whole_tag};
 
 // A null value as written, and the place behind what holds it.
-#[derive(Drop)]
+#[derive(Clone, Copy)]
 enum Body {
     Broken,
     Holds(Value, usize),
 }
 
 // A FIELD: where its datatype begins and ends, its arraysize and null value as written, and the place behind the element.
-#[derive(Drop)]
+#[derive(Clone, Copy)]
 pub struct Element {
     pub start: usize,
     pub end: usize,
@@ -23,7 +23,7 @@ pub struct Element {
     pub next: usize,
 }
 
-#[derive(Drop)]
+#[derive(Clone, Copy)]
 pub enum FieldRead {
     Broken,
     Whole(Element),

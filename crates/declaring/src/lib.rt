@@ -1,4 +1,6 @@
 // Declarations to a column list: "FIELD elements with only white space around them"; and the front of a call. The text is read in place, by index.
+#![tactic(auto)]
+
 mod attributes;
 mod columns;
 mod elements;
@@ -23,7 +25,7 @@ const MOST_DECLARATIONS: usize = 65_536;
 const MOST_INPUT: usize = 1_073_741_824;
 
 // The answer: number 0 and the columns, or a refusal's number and place and no column.
-#[derive(Drop)]
+#[derive(Clone, Copy)]
 pub struct Declared {
     pub number: u64,
     pub place: usize,

@@ -4,7 +4,7 @@ ghost use Rattle.fields.specs.Fields.{is_name_byte};
 ghost use Rattle.declaring.specs.Readers.{SpanEnd, in_class};
 
 // Bytes that stand together: a name, or what a quote holds.
-#[derive(Drop)]
+#[derive(Clone, Copy)]
 pub enum Class {
     Name,
     Quoted(u8),

@@ -10,7 +10,7 @@ pub mod OnlyOne
 pub mod Demand2
 pub mod Demand3
 pub mod LineEnds
-pub mod Hidden
+pub mod HiddenBehind
 pub mod Wrong
 pub mod Differing
 pub mod Nights

@@ -1,4 +1,6 @@
 // Eight bytes as one number: copies that may write more than they mean, tests of eight bytes at once, eight decimal digits at once.
+#![tactic(auto)]
+
 ghost use Rattle.std.specs.Prelude.{◌≡◌, ◌%◌, ◌*◌, ◌+◌, ◌/◌, ◌<◌, ◌≤◌, drop, length, take};
 ghost use Rattle.moving.specs.Puts.{Puts};
 ghost use Rattle.eights.specs.Lowest.{FirstLowest, TurnedRound};

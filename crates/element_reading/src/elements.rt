@@ -3,21 +3,21 @@ ghost use Rattle.element_reading.specs.Words.{first_bad, judged_as};
 ghost use Rattle.std.specs.Prelude.{pos, set, ◌≡◌};
 
 // How many elements were read and the place after the text, or the number of its refusal.
-#[derive(Drop)]
+#[derive(Clone, Copy)]
 pub enum Taken {
     Held(usize, usize),
     Refused(u64),
 }
 
 // How many elements a plain part has, or the number of its refusal.
-#[derive(Drop)]
+#[derive(Clone, Copy)]
 pub enum Counted {
     All(usize),
     Refused(u64),
 }
 
 // How many elements there are with a word's, and the number of its refusal, or 0.
-#[derive(Drop)]
+#[derive(Clone, Copy)]
 pub struct Added {
     pub count: usize,
     pub number: u64,

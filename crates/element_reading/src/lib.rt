@@ -1,4 +1,6 @@
 // The elements of a text are read: of a cell of TABLEDATA from its first character on, or of a plain part of a text.
+#![tactic(auto)]
+
 mod bits;
 mod chars;
 mod elements;

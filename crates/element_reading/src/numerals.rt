@@ -15,7 +15,7 @@ use text::{Tag, goes_on, is_white};
 use words::{Form, IntegerRead, Quick, Word};
 
 // As a piece of a boolean cell, with the word as the integers' reader has it.
-#[derive(Drop)]
+#[derive(Clone, Copy)]
 pub enum Numeral {
     Cut(Word, usize),
     Last(Word, usize),
@@ -92,7 +92,7 @@ fn add_integer(word: Word, kind: Integer, scratch: &mut [i64], count: usize) -> 
 }
 
 // A word of plain digits, read at once: with a space behind it, or with just the end; or a word for the careful way.
-#[derive(Drop)]
+#[derive(Clone, Copy)]
 pub enum QuickWord {
     Cut(i64, usize),
     Last(i64, usize),

@@ -10,7 +10,7 @@ use character_reading::characters::{Item, Source, character_at};
 use text::is_white;
 
 // A word up to white space, or up to the end tag, and the place after that.
-#[derive(Drop)]
+#[derive(Clone, Copy)]
 pub enum Piece {
     Cut(u64, usize),
     Last(u64, usize),

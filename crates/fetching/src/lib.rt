@@ -1,4 +1,6 @@
 // One row of a stream by an index: the part of the stream that is the row, converted as a stream of its own.
+#![tactic(auto)]
+
 ghost use Rattle.std.specs.Prelude.{◌≡◌, length};
 ghost use Rattle.table.specs.ColumnList.{listed};
 ghost use Rattle.table.specs.Outcome.{answer_of, buffer_of};

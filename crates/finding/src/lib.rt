@@ -1,4 +1,6 @@
 // A row of a stream found by an index: rows are passed over from the start that its place holds.
+#![tactic(auto)]
+
 ghost use Rattle.std.specs.Prelude.{◌≡◌, ◌≤◌, ltb, drop, length, cond};
 ghost use Rattle.table.specs.Cell.{most_elements};
 ghost use Rattle.table.specs.ColumnList.{listed};
@@ -13,7 +15,7 @@ use table::{Columns, Rows};
 const SPACING: u64 = 64;
 
 // The row that is asked for: where it starts and where it ends; or the number and column of a row that does not read, itself or one before it.
-#[derive(Drop)]
+#[derive(Clone, Copy)]
 pub enum Wanted {
     Row(usize, usize),
     Refused(u64, usize),

@@ -1,4 +1,6 @@
 // The flags of a BINARY2 row: read, looked up for a column, made column by column, written.
+#![tactic(auto)]
+
 ghost use Rattle.std.specs.Prelude.{true, [], ◌++◌, ◌∷◌, ◌≡◌, ◌+◌, ◌<◌, ◌≤◌, eqb, drop, get_or, length, take};
 ghost use Rattle.number.specs.Number.{of_digits, to_digits};
 ghost use Rattle.table.specs.Wrote.{Wrote};
@@ -8,7 +10,7 @@ ghost use Rattle.flags.specs.Clauses.{ReadsFlags};
 // ---- "A BINARY2 row begins with (columns+7)/8 bytes, rounded down, of flags"
 
 // The flags of a row as one number, the first column's the highest of its digits in base 2, and the place after them.
-#[derive(Drop)]
+#[derive(Clone, Copy)]
 pub enum Flags {
     Are(u64, usize),
     Spoiled(u64),

@@ -1,1 +1,3 @@
 // What is valid, as a grammar that reads nothing, and theorems that the readers take exactly that: no code.
+#![tactic(auto)]
+

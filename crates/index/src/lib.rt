@@ -1,1 +1,3 @@
 // What an index of a stream is, and one row fetched by it: no code.
+#![tactic(auto)]
+

@@ -1,4 +1,6 @@
 // An index of a stream: its rows are passed over, and one in 64 has its start entered.
+#![tactic(auto)]
+
 ghost use Rattle.std.specs.Prelude.{◌≡◌, ◌<◌, ◌^◌, ◌≤◌, length, []};
 ghost use Rattle.table.specs.Cell.{most_elements};
 ghost use Rattle.table.specs.ColumnList.{listed};

@@ -1,4 +1,6 @@
 // Integers in the text of a cell: digits eight at once, and words that are plain; everything else is left to the careful way.
+#![tactic(auto)]
+
 ghost use Rattle.std.specs.Prelude.{cond, ◌≡◌, ◌+◌, ◌<◌, ◌^◌, ◌≤◌, drop, length};
 ghost use Rattle.std.specs.Int.Bits.{bit_xor};
 ghost use Rattle.eights.specs.Marks.{Marks};
@@ -52,7 +54,7 @@ fn decimal_of(t: u64) -> u64
 }
 
 // A run of digits: their number, and how many they are.
-#[derive(Drop)]
+#[derive(Clone, Copy)]
 pub struct Run {
     pub number: u64,
     pub count: usize,

@@ -1,4 +1,6 @@
 // Integers in bytes: "Integers are big-endian, two's complement for the signed: 1, 2, 4, 8 bytes."
+#![tactic(auto)]
+
 ghost use Rattle.std.specs.Prelude.{◌≡◌, false, true, ◌%◌, ◌+◌, ◌^◌, ◌≤◌, drop, length, take};
 ghost use Rattle.number.specs.Clauses.{is_signed, size};
 ghost use Rattle.number.specs.Number.{of_digits, of_pattern, pattern, to_digits};

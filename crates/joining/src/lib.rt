@@ -1,4 +1,6 @@
 // Parts that were converted each by itself, joined in order: a part more, and a list of them as numbers.
+#![tactic(auto)]
+
 ghost use Rattle.std.specs.Prelude.{◌≡◌, cond, true, ◌+◌, ◌≤◌, eqb, leb, length};
 ghost use Rattle.parts.specs.Join.{is_counted, is_final, is_used, join, joined_with, first_part, parts_of};
 

@@ -1,5 +1,7 @@
 // Eight bytes as one number, the first byte lowest: the first of marks is then the lowest (`first_lowest` of eights), and eight digits become a number by
 // sums alone.
+#![tactic(auto)]
+
 ghost use Rattle.std.specs.Prelude.{◌≡◌, ◌+◌, ◌^◌, ◌≤◌, drop, length, take};
 ghost use Rattle.eights.specs.Lowest.{of_lowest};
 ghost use Rattle.lowest.specs.Lowest.{DecimalIs, FrontIs};

@@ -8,6 +8,8 @@
 // place of the room stands how many bytes the first has, and in two digits how many numbers are lent. Its line has the numbers of the answer and
 // sixteen numbers that held 4008636142, lent or not. `j` joins parts of an input of 100 bytes to nothing, in the room given: each byte of the input
 // is a number of a part. Its line has the eight numbers.
+#![tactic(auto)]
+
 ghost use Rattle.std.specs.Prelude.{◌<◌, ◌≤◌, length};
 ghost use Rattle.night.specs.Places.{Behind};
 

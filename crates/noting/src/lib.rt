@@ -1,4 +1,6 @@
 // Places in a buffer: the row and the column of each cell that differs, two numbers each, one behind the other.
+#![tactic(auto)]
+
 ghost use Rattle.std.specs.Prelude.{◌≡◌, ◌+◌, ◌<◌, ◌^◌, ◌≤◌};
 ghost use Rattle.number.specs.Number.{to_digits};
 ghost use Rattle.noting.specs.Places.{Notes, marked, marked_at, noted_at};

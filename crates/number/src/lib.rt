@@ -1,4 +1,6 @@
 // What integers are: the kinds of them. What their bytes and words mean is in specs/; the code stands in integers, decimals and words.
+#![tactic(auto)]
+
 ghost use Rattle.std.specs.Prelude.{◌≡◌, ◌≤◌};
 ghost use Rattle.number.specs.Clauses.{shape_as, size};
 ghost use Rattle.table.specs.Shape.{shape};
@@ -6,7 +8,7 @@ ghost use Rattle.table.specs.Shape.{shape};
 use table::Kind;
 
 // The kinds of integers, and only they: of these each has a width, and a sign or none.
-#[derive(Drop)]
+#[derive(Clone, Copy)]
 pub enum Integer {
     UnsignedByte,
     Short,
@@ -27,7 +29,7 @@ pub fn integer_bytes(kind: Integer) -> usize
 }
 
 // The kinds by what their elements are, as the definitions look at them (`Shape`): four cases in place of seven.
-#[derive(Drop)]
+#[derive(Clone, Copy)]
 pub enum Elements {
     Truths,
     Bits,

@@ -1,4 +1,6 @@
 // What the functions for C have in common: a kind of rows by its number, and an answer as the numbers that a caller gets.
+#![tactic(auto)]
+
 ghost use Rattle.std.specs.Prelude.{◌≡◌};
 ghost use Rattle.numbering.specs.Named.{named_as};
 ghost use Rattle.numbering.specs.Numbering.{binary_of, eight, five, joined_numbers, joined_of, rows_of, six};
@@ -23,7 +25,7 @@ pub fn put_piece(piece: Piece, answer: &mut [u64; 6])
 }
 
 // A kind of rows by its number, or none.
-#[derive(Drop)]
+#[derive(Clone, Copy)]
 pub enum Named {
     Known(Rows),
     Unknown,

@@ -1,5 +1,7 @@
 // Pieces and parts of an input, of the face itself: functions whose bodies are calls of the functions for C and no more, and whose contracts say that
 // these are together one call. None that is public has a `requires`.
+#![tactic(auto)]
+
 ghost use Rattle.std.specs.Prelude.{◌-◌, ◌≤◌, ◌++◌, ◌≡◌, length, take};
 ghost use Rattle.sailmortar.specs.Face.{join_face};
 ghost use Rattle.promises.specs.Promises.{Between, RowsOrRefusal, call_of};

@@ -1,4 +1,6 @@
 // Cells of BINARY and BINARY2 moved by their column's step: one decision for each cell. What a step says nothing of goes by its column.
+#![tactic(auto)]
+
 ghost use Rattle.std.specs.Prelude.{false, true, ◌≡◌, ◌+◌, ◌≤◌, length};
 ghost use Rattle.cell_putting.specs.Clauses.{is_text, most_room};
 ghost use Rattle.moving.specs.Cells.{MovesCell, MovesRead};

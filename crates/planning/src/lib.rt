@@ -1,5 +1,7 @@
 // A plan, found once for a table: what the cells of each column want, in small structs, so that a cell of BINARY or BINARY2 is one decision. What
 // has no step of its own here goes by its column.
+#![tactic(auto)]
+
 ghost use Rattle.std.specs.Prelude.{◌≡◌, ◌≤◌};
 ghost use Rattle.planning.specs.Plan.{counted_step, no_step, plan_of, step_of, want_of};
 ghost use Rattle.rows.specs.Bounds.{Within};
@@ -13,7 +15,7 @@ use table::{Column, Columns, Kind, Len, Null};
 
 // One boolean or one integer, which may stand for null; bytes, or a count and bits that fill their bytes, that go as they stand among BINARY and
 // BINARY2; or none of these.
-#[derive(Drop)]
+#[derive(Clone, Copy)]
 pub enum Want {
     Other,
     Bytes,
@@ -23,7 +25,7 @@ pub enum Want {
 }
 
 // What a column's cells want, the bytes of a cell (the most, where it has a count), and the declared null.
-#[derive(Drop)]
+#[derive(Clone, Copy)]
 pub struct Step {
     pub want: Want,
     pub bytes: usize,
@@ -31,7 +33,7 @@ pub struct Step {
 }
 
 // A step for each column.
-#[derive(Drop)]
+#[derive(Clone, Copy)]
 pub struct Plan {
     pub list: [Step; 64],
 }

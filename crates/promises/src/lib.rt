@@ -1,5 +1,7 @@
 // The demands, of the face itself: functions whose bodies are calls of the functions for C and no more, and whose contracts are the demands, over
 // the slices at entry and at exit. None that is public has a `requires`: "Callers check nothing first."
+#![tactic(auto)]
+
 ghost use Rattle.promises.specs.Promises.{Between, MeansWhatWasRead, NothingElse, RowsOrRefusal, ThereAndBack, Unnamed, call_of, made};
 
 // Demands 1 and 2: one call.

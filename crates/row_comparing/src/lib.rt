@@ -1,4 +1,6 @@
 // A row of each of two inputs, read in step: which of their cells show differently. Nothing is kept but two cells.
+#![tactic(auto)]
+
 ghost use Rattle.std.specs.Prelude.{◌≡◌, ◌≤◌, suc, drop, length, take};
 ghost use Rattle.table.specs.Cell.{bound, most_elements};
 ghost use Rattle.table.specs.ColumnList.{listed};
@@ -13,21 +15,21 @@ use row_reading::{Begin, Close, begin_row, end_row, flag_of, read_cell};
 use table::{Column, Columns, Found, Rows};
 
 // A place in an input of a kind.
-#[derive(Drop)]
+#[derive(Clone, Copy)]
 pub struct Cursor {
     pub from: Rows,
     pub at: usize,
 }
 
 // A cell of each input: whether they show the same, and the places after them; or one of the two does not read.
-#[derive(Drop)]
+#[derive(Clone, Copy)]
 enum CellPair {
     Read(bool, usize, usize),
     Unread,
 }
 
 // A row of each input: the columns whose cells show differently, as a word of flags, and the places after the rows; or one of the two does not read.
-#[derive(Drop)]
+#[derive(Clone, Copy)]
 pub enum RowPair {
     Read(u64, usize, usize),
     Unread,

@@ -1,5 +1,7 @@
 // Rows of one kind to rows of another, each made in a buffer of its own and then copied to the output whole: a row that is refused, or does not fit,
 // writes nothing, and no cell is measured before it is written.
+#![tactic(auto)]
+
 ghost use Rattle.std.specs.Prelude.{◌≡◌, ◌+◌, ◌<◌, ◌≤◌, length, take};
 ghost use Rattle.moving.specs.Rows.{MovesRows, most_frame_bytes};
 ghost use Rattle.row_moving.specs.Clauses.{FramesRow};
@@ -22,7 +24,7 @@ use table::{Columns, Rows};
 use text::put_bytes;
 
 // Rows that are done: the place in the input where they end, how many they are, and the bytes written.
-#[derive(Drop)]
+#[derive(Clone, Copy)]
 pub struct Done {
     pub place: usize,
     pub rows: u64,
@@ -30,7 +32,7 @@ pub struct Done {
 }
 
 // A row as it stands in the buffer, of so many bytes; or the buffer has no room for it.
-#[derive(Drop)]
+#[derive(Clone, Copy)]
 pub enum Framed {
     Row(usize),
     TooLong,

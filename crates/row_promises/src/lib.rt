@@ -1,4 +1,6 @@
 // An index and one row by it, of the face itself: functions whose bodies are calls of the functions for C and no more. None has a `requires`.
+#![tactic(auto)]
+
 ghost use Rattle.row_promises.specs.OneRow.{FetchedRow, Indexed, NotBinary, OfBinary, SameFetched};
 ghost use Rattle.promises.specs.Promises.{call_of};
 

@@ -1,4 +1,6 @@
 // Rows of any kind, read: where the input ends, what begins and ends a row, its flags and its cells; and rows that are passed over.
+#![tactic(auto)]
+
 ghost use Rattle.std.specs.Prelude.{◌≡◌, ◌<◌, ◌≤◌, drop, length};
 ghost use Rattle.table.specs.Cell.{bound, most_elements};
 ghost use Rattle.table.specs.Clauses.{Reads};
@@ -16,28 +18,28 @@ use tabledata_reading::read_text;
 use text::{Tag, skip_white};
 
 // What begins a row: its flags, as a word whose digits in base 2 they are, and where its cells begin; or the number of its refusal.
-#[derive(Drop)]
+#[derive(Clone, Copy)]
 pub enum Begin {
     Row(u64, usize),
     Refused(u64),
 }
 
 // What ends a row: the place after it, or the number of its refusal.
-#[derive(Drop)]
+#[derive(Clone, Copy)]
 pub enum Close {
     Closed(usize),
     Refused(u64),
 }
 
 // A cell that is passed over: the place after it, or the number of its refusal.
-#[derive(Drop)]
+#[derive(Clone, Copy)]
 enum Next {
     At(usize),
     Refused(u64),
 }
 
 // A row that is passed over: the place after it, or its refusal's number and column.
-#[derive(Drop)]
+#[derive(Clone, Copy)]
 pub enum Passed {
     At(usize),
     Refused(u64, usize),

@@ -1,4 +1,6 @@
 // The tags of a TABLEDATA row, read and written.
+#![tactic(auto)]
+
 ghost use Rattle.std.specs.Prelude.{◌+◌, ◌≤◌, drop, length, ◌++◌};
 ghost use Rattle.table.specs.Bytes.{bytes, skip_white, tag};
 ghost use Rattle.table.specs.Wrote.{Wrote};

@@ -1,5 +1,7 @@
 // Rows of any kind, written: the size of a cell and of what stands around a row's cells; a row's start, its cells and its end, from the cells that
 // the scratch holds, or from the input once more.
+#![tactic(auto)]
+
 ghost use Rattle.std.specs.Prelude.{◌≡◌, false, ℕ, ◌+◌, ◌<◌, ◌≤◌, drop, length};
 ghost use Rattle.table.specs.Cell.{bound, most_elements};
 ghost use Rattle.table.specs.Clauses.{held, size_as, size_of};
@@ -17,21 +19,21 @@ use table::{Column, Columns, Found, Rows, Size};
 use tabledata_writing::{size_text, write_text};
 
 // The cells of a row in the scratch, each with its count before it: so much of the scratch holds them, or they are not held.
-#[derive(Drop)]
+#[derive(Clone, Copy)]
 pub enum Holding {
     Holds(usize),
     Lost,
 }
 
 // A cell that the scratch holds.
-#[derive(Drop)]
+#[derive(Clone, Copy)]
 enum Held {
     Null,
     Shown(usize),
 }
 
 // A row while it is written: the next cell's place in the input, or in the scratch that holds it, and in the output.
-#[derive(Drop)]
+#[derive(Clone, Copy)]
 struct Writing {
     at: usize,
     to: usize,

@@ -1,5 +1,7 @@
 // The public face: the functions for C, Rust and Python, numbers and slices only. `answer` gets the number, the row, the column, the rows done
 // and the bytes written.
+#![tactic(auto)]
+
 ghost use Rattle.std.specs.Prelude.{◌≡◌};
 ghost use Rattle.sailmortar.specs.Face.{compare_face, convert_face, declare_face, decode_face, encode_face, fetch_face, index_face, join_face, piece_face};
 

@@ -1,5 +1,7 @@
 // The demands of base64 and of declarations alone, of the face itself: functions whose bodies are calls of the functions for C and no more. None has a
 // `requires`.
+#![tactic(auto)]
+
 ghost use Rattle.step_promises.specs.Steps.{DeclaresExactly, DecodesExactly, EncodedAndDecoded, EncodedOrRefused};
 ghost use Rattle.promises.specs.Promises.{call_of};
 

@@ -1,5 +1,7 @@
 // The definitions of TABLEDATA and their laws; of code only what reading (crate tabledata_reading) and writing (crate tabledata_writing) both
 // ask of a character.
+#![tactic(auto)]
+
 ghost use Rattle.std.specs.Prelude.{◌≡◌};
 ghost use Rattle.tabledata.specs.Clauses.{is_plain};
 ghost use Rattle.tabledata.specs.TableData.{is_text};

@@ -1,4 +1,6 @@
 // A cell of TABLEDATA is read, and what it shows.
+#![tactic(auto)]
+
 mod cells;
 mod openings;
 

@@ -5,7 +5,7 @@ ghost use Rattle.tabledata_reading.specs.Openings.{OpeningIs};
 use text::{Tag, ends, goes_on};
 
 // How a cell begins: `<TD/>`, or `<TD>` and its content.
-#[derive(Drop)]
+#[derive(Clone, Copy)]
 pub enum Opening {
     Empty(usize),
     Content(usize),

@@ -1,4 +1,6 @@
 // A cell of TABLEDATA is measured and written.
+#![tactic(auto)]
+
 ghost use Rattle.std.specs.Prelude.{◌+◌, ◌≤◌, pos, drop, length, take, ◌∷◌, map, ◌≡◌};
 ghost use Rattle.number.specs.Number.{shortest};
 ghost use Rattle.table.specs.Cell.{most_elements};

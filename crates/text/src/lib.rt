@@ -1,12 +1,14 @@
 // Bytes of a text, as declarations, words, base64 and TABLEDATA share them: white space, a word at a place, whole tags, hexadigits; and
 // bytes that are written at a place.
+#![tactic(auto)]
+
 ghost use Rattle.std.specs.Prelude.{◌+◌, ◌≤◌, drop, length, ◌≡◌};
 ghost use Rattle.table.specs.Bytes.{after, ends, is_white, same, tag};
 ghost use Rattle.table.specs.Wrote.{Wrote};
 ghost use Rattle.text.specs.Clauses.{DigitIs, Skipped, TagIs};
 
 // The place after what was looked for; or it is not there as it should be.
-#[derive(Drop)]
+#[derive(Clone, Copy)]
 pub enum Tag {
     At(usize),
     Broken,

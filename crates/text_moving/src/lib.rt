@@ -1,5 +1,7 @@
 // A cell of TABLEDATA, moved from the input into a row's buffer as any kind of rows has it: what is plain at once, everything else is left to the
 // careful way.
+#![tactic(auto)]
+
 ghost use Rattle.std.specs.Prelude.{Bool, true, ◌≡◌, ◌+◌, ◌≤◌, length};
 ghost use Rattle.cell_putting.specs.Clauses.{most_room};
 ghost use Rattle.moving.specs.Cells.{MovesCell, MovesRead, NeverNull};
@@ -26,7 +28,7 @@ use text::skip_white;
 // ---- tags
 
 // How a cell begins: `<TD/>` or `<TD>`, and the place after it; or it is for the careful way.
-#[derive(Drop)]
+#[derive(Clone, Copy)]
 pub enum Opening {
     Empty(usize),
     Content(usize),

@@ -1,4 +1,6 @@
 // Words read as integers: a character at a time, the whole text as one word, and words of plain digits quickly.
+#![tactic(auto)]
+
 
 ghost use Rattle.std.specs.Prelude.{◌≡◌, false, true, ◌*◌, ◌<◌, ◌≤◌, length};
 ghost use Rattle.number.specs.Clauses.{is_signed, size};
@@ -47,7 +49,7 @@ fn most_hexadigits(kind: Integer) -> usize
 // ---- words, a character at a time
 
 // What a word has been so far.
-#[derive(Drop)]
+#[derive(Clone, Copy)]
 pub enum Form {
     Start,
     // `0` alone: digits may follow, or `x`
@@ -61,7 +63,7 @@ pub enum Form {
 }
 
 // A word that is being read: its form, how many digits it has, and their number (of a decimal one at most 10 ^ 19, which is outside every kind).
-#[derive(Drop)]
+#[derive(Clone, Copy)]
 pub struct Word {
     pub form: Form,
     pub count: usize,
@@ -69,7 +71,7 @@ pub struct Word {
 }
 
 // What a word is at a kind of integers.
-#[derive(Drop)]
+#[derive(Clone, Copy)]
 pub enum IntegerRead {
     Value(i64),
     // written as an integer, but outside the kind's range
@@ -272,7 +274,7 @@ impl Word {
 // ---- words of plain digits, quickly
 
 // A run of digits: their number, and the place after them.
-#[derive(Drop)]
+#[derive(Clone, Copy)]
 struct Digits {
     pub number: u64,
     pub next: usize,
@@ -307,7 +309,7 @@ fn quick_digits(s: &[u8], at: usize) -> Digits
 }
 
 // An integer that was read at once, and the place after it; or a word for the careful way.
-#[derive(Drop)]
+#[derive(Clone, Copy)]
 pub enum Quick {
     Value(i64, usize),
     Careful,

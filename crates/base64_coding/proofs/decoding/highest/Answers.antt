@@ -1,0 +1,28 @@
+-- `base64_coding::decoding::highest` meets its contract. The invariant: the highest of all bytes is that of the most so far and of what is left.
+use Prim.Native.Nat.{◌-◌, ◌≤◌}
+use mathlib.Core.Bool.{cond}
+use mathlib.Core.Path.{◌∙◌, ◌≡◌, refl, sym}
+use mathlib.Core.Logic.{⊎_elim}
+use lib.Dec.{ltb}
+use lib.ListN.{drop, get_or, length}
+use borrow.Author.Rules.{rules}
+use borrow.Author.Tests.{le-ltb, lt-ltb}
+use native.Mathlib.Omega.{arith}
+use Rattle.base64_coding.specs.Clauses.{highest_from}
+use Rattle.base64_coding.proofs.High.{highest-end, highest-more}
+use Rattle.base64_coding.proofs.decoding.highest.Goals as goal
+
+pub loop-k-init : goal.loop-k-init
+loop-k-init c = (search rules, refl)
+
+pub loop-k-preserved : goal.loop-k-preserved
+loop-k-preserved c =
+    let s = c.args.s.now in
+    let most = c.loop-k.most in
+    let byte = get_or s c.loop-k.k 0 in
+    let step : c.if-most-c.most ≡ cond (ltb most byte) byte most =
+    ⊎_elim (λ w. w.1 ∙ rw (lt-ltb most byte w.0.taken)) (λ w. w.1 ∙ rw (le-ltb most byte w.0.left)) c.if-most-c.branch in
+    (omega arith, c.loop-k.invariant.1 ∙ highest-more s c.loop-k.k most c.if-most-c.most (omega arith) step)
+
+pub returns : goal.returns
+returns c = sym (c.loop-k.invariant.1 ∙ highest-end c.args.s.now c.loop-k.k c.loop-k.most (omega arith))

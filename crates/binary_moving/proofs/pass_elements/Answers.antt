@@ -1,0 +1,54 @@
+-- binary_moving::pass_elements: the content is put behind room for its count, then the count and what it is filled up with.
+use mathlib.Core.List.{List, []}
+use mathlib.Core.Path.{◌≡◌, refl, subst}
+use Prim.Native.Nat.{◌+◌, ◌≤◌, ℕ}
+use Rattle.binary_moving.proofs.Contents.{bytes-moved}
+use Rattle.cell_putting.proofs.Elements.{binary-writes, binary2-writes}
+use Rattle.cell_putting.proofs.Stores.{puts_lower}
+use Rattle.moving.proofs.Puts.{puts_none}
+use Rattle.moving.specs.Contents.{AsBinary, ContentMoved, InBinary, MovesContent}
+use Rattle.moving.specs.Puts.{Puts}
+use Rattle.table.specs.Shape.{shape}
+use Rattle.table.specs.declared.Rows.TheVariants.{Binary, Binary2}
+use borrow.Author.Rules.{rules}
+use native.Mathlib.Omega.{arith}
+use Rattle.binary_moving.proofs.pass_elements.Goals as goal
+
+pub returns-then-row-inner : goal.returns-then-row-inner
+returns-then-row-inner c =
+    let h = puts_none c.args.row.now c.args.o (omega (arith, c.requires.2)) in record { moves_read = λ from never. h; moves_read_2 = λ from never. h }
+
+pub pass_content-requires : goal.pass_content-requires
+pass_content-requires c =
+    let z = c.content_bytes-bytes.ensures.0 in
+    (c.requires.0, c.requires.1, omega (arith, z, c.if-row-inner.false, c.count_size.ensures.0, c.requires.2))
+
+pub fill_up-requires : goal.fill_up-requires
+fill_up-requires c =
+    let inner : ℕ = c.args.o + c.count_size.result in
+    let mid : List ℕ = c.pass_content.new.row in
+    let moved : let a = c.args in ContentMoved (InBinary (shape a.column.kind) a.n a.s.now a.at) (AsBinary (shape a.column.kind)) a.row.now inner mid c.in-Elements.count c.in-Elements.next c.in-Elements.end = (let a = c.args in
+    subst (MovesContent (InBinary (shape a.column.kind) a.n a.s.now a.at) (AsBinary (shape a.column.kind)) a.row.now inner mid) c.in-Elements.is
+    c.pass_content.ensures) in
+    let x = moved.puts in
+    (c.if-count-gt-MOST_ELEMENTS.false, omega (arith, x.long, c.requires.2), omega (arith, x.long, x.room))
+
+pub returns : goal.returns
+returns-then-row-inner c =
+    let inner : ℕ = c.args.o + c.count_size.result in
+    let mid : List ℕ = c.pass_content.new.row in
+    let moved : let a = c.args in ContentMoved (InBinary (shape a.column.kind) a.n a.s.now a.at) (AsBinary (shape a.column.kind)) a.row.now inner mid c.in-Elements.count c.in-Elements.next c.in-Elements.end = (let a = c.args in
+    subst (MovesContent (InBinary (shape a.column.kind) a.n a.s.now a.at) (AsBinary (shape a.column.kind)) a.row.now inner mid) c.in-Elements.is
+    c.pass_content.ensures) in
+    let a = c.args in
+    let n = c.count_size.ensures.1 c.in-Elements.count in
+    let some : 1 ≤ c.in-Elements.count = omega (arith, c.if-count-eq0.false) in
+    let f = c.fill_up in
+    record {
+      moves_read = λ from never. bytes-moved (InBinary (shape a.column.kind) a.n a.s.now a.at) from a.column never a.row.now a.o inner Binary mid f.new.row _
+          _ _ _ f.result
+          (λ es m. binary-writes a.column es m) moved refl n some f.ensures;
+      moves_read_2 = λ from never. bytes-moved (InBinary (shape a.column.kind) a.n a.s.now a.at) from a.column never a.row.now a.o inner Binary2 mid f.new.row
+          _ _ _ _ f.result
+          (λ es m. binary2-writes a.column es) moved refl n some f.ensures;
+    }

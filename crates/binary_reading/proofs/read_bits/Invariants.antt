@@ -1,0 +1,26 @@
+-- `binary::read_bits` meets its contract. The loop's invariant: the bits of the bytes from k on, put from 8 * k on, make the whole. Then
+-- the padding is the low bits of the last byte.
+use Prim.Native.Nat.{◌*◌, ◌+◌, ◌-◌, ◌≤◌}
+use Rattle.binary.proofs.Digits.{bits-all, bits-next, content-bits, no-padding, spare-test, unit-some}
+use Rattle.binary.specs.Binary.{bits_of}
+use Rattle.table.specs.Result.{good}
+use borrow.Author.Rules.{rules}
+use borrow.Author.Tests.{eq-eqb, ne_eqb}
+use lib.IntN.{pos, ℤ}
+use lib.ListN.{drop, length}
+use lib.Seq.{length-sets, sets}
+use mathlib.Core.Bool.{false, true}
+use mathlib.Core.List.{List, map}
+use mathlib.Core.Path.{◌∙◌, ◌≡◌, ap, refl, sym}
+use native.Mathlib.Nat.{le_refl}
+use native.Mathlib.Omega.{arith}
+use Rattle.binary_reading.proofs.read_bits.Given as goal
+
+abbrev pub invariant-loop-k : goal.invariant-loop-k
+invariant-loop-k l =
+    (l.k ≤ length l.part) × (length l.scratch ≡ length l.initial.scratch)
+    × (sets l.scratch (8 * l.k) (map pos (bits_of (drop l.k l.part))) ≡ sets l.initial.scratch 0 (map pos (bits_of l.part)))
+
+abbrev pub decreases-loop-k : goal.decreases-loop-k
+decreases-loop-k l =
+    length l.part - l.k

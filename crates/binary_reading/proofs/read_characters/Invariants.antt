@@ -1,0 +1,22 @@
+-- `binary::read_characters` meets its contract. The loop's invariant is that of `read_truths`, over the bytes before the first NUL.
+use Prim.Native.Nat.{◌-◌, ◌<◌, ◌^◌, ◌≤◌}
+use Rattle.binary.proofs.Loops.{at-nul, letter-bad, letter-good, next-letter, no-letter, onto, onto-none, read-end, read_more, read-refused}
+use Rattle.binary.specs.Binary.{before_nul, element}
+use Rattle.table.specs.Result.{every, good}
+use Rattle.table.specs.Shape.{Text}
+use borrow.Author.Rules.{rules, sfits_of}
+use lib.ListN.{drop, get_or, length, length-set, take}
+use mathlib.Core.Path.{◌∙◌, ◌≡◌, ap, refl, sym}
+use mir.Facts.{to_z_pos}
+use mir.Syntax.{w64}
+use native.Mathlib.Omega.{arith}
+use Rattle.binary_reading.proofs.read_characters.Given as goal
+
+abbrev pub invariant-loop-k : goal.invariant-loop-k
+invariant-loop-k l =
+    (l.k ≤ length l.part) × (length l.scratch ≡ length l.initial.scratch)
+    × (every (element Text) (before_nul l.part) ≡ onto (take l.k l.scratch) (every (element Text) (before_nul (drop l.k l.part))))
+
+abbrev pub decreases-loop-k : goal.decreases-loop-k
+decreases-loop-k l =
+    length l.part - l.k

@@ -1,0 +1,18 @@
+-- `content_copying::most_after_minus` meets its contract: by the largest integer of each kind; an unsigned one has none.
+use native.Mathlib.Omega.{arith}
+use mathlib.Core.Path.{refl}
+use lib.Dec.{lit≤}
+use borrow.Author.Rules.{rules}
+use Rattle.content_copying.proofs.most_after_minus.Goals as goal
+
+pub returns-in-UnsignedByte : goal.returns-in-UnsignedByte
+returns-in-UnsignedByte c = rw c.in-UnsignedByte.is (record { range = lit≤ tt; few = lit≤ tt }, λ h. absurd (omega arith))
+
+pub returns-in-Short : goal.returns-in-Short
+returns-in-Short c = rw c.in-Short.is (record { range = lit≤ tt; few = lit≤ tt }, λ h. refl)
+
+pub returns-in-Int : goal.returns-in-Int
+returns-in-Int c = rw c.in-Int.is (record { range = lit≤ tt; few = lit≤ tt }, λ h. refl)
+
+pub returns-in-Long : goal.returns-in-Long
+returns-in-Long c = rw c.in-Long.is (record { range = lit≤ tt; few = lit≤ tt }, λ h. refl)

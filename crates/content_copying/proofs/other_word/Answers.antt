@@ -1,0 +1,28 @@
+-- `content_copying::other_word` meets its contract: the word's integer is read, and put as it is written.
+use native.Mathlib.Omega.{arith}
+use mathlib.Core.List.{[], ◌++◌, ◌∷◌}
+use mathlib.Core.Path.{◌≡◌, ap, subst}
+use lib.IntN.{ℤ}
+use mir.Syntax.{w64}
+use mir.Val.{of_z, to_z}
+use Rattle.moving.proofs.Puts.{puts-as, puts_none}
+use Rattle.moving.specs.Contents.{FindsOne}
+use Rattle.number.specs.Number.{shortest}
+use borrow.Author.Rules.{rules}
+use Rattle.content_copying.proofs.other_word.Goals as goal
+
+pub returns-in_default : goal.returns-in_default
+returns-in_default c = puts_none _ _ (omega arith)
+
+pub shape_of-row : goal.shape_of-row
+shape_of-row c = c.put_word-e.ensures.long
+
+pub returns : goal.returns
+returns-in_default c =
+    let z : ℤ = c.in-Element.z in
+    let e : to_z w64 (of_z w64 z) ≡ z = search rules in
+    record {
+      z = c.in-Element.z;
+      reads = subst (FindsOne _) c.in-Element.is c.text_integer.ensures;
+      puts = puts-as (ap (λ (y : ℤ). shortest y ++ (32 ∷ [])) e) c.put_word-e.ensures;
+    }

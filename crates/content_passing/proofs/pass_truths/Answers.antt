@@ -1,0 +1,33 @@
+-- `content_passing::pass_truths` meets its contract: before each turn the letters of the first k bytes are put, and 0 stands for all having one.
+use Prim.Native.Nat.{◌+◌, ◌-◌, ◌≤◌}
+use native.Mathlib.Omega.{arith}
+use mathlib.Core.List.{map}
+use mathlib.Core.Path.{◌≡◌, refl}
+use lib.ListN.{drop, take}
+use Rattle.content_passing.proofs.Copies.{puts_one, puts-start}
+use Rattle.content_passing.proofs.Truths.{HasLetter, letter, next-found, next-letters, truths-moved}
+use Rattle.moving.proofs.Puts.{puts-as, puts-before}
+use Rattle.moving.specs.Puts.{Puts}
+use Rattle.table.specs.All.{All}
+use borrow.Author.Rules.{rules}
+use Rattle.content_passing.proofs.pass_truths.Goals as goal
+
+pub loop-k-init : goal.loop-k-init
+loop-k-init c = (omega arith, puts-start _ _ (omega arith), λ _. tt)
+
+pub loop-k-preserved : goal.loop-k-preserved
+loop-k-preserved c =
+    let l = c.loop-k in let a = c.args in
+    let found = c.truth_letter-letter.ensures in (
+      omega arith,
+      puts-as (next-letters a.s.now a.at l.k _ (omega arith) found) (puts_one _ _ l.invariant.1 (omega arith) (omega arith)),
+      next-found a.s.now a.at l.k l.none _ (omega arith) found l.invariant.2,
+    )
+
+pub returns-then-none-eq0 : goal.returns-then-none-eq0
+returns-then-none-eq0 c =
+    let l = c.loop-k in let a = c.args in
+    truths-moved a.n l.k a.s.now a.row.now l.row a.at a.o _ (omega arith) (omega arith) refl (l.invariant.2 c.if-none-eq0.true) l.invariant.1
+
+pub returns : goal.returns
+returns-then-none-eq0 c = puts-before c.loop-k.invariant.1

@@ -1,0 +1,11 @@
+-- `content_reading::no_bits` meets its contract: byte by byte, and of a byte by computation.
+use native.Mathlib.Omega.{arith}
+use lib.Bits.{and_le_r, bit_xor}
+use Rattle.integer_reading.proofs.Lanes.{bits-marked}
+use Rattle.content_reading.proofs.no_bits.Goals as goal
+
+pub overflow_add-result : goal.overflow_add-result
+overflow_add-result c = record { fits = omega (arith, and_le_r (bit_xor c.args.x 3472328296227680304) 9187201950435737471) }
+
+pub returns : goal.returns
+returns c = record { marked = λ ds l a. bits-marked ds l a c.args.x }

@@ -1,0 +1,15 @@
+-- `content_showing::put_truths` meets its contract: before each turn the letters of the first k bytes are put.
+use Prim.Native.Nat.{◌*◌, ◌+◌, ◌-◌, ◌<◌, ◌≤◌, ℕ}
+use mathlib.Core.Path.{◌≡◌, refl, subst}
+use lib.ListN.{drop, length, take}
+use Rattle.content_showing.proofs.Truths.{truth-more, truths-start}
+use Rattle.content_showing.specs.Showing.{TruthsPut}
+use native.Mathlib.Omega.{arith}
+use borrow.Author.Rules.{rules}
+use Rattle.content_showing.proofs.put_truths.Given as goal
+
+abbrev pub invariant-loop-k : goal.invariant-loop-k
+invariant-loop-k l = (l.k ≤ l.n) × TruthsPut (take l.k (drop l.at l.s)) l.initial.row l.o l.row (l.o + 2 * l.k) l.bad
+
+abbrev pub decreases-loop-k : goal.decreases-loop-k
+decreases-loop-k l = l.n - l.k

@@ -1,0 +1,14 @@
+-- `content_showing::reference_word` meets its contract: by computation over the bytes. What fits as a sum fits in parts.
+use lib.Dec.{eqb}
+use Rattle.content_showing.proofs.Text.{bit_le, word-is}
+use native.Mathlib.Omega.{arith}
+use borrow.Author.Rules.{rules}
+use Rattle.content_showing.proofs.reference_word.Goals as goal
+
+pub overflow_add-result-5 : goal.overflow_add-result-5
+overflow_add-result-5 c =
+    let b = c.args.b in
+    record { fits = omega (arith, bit_le (eqb b 38), bit_le (eqb b 60), bit_le (eqb b 62), bit_le (eqb b 13), bit_le (eqb b 9), bit_le (eqb b 10)) }
+
+pub returns : goal.returns
+returns c = word-is c.args.b c.ranges.b.fits

@@ -1,0 +1,16 @@
+-- declaring::attributes::with_attribute: the tally after an attribute: each name that counts is compared with the attribute's.
+use Rattle.declaring.specs.Readers.{with_attribute}
+use borrow.Author.Rules.{rules}
+use Rattle.declaring.proofs.attributes.with_attribute.Goals as goal
+
+pub returns : goal.returns
+unfolding with_attribute
+returns c =
+    rw (
+      c.met_again-null.ensures,
+      c.met_again-arraysize.ensures,
+      c.met_again-datatype.ensures,
+      c.same_bytes-3.ensures,
+      c.same_bytes-2.ensures,
+      c.same_bytes.ensures,
+    )

@@ -1,0 +1,70 @@
+-- row_reading::pass_rows: the loop over rows (RowsPassed: the count from the start on is the count of going on from here); each way out is one law
+-- of PassedRows.
+use Prim.Native.Nat.{◌-◌}
+use mathlib.Core.Bool.{false}
+use mathlib.Core.Path.{◌∙◌, ◌≡◌, refl, subst, sym}
+use lib.ListN.{drop, length}
+use Rattle.table.specs.ColumnList.{listed}
+use Rattle.row_reading.proofs.PassedRows.{pass-end, pass-more, pass-start, pass-stop}
+use Rattle.row_reading.specs.Clauses.{PassesRow, RowsPassed}
+use Rattle.rows.specs.Stream.{at_end}
+use borrow.Author.Rules.{rules}
+use borrow.Author.Tests.{not-false, not-true}
+use native.Mathlib.Omega.{arith}
+use Rattle.row_reading.proofs.pass_rows.Goals as goal
+
+pub loop-cols-init : goal.loop-cols-init
+loop-cols-init c =
+    (pass-start c.args.from (listed c.args.cols) c.args.s.now c.args.start c.args.before c.requires.1 c.requires.2, refl)
+
+pub at_end-requires : goal.at_end-requires
+at_end-requires c = c.loop-cols.invariant.0.inside
+
+pub pass_row-p-requires : goal.pass_row-p-requires
+pass_row-p-requires c =
+    (c.requires.0, c.loop-cols.invariant.0.inside, omega (arith, c.loop-cols.invariant.1, c.requires.3))
+
+pub shape_of-scratch-in-Refused : goal.shape_of-scratch-in-Refused
+shape_of-scratch-in-Refused c = c.pass_row-p.ensures.scratch_len_unchanged ∙ c.loop-cols.invariant.1
+
+pub returns-in-Refused : goal.returns-in-Refused
+returns-in-Refused c =
+    let left : at_end c.args.from (drop c.loop-cols.at c.args.s.now) ≡ false = sym c.at_end.ensures ∙ c.loop-cols-test.true in
+    let p = c.pass_row-p in
+    let h = subst (PassesRow _ _ _) c.in-Refused.is p.ensures.passes_row in
+    record {
+      value = pass-stop c.args.from (listed c.args.cols) c.args.s.now c.args.start c.args.before c.requires.0 c.loop-cols.at c.loop-cols.rows c.loop-cols.invariant.0
+          left _ _ h;
+      scratch_len_unchanged = p.ensures.scratch_len_unchanged ∙ c.loop-cols.invariant.1;
+    }
+
+pub overflow_add-rows : goal.overflow_add-rows
+overflow_add-rows c =
+    let h = subst (PassesRow _ _ _) c.in-At.is c.pass_row-p.ensures.passes_row in
+    omega (arith, c.loop-cols.invariant.0.fewer, h.2, h.3, c.well-formed)
+
+pub loop-cols-smaller : goal.loop-cols-smaller
+loop-cols-smaller c =
+    let h = subst (PassesRow _ _ _) c.in-At.is c.pass_row-p.ensures.passes_row in
+    omega (arith, h.2, h.3)
+
+pub loop-cols-preserved : goal.loop-cols-preserved
+loop-cols-preserved c =
+    let left : at_end c.args.from (drop c.loop-cols.at c.args.s.now) ≡ false = sym c.at_end.ensures ∙ c.loop-cols-test.true in
+    let p = c.pass_row-p in
+    let h = subst (PassesRow _ _ _) c.in-At.is p.ensures.passes_row in (
+      pass-more c.args.from (listed c.args.cols) c.args.s.now c.args.start c.args.before c.requires.0 c.loop-cols.at c.loop-cols.rows c.loop-cols.invariant.0
+          left h.0 _ h.1 h.2 h.3,
+      p.ensures.scratch_len_unchanged ∙ c.loop-cols.invariant.1,
+    )
+
+pub shape_of-scratch : goal.shape_of-scratch
+shape_of-scratch c = c.loop-cols.invariant.1
+
+pub returns : goal.returns
+returns-in-Refused c =
+    record {
+      value = pass-end c.args.from (listed c.args.cols) c.args.s.now c.args.start c.args.before c.requires.0 c.loop-cols.at c.loop-cols.rows c.loop-cols.invariant.0
+          (sym c.at_end.ensures ∙ c.loop-cols-test.false);
+      scratch_len_unchanged = c.loop-cols.invariant.1;
+    }

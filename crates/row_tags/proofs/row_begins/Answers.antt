@@ -1,0 +1,11 @@
+-- `row_tags::row_begins` meets its contract: white space, then the whole tag.
+use mathlib.Core.Path.{ap}
+use borrow.Author.Rules.{rules}
+use Rattle.table.specs.Bytes.{bytes, tag}
+use Rattle.tabledata.specs.TableData.{open-TR}
+use Rattle.text.proofs.Scan.{tag-from}
+use Rattle.row_tags.proofs.row_begins.Goals as goal
+
+pub returns : goal.returns
+unfolding open-TR
+returns c = let w = c.skip_white-i.ensures in tag-from _ w.low (λ n. ap (tag n (bytes "<TR")) w.rest) c.whole_tag.ensures

@@ -1,0 +1,7 @@
+-- `text::ends` meets its contract: the word stands where white space ends.
+use borrow.Author.Rules.{rules}
+use Rattle.text.proofs.Scan.{ends-from}
+use Rattle.text.proofs.ends.Goals as goal
+
+pub returns : goal.returns
+returns c = ends-from _ c.skip_white-i.ensures c.goes_on.ensures

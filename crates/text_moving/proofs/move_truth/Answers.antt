@@ -1,0 +1,70 @@
+-- `text_moving::move_truth` meets its contract: the truth is read, its end tag stands behind it; null is put where its value stands for it, else the value.
+use Prim.Native.Nat.{◌+◌, ℕ}
+use mathlib.Core.Bool.{true}
+use mathlib.Core.List.{[], ◌∷◌}
+use mathlib.Core.Path.{◌∙◌, ◌≡◌, ap, subst, sym}
+use borrow.Author.Tests.{not-false}
+use lib.IntN.{pos, ℤ}
+use mir.Syntax.{w64}
+use mir.Val.{of_z, to_z}
+use Rattle.cell_putting.proofs.Elements.{null-moved, value-moved}
+use Rattle.cell_putting.specs.Clauses.{one_form}
+use Rattle.moving.proofs.Puts.{puts-as, puts_none}
+use Rattle.moving.specs.Contents.{FindsOne, InText}
+use Rattle.table.specs.Cell.{is_scalar, same_integer}
+use Rattle.table.specs.Shape.{Truths, shape}
+use Rattle.table.specs.declared.Rows.TheVariants.{TableData}
+use Rattle.text_moving.proofs.Cells.{one-read}
+use Rattle.text_moving.specs.Clauses.{ClosesAt, TextRead}
+use native.Mathlib.Omega.{arith}
+use borrow.Author.Rules.{rules}
+use Rattle.text_moving.proofs.move_truth.Goals as goal
+
+pub returns-in_default : goal.returns-in_default
+returns-in_default c = λ one q. puts_none _ _ (omega (arith, c.requires.2))
+
+pub closes-requires : goal.closes-requires
+closes-requires c =
+    let value : ℤ = c.in-Element.z in
+    let end : ℕ = c.in-Element.end in
+    let stands : let a = c.args in InText Truths a.s.now a.from end (value ∷ []) = subst (FindsOne _) c.in-Element.is c.text_truth.ensures in
+    stands.spells.inside
+
+pub returns-then-not-closes : goal.returns-then-not-closes
+returns-then-not-closes c = λ one q. puts_none _ _ (omega (arith, c.requires.2))
+
+pub overflow_add-end : goal.overflow_add-end
+overflow_add-end c =
+    let end : ℕ = c.in-Element.end in
+    let ended : ClosesAt (c).args.s.now end = c.closes.ensures (c.if-not-closes.false) in
+    let h = ended.inside in search rules
+
+pub returns-then-same_integer : goal.returns-then-same_integer
+returns-then-same_integer c =
+    let value : ℤ = c.in-Element.z in
+    let end : ℕ = c.in-Element.end in
+    let stands : let a = c.args in InText Truths a.s.now a.from end (value ∷ []) = subst (FindsOne _) c.in-Element.is c.text_truth.ensures in
+    let fits : to_z w64 (of_z w64 value) ≡ value = search rules in
+    let ended : ClosesAt (c).args.s.now end = c.closes.ensures (c.if-not-closes.false) in
+    let read : let a = (c).args in is_scalar a.column ≡ true → shape a.column.kind ≡ Truths → TextRead a.column a.s.now a.from (end + 5) (value ∷ []) = λ one q. let a = (c).args in one-read a.column Truths a.s.now a.from end value one q stands ended in
+    let tested : same_integer value (pos 2) ≡ c.same_integer.result = sym (ap (λ (z : ℤ). same_integer z (pos 2)) fits) ∙ sym c.same_integer.ensures in
+    let a = c.args in
+    let p = c.put_null in
+    λ one q. null-moved (TextRead a.column a.s.now a.from) TableData a.to a.column Truths value a.row.now a.o p.new.row (end + 5) one q
+    (read one q) p.result
+    (tested ∙ c.if-same_integer.true) p.ensures
+
+pub returns : goal.returns
+returns-in_default c =
+    let value : ℤ = c.in-Element.z in
+    let end : ℕ = c.in-Element.end in
+    let stands : let a = c.args in InText Truths a.s.now a.from end (value ∷ []) = subst (FindsOne _) c.in-Element.is c.text_truth.ensures in
+    let fits : to_z w64 (of_z w64 value) ≡ value = search rules in
+    let ended : ClosesAt (c).args.s.now end = c.closes.ensures (c.if-not-closes.false) in
+    let read : let a = (c).args in is_scalar a.column ≡ true → shape a.column.kind ≡ Truths → TextRead a.column a.s.now a.from (end + 5) (value ∷ []) = λ one q. let a = (c).args in one-read a.column Truths a.s.now a.from end value one q stands ended in
+    let tested : same_integer value (pos 2) ≡ c.same_integer.result = sym (ap (λ (z : ℤ). same_integer z (pos 2)) fits) ∙ sym c.same_integer.ensures in
+    let a = c.args in
+    let p = c.put_truth-e in
+    λ one q. value-moved (TextRead a.column a.s.now a.from) TableData a.to a.column Truths value a.row.now a.o p.new.row (end + 5) one q
+    (read one q) p.result tt
+    (tested ∙ c.if-same_integer.false) (puts-as (ap (one_form a.to Truths) fits) p.ensures)
