@@ -470,7 +470,7 @@ def turn(crate, file, names):
                     body = body[:at] + as_record(fields, body[at:])
             for other, its in renamed.items():
                 if other != its and other != name:
-                    body = re.sub(r"(?<![\w'.-])" + re.escape(other) + r"(?= [a-z(])(?![\w'-])", its, body)
+                    body = re.sub(r"(?<=[ (])(?<!\n)" + re.escape(other) + r"(?= [a-z(])(?![\w'-])", its, body)
             answers.append((comment, "\n".join([f"pub {new} : goal.{new}"] + unfolding + [body]), new))
             continue
         # a helper
