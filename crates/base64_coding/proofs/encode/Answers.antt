@@ -23,6 +23,6 @@ write_letters-requires c = let l = length-encode c.args.input.now in omega arith
 
 pub returns : goal.returns
 unfolding most_input
-returns-then-input-gt-MOST_INPUT c =
+returns c =
     let whole = encode-made _ _ c.if-input-gt-MOST_INPUT.false _ _ c.if-out-n.false c.acceptance.ensures c.write_letters.ensures in
     record { answer = whole.0; buffer = whole.1 }

@@ -20,7 +20,7 @@ move_counted-requires c =
     (c.requires.1, omega (arith, w.2, c.requires.1), w.1, omega (arith, c.if-row-o-lt-ROOM.false, c.requires.2))
 
 pub returns : goal.returns
-returns-then-row-o-lt-ROOM c =
+returns c =
     let q = c.in-Elements.is in
     let r = c.read_count.ensures in
     let w = subst (CountWithin c.args.s.now c.args.at (bound c.args.column.len)) q r.within in

@@ -31,7 +31,7 @@ move_unflagged-requires c =
     (c.requires.0, c.requires.1, room, c.requires.3)
 
 pub returns : goal.returns
-returns-then-s-at c =
+returns c =
     let room : c.args.at + content_bytes (shape c.args.column.kind) c.args.n + 8 ≤ length c.args.s.now = omega (arith, c.content_bytes-bytes.ensures.0, c.if-s-at.false, c.requires.2) in
     let a = c.args in
     let m = c.move_unflagged in

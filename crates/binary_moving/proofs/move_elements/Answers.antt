@@ -13,7 +13,7 @@ pub returns-then-is_text : goal.returns-then-is_text
 returns-then-is_text c = rw (text-is _ (sym c.is_text.ensures ∙ c.if-is_text.true)) c.show_elements.ensures
 
 pub returns : goal.returns
-returns-then-is_text c =
+returns c =
     let a = c.args in
     let p = c.pass_elements in
     λ from never. no_text

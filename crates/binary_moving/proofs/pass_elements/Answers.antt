@@ -34,7 +34,7 @@ fill_up-requires c =
     (c.if-count-gt-MOST_ELEMENTS.false, omega (arith, x.long, c.requires.2), omega (arith, x.long, x.room))
 
 pub returns : goal.returns
-returns-then-row-inner c =
+returns c =
     let inner : ℕ = c.args.o + c.count_size.result in
     let mid : List ℕ = c.pass_content.new.row in
     let moved : let a = c.args in ContentMoved (InBinary (shape a.column.kind) a.n a.s.now a.at) (AsBinary (shape a.column.kind)) a.row.now inner mid c.in-Elements.count c.in-Elements.next c.in-Elements.end = (let a = c.args in

@@ -15,7 +15,7 @@ returns-then-most-n c = record {
 }
 
 pub returns : goal.returns
-returns-then-s-at-lt4 c = record {
+returns c = record {
   found = count-good c.args.most c.args.at
       c.args.s.now c.if-s-at-lt4.false _ c.four_bytes-n.ensures c.if-most-n.false;
   within = (omega arith, omega arith, c.if-most-n.false);

@@ -64,7 +64,7 @@ pub shape_of-scratch : goal.shape_of-scratch
 shape_of-scratch c = c.loop-k.invariant.1
 
 pub returns : goal.returns
-returns-then-b-eq0 c =
+returns c =
     let l = c.loop-k in
     let a = c.args in
     record {

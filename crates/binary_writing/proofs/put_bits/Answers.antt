@@ -96,7 +96,7 @@ shape_of-out c = simp length-set c.loop-k.invariant.1
 
 pub returns : goal.returns
 unfolding bit_bytes
-returns-then-left-eq0 c =
+returns c =
     let l = c.loop-k in
     let a = c.args in
     let p = some_of _ c.if-left-eq0.false in

@@ -18,7 +18,7 @@ returns-then-count-eq0 c =
     sym (ap size_of (write-empty a.column a.null a.count a.scratch.now c.if-null.false c.if-count-eq0.true))
 
 pub returns : goal.returns
-returns-then-null c =
+returns c =
     let a = c.args in
     let p = c.requires in
     ap good (c.elements_size.ensures ∙ sym (held-length a.column a.count a.scratch.now p.1 p.2))

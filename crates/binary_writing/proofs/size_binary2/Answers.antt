@@ -12,7 +12,7 @@ returns-then-null c =
     c.room_size.ensures ∙ sym (ap length (write2-null a.column a.null a.count a.scratch.now c.if-null.true) ∙ zeros-length a.column)
 
 pub returns : goal.returns
-returns-then-null c =
+returns c =
     let a = c.args in
     let p = c.requires in
     c.elements_size.ensures

@@ -54,7 +54,7 @@ pub shape_of-out : goal.shape_of-out
 shape_of-out c = c.put_elements.auto.out
 
 pub returns : goal.returns
-returns-then-null c =
+returns c =
     let a = c.args in
     wrote_as (sym (ap form_bytes (write-shown a.column a.null a.count a.scratch.now c.if-null.false
     c.if-count-eq0.false c.requires.len_bound.2))) c.put_elements.ensures

@@ -32,6 +32,6 @@ pub shape_of-out : goal.shape_of-out
 shape_of-out c = c.put_elements.auto.out
 
 pub returns : goal.returns
-returns-then-null c =
+returns c =
     let a = c.args in
     wrote_as (sym (write2-shown a.column a.null a.count a.scratch.now c.if-null.false)) c.put_elements.ensures

@@ -11,5 +11,5 @@ returns-then-is_text c =
     (c.move_text.ensures c.args.flagged)
 
 pub returns : goal.returns
-returns-then-is_text c =
+returns c =
     c.move_binary.ensures (no_text NotText c.args.from (sym c.is_text.ensures ∙ c.if-is_text.false) tt tt)

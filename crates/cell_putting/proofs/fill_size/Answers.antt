@@ -16,4 +16,4 @@ returns-then-room-count c = rw (sym c.is_char.ensures ∙ c.if-not-is_char.false
 
 pub returns : goal.returns
 unfolding fill_size
-returns-then-not-is_char c = rw (sym c.is_char.ensures ∙ c.if-not-is_char.false) (omega (arith, c.room_in-room.ensures))
+returns c = rw (sym c.is_char.ensures ∙ c.if-not-is_char.false) (omega (arith, c.room_in-room.ensures))

@@ -23,7 +23,7 @@ put_zeros-e-requires c =
     omega (arith, wrote-long c.put_count.ensures, c.if-row-end.false, c.requires.2)
 
 pub returns : goal.returns
-returns-then-row-end c =
+returns c =
     let w = c.put_count.ensures in
     let z = c.put_zeros-e.ensures in
     let f = c.fill_size-fill in

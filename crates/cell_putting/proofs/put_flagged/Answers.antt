@@ -18,7 +18,7 @@ put_null-e-requires c =
 
 pub returns : goal.returns
 unfolding write_cell write_binary2 is_null
-returns-then-row-o c =
+returns c =
     record {
       bytes = _;
       writes = refl;

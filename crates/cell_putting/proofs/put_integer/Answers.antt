@@ -39,7 +39,7 @@ returns-then-is_text c =
 
 pub returns : goal.returns
 unfolding one_form
-returns-then-is_text c =
+returns c =
     let p = c.pass_integer in
     no_text (λ (rows : Rows). Puts c.args.row.now c.args.o (one_form rows (Whole (is_signed c.args.integer) (width_of c.args.integer)) c.args.z) p.new.row
     p.result) c.args.to

@@ -34,7 +34,7 @@ returns-then-is_text c =
 
 pub returns : goal.returns
 unfolding one_form
-returns-then-is_text c =
+returns c =
     let p = c.pass_truth in
     no_text (λ (rows : Rows). Puts c.args.row.now c.args.o (one_form rows Truths c.args.z) p.new.row p.result) c.args.to
     (sym c.is_text.ensures ∙ c.if-is_text.false)

@@ -53,7 +53,7 @@ compare_rows-requires c =
     (within, omega (arith, sized))
 
 pub returns : goal.returns
-returns-then-number-ne0 c =
+returns c =
     let columns_of : List Column = listed c.front-d.result.columns in
     let columns : front c.args.decls.now (length c.args.first.now) ≡ good columns_of = (let f = c.front-d in
     accepted-is _ f.result f.ensures (front-fails c.args.decls.now (length c.args.first.now)) c.if-number-ne0.false) in

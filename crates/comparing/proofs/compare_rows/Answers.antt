@@ -41,7 +41,7 @@ fill-requires c =
     (c.pre.0, c.pre.1, (c).count-differing.ensures.0.within, search rules, search rules)
 
 pub returns : goal.returns
-returns-then-p-ne0 c =
+returns c =
     let first_walk : c.pass_rows-p.result ≡ answer_of (passed 0 (read c.args.from (listed c.args.cols) c.args.first.now)) = c.pass_rows-p.ensures.value ∙ ap answer_of (sym c.count_differing-s.ensures.counts.first-passed.ahead) in
     let second_walk : c.pass_rows-q.result ≡ answer_of (passed 0 (read (c).args.kind (listed (c).args.cols) (c).args.second.now)) = c.pass_rows-q.ensures.value ∙ ap answer_of (sym (c).count-differing.ensures.0.second-passed.ahead) in
     let first_read : c.pass_rows-p.result.number ≡ 0 → (rows_shown 0 (read (c).args.from (listed (c).args.cols) (c).args.first.now) ≡ good (in_order (read (c).args.from (listed (c).args.cols) (c).args.first.now))) × (c.pass_rows-p.result.rows ≡ length (in_order (read (c).args.from (listed (c).args.cols) (c).args.first.now))) = λ h. walk-read (c).args.from (listed (c).args.cols) (c).args.first.now c.pass_rows-p.result first_walk h in

@@ -6,4 +6,4 @@ pub returns-then-differing-ne0 : goal.returns-then-differing-ne0
 returns-then-differing-ne0 c = rw (ne_eqb _ _ c.if-differing-ne0.true)
 
 pub returns : goal.returns
-returns-then-differing-ne0 c = rw (eq-eqb _ _ c.if-differing-ne0.false)
+returns c = rw (eq-eqb _ _ c.if-differing-ne0.false)

@@ -22,7 +22,7 @@ returns-then-p-ne0 c =
 
 pub returns : goal.returns
 unfolding before_rows answer_of at
-returns-then-p-ne0 c =
+returns c =
     let answered : Result Answer (List (List Cell)) → Comparison = λ x. behind_first x (refused_in 1 (before_rows (at c.args.place c.args.number))) in
     let p = c.pass_rows-p in
     c.refuse-2.ensures ∙ sym (ap answered (walk-read c.args.from (listed c.args.cols) c.args.first.now p.result p.ensures.value c.if-p-ne0.false).0)

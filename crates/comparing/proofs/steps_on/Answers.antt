@@ -11,4 +11,4 @@ pub returns-then-at_end : goal.returns-then-at_end
 returns-then-at_end c = rw (lt-ltb _ _ c.if-most-differing.false, sym c.at_end.ensures ∙ c.if-at_end.true)
 
 pub returns : goal.returns
-returns-then-most-differing c = rw (lt-ltb _ _ c.if-most-differing.false, sym c.at_end.ensures ∙ c.if-at_end.false, c.at_end-2.ensures)
+returns c = rw (lt-ltb _ _ c.if-most-differing.false, sym c.at_end.ensures ∙ c.if-at_end.false, c.at_end-2.ensures)

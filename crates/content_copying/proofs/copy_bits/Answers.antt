@@ -30,5 +30,5 @@ pub shape_of-row : goal.shape_of-row
 shape_of-row c = c.copy_wide-e.ensures.long
 
 pub returns : goal.returns
-returns-then-n-eq0 c =
+returns c =
     bits-moved c.bits_end-end.ensures c.if-n-eq0.false c.copy_wide-e.ensures

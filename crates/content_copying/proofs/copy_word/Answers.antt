@@ -39,7 +39,7 @@ shape_of-row c =
     (own-copied own c.copy_wide-e.ensures room).puts.long
 
 pub returns : goal.returns
-returns-then-s-at-lt32 c =
+returns c =
     let own : let a = c.args in OwnWord a.integer a.s.now a.at c.word_end-end.result = c.word_end-end.ensures c.if-end-at.false in
     let room : c.copy_wide-e.result < length c.copy_wide-e.new.row = let q = c.copy_wide-e.ensures in omega (arith, copied-place own q, own.few, q.long) in
     own-copied own c.copy_wide-e.ensures room

@@ -37,4 +37,4 @@ pub loop-at-preserved : goal.loop-at-preserved
 loop-at-preserved c = pass-eight c.loop-at.invariant _ (omega (arith, c.loop-at.invariant.high)) c.text_ahead-n.ensures (omega arith)
 
 pub returns : goal.returns
-returns-then-n-lt8 c = c.loop-at.invariant
+returns c = c.loop-at.invariant

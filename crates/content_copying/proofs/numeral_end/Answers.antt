@@ -22,4 +22,4 @@ returns-then-n-eq1 c = λ some.
     record { run = p; some = omega (arith, p.low, some); few = omega arith; first = λ h. absurd (omega arith) }
 
 pub returns : goal.returns
-returns-then-most-n c = λ some. absurd (some refl)
+returns c = λ some. absurd (some refl)

@@ -18,7 +18,7 @@ pub shape_of-row : goal.shape_of-row
 shape_of-row c = c.put_word-e.ensures.long
 
 pub returns : goal.returns
-returns-in_default c =
+returns c =
     let z : ℤ = c.in-Element.z in
     let e : to_z w64 (of_z w64 z) ≡ z = search rules in
     record {

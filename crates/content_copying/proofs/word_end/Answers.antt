@@ -15,7 +15,7 @@ pub returns-then-end-at : goal.returns-then-end-at
 returns-then-end-at c = λ some. absurd (some refl)
 
 pub returns : goal.returns
-returns-then-s-at-ne45 c = λ some.
+returns c = λ some.
     let r = c.numeral_end-end.ensures c.if-end-at.false in
     let q = c.most_after_minus.ensures in
     let big = first-large r.run r.some c.if-s-at-eq48.false in

@@ -23,4 +23,4 @@ nonzero_rem-result c = unit-some _ (omega arith)
 
 pub returns : goal.returns
 unfolding bit_bytes
-returns-then-spare-eq0 c = let a = c.args in spare-at a.s.now a.at a.n (omega arith) c.if-spare-eq0.false
+returns c = let a = c.args in spare-at a.s.now a.at a.n (omega arith) c.if-spare-eq0.false

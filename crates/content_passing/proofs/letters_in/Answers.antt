@@ -37,5 +37,5 @@ loop-k-preserved c =
     (omega arith, omega (arith, run_drop is_letter 8 (drop (a.at + k) s) more, ap (run is_letter) rest, c.loop-k.invariant.1))
 
 pub returns : goal.returns
-returns-then-n-k c =
+returns c =
     let a = c.args in omega (arith, run_take is_letter a.n (drop a.at a.s.now))

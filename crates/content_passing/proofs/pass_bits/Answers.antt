@@ -19,7 +19,7 @@ copy-end-requires c = (omega arith, omega arith)
 
 pub returns : goal.returns
 unfolding bit_bytes
-returns-then-not-is_padded c =
+returns c =
     let a = c.args in
     let bytes : AreBytes a.s.now = are-bytes a.s.now (λ i. omega (arith, c.shared_slice_known-1.given i)) in
     bits-moved a.n _ a.s.now a.row.now _ a.at a.o _ bytes refl (omega arith)

@@ -29,7 +29,7 @@ copy-end-requires c =
     (omega (arith, few), omega (arith, few))
 
 pub returns : goal.returns
-returns-then-shown-n c =
+returns c =
     let a = c.args in
     let bytes : AreBytes a.s.now = are-bytes a.s.now (λ i. omega (arith, c.shared_slice_known-1.given i)) in
     text-moved a.n _ a.s.now a.row.now _ a.at a.o _ bytes (omega arith) c.letters_in-shown.ensures

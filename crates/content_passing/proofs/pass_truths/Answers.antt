@@ -30,4 +30,4 @@ returns-then-none-eq0 c =
     truths-moved a.n l.k a.s.now a.row.now l.row a.at a.o _ (omega arith) (omega arith) refl (l.invariant.2 c.if-none-eq0.true) l.invariant.1
 
 pub returns : goal.returns
-returns-then-none-eq0 c = puts-before c.loop-k.invariant.1
+returns c = puts-before c.loop-k.invariant.1

@@ -23,6 +23,6 @@ returns-then-x-eq644314171 c =
 
 pub returns : goal.returns
 unfolding is_text between
-returns-then-x-eq644641851 c =
+returns c =
     let bytes : AreBytes c.args.s.now = are-bytes c.args.s.now (λ i. omega (arith, c.shared_slice_known-1.given i)) in
     (amp-letter _ _ _ bytes (omega arith) c.four_bytes-x.ensures c.if-x-ne643919216.false (omega arith) c.if-s-at-ne59.false, refl, omega arith)

@@ -43,4 +43,4 @@ loop-at-preserved c =
     more _ (omega (arith, eight))
 
 pub returns : goal.returns
-returns-then-n-lt8 c = c.loop-at.invariant
+returns c = c.loop-at.invariant

@@ -166,4 +166,4 @@ pub shape_of-row : goal.shape_of-row
 shape_of-row c = c.loop-at.inv.0.puts.long
 
 pub returns : goal.returns
-returns-then-s-at-lt8 c = bits-moved c.loop-at.inv.0 c.if-at-from.false
+returns c = bits-moved c.loop-at.inv.0 c.if-at-from.false

@@ -7,4 +7,4 @@ pub returns-then-v-lt10000000000000000 : goal.returns-then-v-lt10000000000000000
 returns-then-v-lt10000000000000000 c = (first-is c.args.v).0 (omega arith)
 
 pub returns : goal.returns
-returns-then-v-lt10000000000000000 c = (first-is c.args.v).1 (omega arith)
+returns c = (first-is c.args.v).1 (omega arith)

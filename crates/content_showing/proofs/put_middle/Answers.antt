@@ -10,4 +10,4 @@ pub returns-then-v-lt10000000000000000 : goal.returns-then-v-lt10000000000000000
 returns-then-v-lt10000000000000000 c = puts-as (sym (middle-none c.args.v (omega arith))) (puts_none _ _ (omega (arith, c.requires)))
 
 pub returns : goal.returns
-returns-then-v-lt10000000000000000 c = puts-as (sym (middle-some c.args.v (omega arith))) c.put_eight_digits.ensures
+returns c = puts-as (sym (middle-some c.args.v (omega arith))) c.put_eight_digits.ensures

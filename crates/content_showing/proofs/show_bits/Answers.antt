@@ -21,7 +21,7 @@ put_bits-requires c =
     (omega (arith, c.requires.2, bit-bytes c.args.n), omega (arith, c.if-row-o.false, c.requires.3))
 
 pub returns : goal.returns
-returns-then-row-o c =
+returns c =
     let a = c.args in
     bits-moved a.s.now a.at a.n (omega (arith, c.requires.2, bit-bytes a.n))
     (sym c.is_padded.ensures ∙ c.if-not-is_padded.false) c.put_bits.ensures

@@ -31,6 +31,6 @@ pub overflow_sub-result : goal.overflow_sub-result
 overflow_sub-result c = integers-some _ _ _ c.loop-k.invariant.2 (omega (arith, c.loop-k-test.false, c.requires.0))
 
 pub returns : goal.returns
-returns-then-row-o c =
+returns c =
     let l = c.loop-k in
     bytes-moved _ _ c.args.n l.k c.requires.0 (omega (arith, l.invariant.0, c.loop-k-test.false)) l.invariant.2

@@ -64,6 +64,6 @@ pub shape_of-row : goal.shape_of-row
 shape_of-row c = c.loop-k.invariant.1.puts.long
 
 pub returns : goal.returns
-returns-then-row-e-lt40 c =
+returns c =
     let i = c.loop-k.invariant in
     integers-moved _ _ _ c.args.n c.requires.0 (omega (arith, i.0, c.loop-k-test.false)) i.1

@@ -15,5 +15,5 @@ pub returns-then-put_truths-ne0 : goal.returns-then-put_truths-ne0
 returns-then-put_truths-ne0 c = puts-before c.put_truths.ensures.puts
 
 pub returns : goal.returns
-returns-then-row-o c =
+returns c =
     truths-moved c.args.s.now c.args.at c.args.n c.requires.0 c.requires.2 (omega (arith, c.if-put_truths-ne0.false)) c.put_truths.ensures

@@ -35,6 +35,6 @@ loop-k-preserved c =
     (omega arith, omega (arith, longer))
 
 pub returns : goal.returns
-returns-then-ahead-lt8 c =
+returns c =
     let a = c.args in
     run-front is_itself (drop a.at a.s.now) _ a.n (omega arith) (omega (arith, c.loop-k.invariant.1))

@@ -7,4 +7,4 @@ pub returns-then-held-le-SCRATCH : goal.returns-then-held-le-SCRATCH
 returns-then-held-le-SCRATCH c = rw (le-leb _ scratch_length c.if-held-le-SCRATCH.true)
 
 pub returns : goal.returns
-returns-then-held-le-SCRATCH c = rw (lt-leb _ scratch_length c.if-held-le-SCRATCH.false)
+returns c = rw (lt-leb _ scratch_length c.if-held-le-SCRATCH.false)

@@ -14,4 +14,4 @@ pub returns-then-x-lt1000 : goal.returns-then-x-lt1000
 returns-then-x-lt1000 c = sym (count-is 2 c.args.x c.if-x-lt100.false c.if-x-lt1000.true (omega arith))
 
 pub returns : goal.returns
-returns-then-x-lt10 c = sym (count-is 3 c.args.x c.if-x-lt1000.false c.requires (omega arith))
+returns c = sym (count-is 3 c.args.x c.if-x-lt1000.false c.requires (omega arith))

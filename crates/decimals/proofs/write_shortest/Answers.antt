@@ -48,7 +48,7 @@ pub shape_of-out : goal.shape_of-out
 shape_of-out c = simp length-set at c.write_digits-2.auto.out
 
 pub returns : goal.returns
-returns-then-z-ge0 c =
+returns c =
     let text-down : 45 ∷ digits 20 c.magnitude-x.result ≡ shortest c.args.z = (ap {B = List ℕ} (λ (x : ℕ). 45 ∷ digits 20 x) (c.magnitude-x.ensures ∙ ap nat_abs (to_z-of_z c.ranges.z))
     ∙ sym (shortest-down c.args.z (down w64 c.args.z c.ranges.z c.if-z-ge0.false))) in
     wrote_as text-down (wrote_after c.write_digits-2.ensures)

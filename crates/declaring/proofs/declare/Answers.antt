@@ -80,4 +80,4 @@ returns-then-k-eq0 c =
     c.refuse-then-k-eq0.ensures ∙ ap answered (sym (stage-none _ _ _ _ c.loop-at.invariant.2 c.loop-at-test.false c.if-k-eq0.true))
 
 pub returns : goal.returns
-returns-then-text-gt-MOST_DECLARATIONS c = stage-done _ _ _ _ c.loop-at.invariant.2 c.loop-at-test.false c.if-k-eq0.false
+returns c = stage-done _ _ _ _ c.loop-at.invariant.2 c.loop-at-test.false c.if-k-eq0.false

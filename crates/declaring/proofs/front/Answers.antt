@@ -23,7 +23,7 @@ returns-then-size-gt-MOST_INPUT c =
 
 pub returns : goal.returns
 unfolding most_input
-returns-then-number-ne0 c =
+returns c =
     let d = c.declare-d in
     let accepted = accepted-is _ _ d.ensures (declare-fails _) c.if-number-ne0.false in
     d.ensures ∙ ap answered (accepted ∙ sym (front-declared _ _ _ accepted (omega arith)))

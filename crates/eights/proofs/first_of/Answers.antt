@@ -24,4 +24,4 @@ returns-then-m-eq0 c = record {
 }
 
 pub returns : goal.returns
-returns-then-m-eq0 c = record { first = λ test ds l e. c.first_lowest.ensures.first test ds l (marks-turned c.turned.ensures test ds l e) }
+returns c = record { first = λ test ds l e. c.first_lowest.ensures.first test ds l (marks-turned c.turned.ensures test ds l e) }

@@ -11,4 +11,4 @@ returns-then-a-eq0 c = rw (eq-eqb c.args.a.number 0 (omega arith)) refl
 
 pub returns : goal.returns
 unfolding asked_for
-returns-then-a-eq0 c = rw (ne_eqb c.args.a.number 0 (λ z. omega (arith, z))) refl
+returns c = rw (ne_eqb c.args.a.number 0 (λ z. omega (arith, z))) refl

@@ -25,7 +25,7 @@ fetch_row-requires c =
     columns-within _ (holds_at (front-is c.args.decls.now (length c.args.input.now)) columns)
 
 pub returns : goal.returns
-returns-then-number-ne0 c =
+returns c =
     let columns : front c.args.decls.now (length c.args.input.now) ≡ good (listed c.front-d.result.columns) = (let f = c.front-d in
     accepted-is _ f.result f.ensures (front-fails c.args.decls.now (length c.args.input.now)) c.if-number-ne0.false) in
     let r = c.fetch_row.ensures in

@@ -28,7 +28,7 @@ find_from-requires c =
     )
 
 pub returns : goal.returns
-returns-then-rows-row c =
+returns c =
     let entry = get_or c.args.index.now (c.args.row / 64) 0 in
     by-entry c.args.from (listed c.args.cols) c.args.s.now c.args.index.now c.args.rows c.args.row (omega arith) (omega arith)
     c.within-start.result (ap (λ n. drop n c.args.s.now) c.within-start.ensures ∙ within_end c.args.s.now entry)

@@ -21,7 +21,7 @@ returns-then-index-place c =
     record { value = whole.0; index_after = whole.1 }
 
 pub returns : goal.returns
-returns-then-row-ne0 c =
+returns c =
     let index = c.args.index.now in
     let whole = rw (eq-eqb (c.args.row % 64) 0 (omega arith), lt-ltb (c.args.row / 64) (length index) (omega arith)) (refl, refl) in
     record { value = whole.0; index_after = whole.1 }

@@ -84,7 +84,7 @@ pub shape_of-scratch : goal.shape_of-scratch
 shape_of-scratch c = c.loop-cols.invariant.1
 
 pub returns : goal.returns
-returns-in-Refused c =
+returns c =
     let whole = enter-end c.args.from (listed c.args.cols) c.args.s.now c.args.index.now c.requires.0 c.loop-cols.at c.loop-cols.rows c.loop-cols.index c.loop-cols.invariant.0
     (sym c.at_end.ensures ∙ c.loop-cols-test.false) in
     record { value = whole.0; index_after = whole.1 }

@@ -41,7 +41,7 @@ overflow_add-result c =
     record { fits = omega (arith, figures-lt c.two_runs-high.ensures, power_le (m + 8) 11 (omega arith), figures-lt low) }
 
 pub returns : goal.returns
-returns-then-m-gt3 c =
+returns c =
     let s : List ℕ = c.args.s.now in
     let bytes : AreBytes s = are-bytes s (λ i. omega (arith, c.shared_slice_known-1.given i)) in
     let found : Passes is_digit s (c.args.at + 16) c.first_of-m.result × (c.first_of-m.result ≤ 8) = passes-ahead s (c.args.at + 16) bytes (omega arith) c.eight_bytes.ensures c.no_digits.ensures c.first_of-m.ensures in

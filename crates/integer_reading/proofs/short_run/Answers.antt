@@ -49,7 +49,7 @@ overflow_add-result-2 c =
     record { fits = omega (arith, few-behind) }
 
 pub returns : goal.returns
-returns-then-first-ne0 c =
+returns c =
     let few-behind : c.first_lowest-n.result ≤ 7 = counted-few c.no_digits-second.ensures c.first_lowest-n.ensures (omega arith) c.if-second-eq0.false in
     let s : List ℕ = c.args.s.now in
     let rest : List ℕ = drop c.args.behind s in

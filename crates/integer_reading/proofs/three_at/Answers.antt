@@ -22,7 +22,7 @@ pub overflow_add-three_digits : goal.overflow_add-three_digits
 overflow_add-three_digits c = record { fits = omega (arith, c.figure-one_digit.ensures.1, c.figure.ensures.1, c.figure-2.ensures.1) }
 
 pub returns : goal.returns
-returns-then-not-is_digit c =
+returns c =
     let first = sym c.is_digit.ensures ∙ c.if-not-is_digit.false in
     let two = c.is_digit-two.ensures in let three = c.is_digit-three.ensures in
     let a = c.figure-one_digit.ensures.0 in let b = c.figure.ensures.0 in let d = c.figure-2.ensures.0 in

@@ -16,4 +16,4 @@ returns-then-minus c = rw c.if-minus.true (negated w64 c.args.number (omega arit
 
 pub returns : goal.returns
 unfolding with_sign
-returns-then-minus c = rw c.if-minus.false (to_z_pos w64 (omega arith))
+returns c = rw c.if-minus.false (to_z_pos w64 (omega arith))

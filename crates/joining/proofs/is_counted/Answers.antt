@@ -25,7 +25,7 @@ returns-then-not-sum_within-3 c =
 
 pub returns : goal.returns
 unfolding is_counted most_count
-returns-then-not-sum_within c =
+returns c =
     rw (
       sym c.sum_within.ensures ∙ c.if-not-sum_within.false,
       sym c.sum_within-2.ensures ∙ c.if-not-sum_within-2.false,

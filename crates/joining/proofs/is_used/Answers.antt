@@ -38,7 +38,7 @@ returns-then-not-sum_within c =
 
 pub returns : goal.returns
 unfolding is_used most_input
-returns-then-j-ne0 c =
+returns c =
     rw (
       eq-eqb c.args.j.ended 0 (omega arith),
       eq-eqb c.args.p.start c.args.j.place (omega arith),

@@ -33,4 +33,4 @@ loop-i-preserved c =
 
 pub returns : goal.returns
 unfolding parts_of
-returns-then-not-is_used c = sym (joined-all _ _ _ _ _ _ _ c.loop-i.invariant.1 c.loop-i-test.false)
+returns c = sym (joined-all _ _ _ _ _ _ _ c.loop-i.invariant.1 c.loop-i-test.false)

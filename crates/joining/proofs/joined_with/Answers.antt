@@ -40,4 +40,4 @@ returns-then-is_final c =
 
 pub returns : goal.returns
 unfolding joined_with gone_on
-returns-then-is_final c = rw (sym c.is_final.ensures ∙ c.if-is_final.false) refl
+returns c = rw (sym c.is_final.ensures ∙ c.if-is_final.false) refl

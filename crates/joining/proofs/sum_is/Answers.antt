@@ -10,4 +10,4 @@ pub returns-then-sum-a : goal.returns-then-sum-a
 returns-then-sum-a c = sym (ne_eqb (c.args.a + c.args.b) c.args.sum (λ z. omega (arith, z)))
 
 pub returns : goal.returns
-returns-then-sum-a c = is c.args.a c.args.b c.args.sum (omega arith)
+returns c = is c.args.a c.args.b c.args.sum (omega arith)

@@ -10,4 +10,4 @@ pub returns-then-least-a : goal.returns-then-least-a
 returns-then-least-a c = sym (le-leb c.args.least (c.args.a + c.args.b) (omega arith))
 
 pub returns : goal.returns
-returns-then-least-a c = reaches c.args.a c.args.b c.args.least (omega arith)
+returns c = reaches c.args.a c.args.b c.args.least (omega arith)

@@ -10,4 +10,4 @@ pub returns-then-most-a : goal.returns-then-most-a
 returns-then-most-a c = sym (lt-leb (c.args.a + c.args.b) c.args.most (omega arith))
 
 pub returns : goal.returns
-returns-then-most-a c = within c.args.a c.args.b c.args.most (omega arith)
+returns c = within c.args.a c.args.b c.args.most (omega arith)

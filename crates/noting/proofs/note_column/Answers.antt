@@ -15,6 +15,6 @@ shape_of-places c =
     ap length c.note.ensures ∙ noted-long c.args.noted c.args.row c.args.column c.args.places.now
 
 pub returns : goal.returns
-returns-then-not-differs c =
+returns c =
     let n = c.note in
     rw (c.if-not-differs.false) (notes-one c.args.noted c.args.places.now c.args.row c.args.column _ n.ensures)

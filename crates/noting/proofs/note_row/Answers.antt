@@ -41,7 +41,7 @@ loop-i-preserved c =
     )
 
 pub returns : goal.returns
-returns-then-differing-eq0 c =
+returns c =
     let bits = to_digits 2 c.args.count c.args.differing in
     noted-all c.args.row bits c.args.noted c.args.places.now _ c.loop-i.n c.loop-i.i c.loop-i.invariant.0
     (omega (arith, length_to 2 c.args.count c.args.differing, c.loop-i-test.false))

@@ -16,7 +16,7 @@ pub slice_bounds-sailmortar_convert_piece-end : goal.slice_bounds-sailmortar_con
 slice_bounds-sailmortar_convert_piece-end c = simp length-take (omega (arith, c.if-input-cut.false))
 
 pub returns : goal.returns
-returns-then-input-cut c h =
+returns c h =
     let whole = c.sailmortar_convert.ensures in
     let second = c.sailmortar_convert_piece-2.ensures in
     let first = c.sailmortar_convert_piece.ensures in

@@ -24,7 +24,7 @@ slice_bounds-sailmortar_convert-count c =
     place-within-whole _ _ _ args.input.now args.cut _ _ c.sailmortar_convert_piece.ensures.numbers
 
 pub returns : goal.returns
-returns-then-input-cut c =
+returns c =
     let whole = c.sailmortar_convert-2.ensures in
     let second = c.sailmortar_convert.ensures in
     let told = c.sailmortar_convert_piece.ensures in

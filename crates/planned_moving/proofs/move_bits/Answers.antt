@@ -20,7 +20,7 @@ pub returns-then-most-bytes : goal.returns-then-most-bytes
 returns-then-most-bytes c = puts_none _ _ (omega arith)
 
 pub returns : goal.returns
-returns-then-is_text c =
+returns c =
     let n : ℕ = c.four_bytes-n.result in
     let whole : 8 * (n / 8) ≡ n = omega (arith, c.if-n-ne0.false) in
     record {

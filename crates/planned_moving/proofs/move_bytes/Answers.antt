@@ -9,5 +9,5 @@ pub returns-then-is_text : goal.returns-then-is_text
 returns-then-is_text c = puts_none c.args.row.now c.args.o (omega (arith, c.requires.1))
 
 pub returns : goal.returns
-returns-then-is_text c =
+returns c =
     (sym c.is_text.ensures ∙ c.if-is_text.false, refl, refl, c.copy-e.ensures)

@@ -23,7 +23,7 @@ pub returns-then-is_declared : goal.returns-then-is_declared
 returns-then-is_declared x = let a = x in λ from c one q n. puts_none a.args.row.now a.args.o (omega (arith, a.pre.1))
 
 pub returns : goal.returns
-returns-in_default x =
+returns x =
     let a = x.args in
     let p = x.put_integer-e in
     let d = x.is_declared.ensures in

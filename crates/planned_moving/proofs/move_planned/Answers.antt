@@ -28,7 +28,7 @@ move_wanted-requires x =
     (omega (arith, ltb-false left (bytes + 8) n.0, x.requires.0), omega (arith, ltb-false room (bytes + most_room) n.1, x.requires.1))
 
 pub returns : goal.returns
-returns-then-is_text-flagged x =
+returns x =
     let a = x.args in
     let n = neither _ _ x.if-is_text-flagged.false in
     let m = x.move_wanted in

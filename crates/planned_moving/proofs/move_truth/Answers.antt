@@ -22,7 +22,7 @@ pub returns-then-same_integer : goal.returns-then-same_integer
 returns-then-same_integer x = let a = x in λ from c one q. puts_none a.args.row.now a.args.o (omega (arith, a.pre.1))
 
 pub returns : goal.returns
-returns-in_default x =
+returns x =
     let a = x.args in
     let p = x.put_truth-e in
     let d = x.same_integer.ensures in

@@ -134,7 +134,7 @@ shape_of-b c = c.loop-i.invariant.4
 
 -- all columns are read
 pub returns : goal.returns
-returns-in-Unread c =
+returns c =
     let cols-of : Columns = c.args.cols in
     let flags_of : List Bool = flags_in c.args.one.from cols-of.count c.args.flags in
     let others-of : List Bool = flags_in c.args.two.from cols-of.count c.args.others in

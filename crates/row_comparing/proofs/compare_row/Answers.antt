@@ -46,7 +46,7 @@ compare_cells-requires c =
     (c.requires.0, w.1, v.1, c.requires.3, c.requires.4)
 
 pub returns : goal.returns
-returns-in_default c =
+returns c =
     let p = c.compare_cells in
     let g = c.begin_row in
     let h = c.begin_row-2 in

@@ -17,7 +17,7 @@ returns-in_default-end_row c =
     unread-second (e.ensures.closed ∙ ap (close_as _) c.in_default-end_row.is)
 
 pub returns : goal.returns
-returns-in_default c =
+returns c =
     let e = c.end_row in
     let f = c.end_row-2 in
     let next = c.in-Closed.is in

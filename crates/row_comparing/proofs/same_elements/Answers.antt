@@ -44,7 +44,7 @@ loop-i-preserved c =
     turn ∙ rw (sym by_bits ∙ eq-eqb _ _ c.if-a-i.false)
 
 pub returns : goal.returns
-returns-then-n-m c =
+returns c =
     let n = c.args.n in
     let x = c.args.a.now in
     let y = c.args.b.now in

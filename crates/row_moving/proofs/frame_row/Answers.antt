@@ -18,7 +18,7 @@ pub returns-then-row-end-lt-MOST_FRAME_BYTES : goal.returns-then-row-end-lt-MOST
 returns-then-row-end-lt-MOST_FRAME_BYTES c = record { framed = omega (arith, c.if-row-end-lt-MOST_FRAME_BYTES.true, c.requires.2); long = refl }
 
 pub returns : goal.returns
-returns-then-row-end-lt-MOST_FRAME_BYTES c =
+returns c =
     let w = c.write_start.ensures in
     let z = c.write_end-size.ensures in
     let h = c.if-row-end-lt-MOST_FRAME_BYTES.false in

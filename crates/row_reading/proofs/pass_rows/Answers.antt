@@ -62,7 +62,7 @@ pub shape_of-scratch : goal.shape_of-scratch
 shape_of-scratch c = c.loop-cols.invariant.1
 
 pub returns : goal.returns
-returns-in-Refused c =
+returns c =
     record {
       value = pass-end c.args.from (listed c.args.cols) c.args.s.now c.args.start c.args.before c.requires.0 c.loop-cols.at c.loop-cols.rows c.loop-cols.invariant.0
           (sym c.at_end.ensures ∙ c.loop-cols-test.false);

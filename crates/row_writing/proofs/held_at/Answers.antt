@@ -26,7 +26,7 @@ returns-then-n-ge0 c =
     ∙ ap₂ (λ (y : ℤ) (n : ℕ). y ∷ drop n l) (up w64 z f c.if-n-ge0.true ∙ ap (λ (y : ℤ). pos (nat_abs y)) (sym (up-held w64 z f c.if-n-ge0.true))) e
 
 pub returns : goal.returns
-returns-then-n-ge0 c =
+returns c =
     let l = c.args.scratch.now in
     let i = c.args.at in
     let z = get_or l i (pos 0) in

@@ -20,7 +20,7 @@ returns-in_default-rows_of c =
 
 pub returns : goal.returns
 unfolding convert_face faced
-returns-in_default c =
+returns c =
     let e = known _ _ _ _ _
     (sym c.rows_of.ensures ∙ ap named_as c.in-Known.is) _
     (sym c.rows_of-2.ensures ∙ ap named_as c.in-Known-rows_of.is) in

@@ -13,7 +13,7 @@ returns-in_default c =
 
 pub returns : goal.returns
 unfolding index_face faced
-returns-in_default c =
+returns c =
     let e = of-binary _ _ _ _ (sym c.binary_of.ensures ∙ ap named_as c.in-Known.is) in
     record {
       numbers = c.put_answer.ensures ∙ ap five c.index.ensures.answers ∙ ap (λ (f : Faced). f.numbers) (sym e);

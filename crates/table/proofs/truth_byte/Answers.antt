@@ -24,4 +24,4 @@ unfolding truth_byte
 returns-then-element-eq1 c = sym (ap truth_byte (sym (to_z-of_z {w = w64} c.ranges.element) ∙ ap (to_z w64) c.if-element-eq1.true))
 
 pub returns : goal.returns
-returns-then-element-eq0 c = unknown _ (λ e. c.if-element-eq0.false (ap (of_z w64) e)) (λ e. c.if-element-eq1.false (ap (of_z w64) e))
+returns c = unknown _ (λ e. c.if-element-eq0.false (ap (of_z w64) e)) (λ e. c.if-element-eq1.false (ap (of_z w64) e))

@@ -44,7 +44,7 @@ loop-k-preserved c =
     )
 
 pub returns : goal.returns
-returns-then-n-eq0 c =
+returns c =
     let a = c.args in
     let long = taken-long a.scratch.now a.count c.requires.0 in
     sym (c.loop-k.invariant.2 ∙ size-end c.loop-k.size _ c.loop-k.k (omega (arith, long)))

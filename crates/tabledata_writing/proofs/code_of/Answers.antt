@@ -27,7 +27,7 @@ overflow_cast-result c =
     (rw small.0 tt, record { fits = omega (arith, small.1) })
 
 pub returns : goal.returns
-returns-then-z-lt0 c =
+returns c =
     let held : to_z w64 (of_z w64 c.args.z) ≡ c.args.z = to_z-of_z c.ranges.z in
     let small : let z = to_z w64 (of_z w64 c.args.z) in (z ≡ pos (nat_abs z)) × (nat_abs z < 128) = code_is _ c.if-z-lt0.false c.if-z-ge128.false in
     (ap form_of (sym held ∙ small.0), omega (arith, small.1))

@@ -40,7 +40,7 @@ bounds-out-at c =
     omega (arith, c.requires, ap length itself.0)
 
 pub returns : goal.returns
-returns-then-not-is_plain c =
+returns c =
     let itself : (char_form (pos c.args.c) ≡ c.args.c ∷ []) × (c.args.c < 128) = char-plain c.args.c (sym c.is_plain.ensures ∙ c.if-not-is_plain.false) c.if-c-eq62.false in
     let a = c.args in
     wrote_as (sym itself.0) (wrote_one a.out.now a.at a.c)

@@ -49,7 +49,7 @@ pub shape_of-out : goal.shape_of-out
 shape_of-out c = wrote-long c.more_integers.ensures ∙ wrote-long c.write_shortest-next.ensures
 
 pub returns : goal.returns
-returns-then-count-eq0 c =
+returns c =
     let whole : let a = c.args in spaced (map shortest (take a.count a.scratch.now)) ≡ shortest (get_or a.scratch.now 0 (pos 0)) ++ others a.scratch.now a.count = (let a = c.args in
     spaced-taken shortest a.scratch.now a.count c.requires.0 c.if-count-eq0.false) in
     let first : let z = get_or c.args.scratch.now 0 (pos 0) in shortest (to_z w64 (of_z w64 z)) ≡ shortest z = ap shortest (to_z-of_z {w = w64} (sfits_of c.write_shortest-arg-2-1.given)) in

@@ -45,7 +45,7 @@ pub shape_of-out : goal.shape_of-out
 shape_of-out c = wrote-long c.more_truths.ensures ∙ simp length-set
 
 pub returns : goal.returns
-returns-then-count-eq0 c =
+returns c =
     let whole : let a = c.args in spaced (map truth_text (take a.count a.scratch.now)) ≡ (c.truth_byte.result ∷ []) ++ joined (λ z. 32 ∷ truth_text z) (drop 1 (take a.count a.scratch.now)) = (let a = c.args in
     let word = sym (ap truth_text (to_z-of_z {w = w64} (sfits_of c.truth_byte-arg-1.given))) ∙ truth-text _ _ c.truth_byte.ensures in
     spaced-taken truth_text a.scratch.now a.count c.requires.0 c.if-count-eq0.false

@@ -57,7 +57,7 @@ shape_of-out c =
     wrote-long c.put_bytes-2.ensures ∙ wrote-long c.put_elements-next.ensures ∙ wrote-long c.put_bytes-from.ensures
 
 pub returns : goal.returns
-returns-then-null c =
+returns c =
     let a = c.args in
     rw c.if-null.false
     (wrote_as (sym (text-tagged a.column (take a.count a.scratch.now)))

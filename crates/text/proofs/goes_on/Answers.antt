@@ -35,7 +35,7 @@ loop-k-preserved c =
     )
 
 pub returns : goal.returns
-returns-then-s-at c =
+returns c =
     let a = c.args in let k = c.loop-k.k in
     record {
       found = λ n. c.loop-k.invariant.2 n ∙ after-all n a.word.now a.s.now k (a.at + k) c.loop-k-test.false;

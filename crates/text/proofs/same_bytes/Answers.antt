@@ -26,4 +26,4 @@ loop-i-preserved c =
     (search rules, inv.1, inv.2 ∙ same_more t.a.now t.b.now c.loop-i.i c.loop-i-test.true (omega arith) c.if-a-i.false)
 
 pub returns : goal.returns
-returns-then-a-b c = sym (c.loop-i.invariant.2 ∙ same_end _ _ _ c.loop-i-test.false (omega arith))
+returns c = sym (c.loop-i.invariant.2 ∙ same_end _ _ _ c.loop-i-test.false (omega arith))

@@ -28,6 +28,6 @@ returns-else-is_white c =
     }
 
 pub returns : goal.returns
-returns-else-is_white c =
+returns c =
     let inv = c.loop-i.invariant in
     record { rest = inv.2 ∙ skip-end _ _ c.loop-i-test.false; low = inv.0; high = inv.1 }

@@ -13,5 +13,5 @@ ends-requires c =
     (subst (TagIs _ _ _) c.in-At.is c.goes_on.ensures).within.1
 
 pub returns : goal.returns
-returns-in_default c =
+returns c =
     tag-there _ (subst (TagIs _ _ _) c.in-At.is c.goes_on.ensures) c.ends.ensures

@@ -15,6 +15,6 @@ pub returns-then-four_bytes-ne1009734724 : goal.returns-then-four_bytes-ne100973
 returns-then-four_bytes-ne1009734724 c = λ e. absurd (false≢true e)
 
 pub returns : goal.returns
-returns-then-s-at-lt5 c =
+returns c =
     let bytes : AreBytes c.args.s.now = are-bytes c.args.s.now (λ i. omega (arith, c.shared_slice_known-1.given i)) in
     λ e. closes_at _ _ _ bytes (omega arith) c.four_bytes.ensures c.if-four_bytes-ne1009734724.false (eqb-true _ 62 e)

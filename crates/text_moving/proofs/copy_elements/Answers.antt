@@ -55,7 +55,7 @@ overflow_add-result c =
     let h = ended.inside in search rules
 
 pub returns : goal.returns
-returns-in_default c =
+returns c =
     let ended : ClosesAt (at_open c).before.before.before.before.args.s.now (end c) = c.closes.ensures (c.if-not-closes.false) in
     let a = c.args in
     λ never. copied a.column never a.s.now a.from (at_open c).put-open.ensures (found c) ended

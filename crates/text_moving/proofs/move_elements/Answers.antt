@@ -12,7 +12,7 @@ pub returns-then-is_text : goal.returns-then-is_text
 returns-then-is_text c = rw (text-is _ (sym c.is_text.ensures ∙ c.if-is_text.true)) c.copy_elements.ensures
 
 pub returns : goal.returns
-returns-then-is_text c =
+returns c =
     let a = c.args in
     let p = c.read_elements in
     λ never. no_text

@@ -58,7 +58,7 @@ returns-then-is_declared c =
     (tested ∙ c.if-is_declared.true) p.ensures
 
 pub returns : goal.returns
-returns-in_default c =
+returns c =
     let value : ℤ = c.in-Element.z in
     let end : ℕ = c.in-Element.end in
     let kind : Shape = Whole (is_signed c.args.integer) (width_of c.args.integer) in

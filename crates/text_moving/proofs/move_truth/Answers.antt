@@ -55,7 +55,7 @@ returns-then-same_integer c =
     (tested ∙ c.if-same_integer.true) p.ensures
 
 pub returns : goal.returns
-returns-in_default c =
+returns c =
     let value : ℤ = c.in-Element.z in
     let end : ℕ = c.in-Element.end in
     let stands : let a = c.args in InText Truths a.s.now a.from end (value ∷ []) = subst (FindsOne _) c.in-Element.is c.text_truth.ensures in

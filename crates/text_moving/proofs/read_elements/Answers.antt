@@ -58,7 +58,7 @@ fill_up-requires c =
     (omega (arith, fits.few, c.requires.1), omega (arith, u.long, c.requires.2), omega (arith, u.room, u.long))
 
 pub returns : goal.returns
-returns-in_default c =
+returns c =
     let ended : ClosesAt (at_size c).before.before.before.args.s.now (end c) = c.closes.ensures (c.if-not-closes.false) in
     let fits : Counts (at_size c).before.before.before.args.column (count c) = c.count_fits.ensures (c.if-not-count_fits.false) in
     let a = c.args in

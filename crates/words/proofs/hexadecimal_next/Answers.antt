@@ -19,7 +19,7 @@ returns-then-count-ge16 c =
     ∙ sym (hexadecimal-full a.count a.value a.c d.result (hexadigit-is d.ensures c.if-digit-ge16.false) c.if-count-ge16.true)
 
 pub returns : goal.returns
-returns-then-digit-ge16 c =
+returns c =
     let a = c.args in
     let d = c.digit_value-digit in
     sym (hexadecimal-more a.count a.value a.c d.result (hexadigit-is d.ensures c.if-digit-ge16.false) c.if-count-ge16.false)

@@ -21,7 +21,7 @@ returns-then-most_hexadigits-count c =
     sym (hexadecimal-many a.kind a.count a.value c.if-count-eq0.false (omega (arith, c.most_hexadigits.ensures)))
 
 pub returns : goal.returns
-returns-then-count-eq0 c =
+returns c =
     let a = c.args in
     ap {B = Result Fault ℤ} good (to_z-of_z {w = w64} (record { sfits = c.of_low_bytes.type_inv }) ∙ c.of_low_bytes.ensures)
     ∙ sym (hexadecimal-value a.kind a.count a.value c.if-count-eq0.false (omega (arith, c.most_hexadigits.ensures)))

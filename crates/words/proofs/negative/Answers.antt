@@ -49,7 +49,7 @@ overflow_sub-result-2 c =
     search (less-fits w64 (a.value - 1) (omega (arith, c.top_of.ensures, top_lt a.kind)))
 
 pub returns : goal.returns
-returns-then-not-is_signed c =
+returns c =
     let a = c.args in
     let g : is_signed a.kind ≡ true = sym c.is_signed.ensures ∙ c.if-not-is_signed.false in
     let h : a.value - 1 ≤ top a.kind = omega (arith, c.top_of.ensures) in

@@ -27,7 +27,7 @@ pub overflow_cast-result : goal.overflow_cast-result
 overflow_cast-result c = omega (arith, c.top_of.ensures, top_lt c.args.kind)
 
 pub returns : goal.returns
-returns-then-count-eq0 c =
+returns c =
     let a = c.args in
     let h : a.value ≤ top a.kind = omega (arith, c.top_of.ensures) in
     ap {B = Result Fault ℤ} good (to_z_pos w64 (omega (arith, top_lt a.kind))) ∙ sym (decimal-up a.kind a.count a.value c.if-count-eq0.false h)

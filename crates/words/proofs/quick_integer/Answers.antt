@@ -42,7 +42,7 @@ overflow_sub-result c =
 
 pub returns : goal.returns
 unfolding with_sign
-returns-then-s-at-ne45 c =
+returns c =
     let behind : let a = c.args in quickly a.kind a.s.now a.at ≡ quick_run a.kind true a.s.now (a.at + 1) = quick-minus _ _ _ c.if-s-at-ne45.false (sym c.is_signed.ensures ∙ c.if-not-is_signed.false) in
     let r = c.quick_digits-run in
     let small = top_lt c.args.kind in

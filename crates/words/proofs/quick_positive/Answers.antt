@@ -23,7 +23,7 @@ overflow_cast-result c = omega (arith, c.top_of.ensures, top_lt c.args.kind)
 
 pub returns : goal.returns
 unfolding with_sign
-returns-then-next-at c =
+returns c =
     let r = c.quick_digits-run in
     ap (λ (z : ℤ). Value z r.result.next) (to_z_pos w64 (omega (arith, c.top_of.ensures, top_lt c.args.kind)))
     ∙ sym (run_value _ _ _ _ r.ensures _ _ (λ e. omega (arith, e)) (omega (arith, c.top_of.ensures)))

@@ -11,4 +11,4 @@ returns-then-c-eq120 c = sym (ap zero_next c.if-c-eq120.true)
 
 pub returns : goal.returns
 unfolding zero_next
-returns-then-c-eq120 c = c.decimal_next.ensures ∙ sym (rw (ne_eqb c.args.c 120 c.if-c-eq120.false))
+returns c = c.decimal_next.ensures ∙ sym (rw (ne_eqb c.args.c 120 c.if-c-eq120.false))

@@ -26,4 +26,4 @@ loop-i-preserved c =
     (omega arith, fours-more _ _ _ c.loop-i.invariant.1 (omega arith) (by-sum _ _ _ sum (omega arith)))
 
 pub returns : goal.returns
-returns-then-four_sum-ge256 c = c.loop-i.invariant.1
+returns c = c.loop-i.invariant.1

@@ -7,4 +7,4 @@ pub returns-then-i-s : goal.returns-then-i-s
 returns-then-i-s c = next-there _ _ _ c.skip_white-i.ensures c.if-i-s.true
 
 pub returns : goal.returns
-returns-then-i-s c = next-none _ _ _ c.skip_white-i.ensures c.if-i-s.false
+returns c = next-none _ _ _ c.skip_white-i.ensures c.if-i-s.false

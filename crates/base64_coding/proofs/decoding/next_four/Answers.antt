@@ -123,7 +123,7 @@ one_byte-requires c =
     let l = looked-up in (l.0, l.1, l.4)
 
 pub returns : goal.returns
-returns-in_default c =
+returns c =
     let one : Run c.args.s.now c.args.i (c.in-Byte.a ∷ []) c.in-Byte.ja = run-start _ _ _ _ _ c.next_byte.ensures c.in-Byte.is in
     let two : Run c.args.s.now c.args.i (c.in-Byte.a ∷ c.in-Byte-next_byte.b ∷ []) c.in-Byte-next_byte.jb = run_more _ _ _ _ _ _ _ one c.next_byte-2.ensures c.in-Byte-next_byte.is in
     let three : Run c.args.s.now c.args.i (c.in-Byte.a ∷ c.in-Byte-next_byte.b ∷ c.in-Byte-next_byte-2.c ∷ []) c.in-Byte-next_byte-2.jc = run_more _ _ _ _ _ _ _ two c.next_byte-3.ensures c.in-Byte-next_byte-2.is in

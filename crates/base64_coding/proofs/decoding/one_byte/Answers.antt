@@ -28,7 +28,7 @@ returns-then-x-ne0 c = rw (
 
 pub returns : goal.returns
 unfolding one_byte
-returns-then-w-ge64 c = rw (
+returns c = rw (
   is-letter _ _ c.letter_value-w.ensures c.if-w-ge64.false,
   is-letter _ _ c.letter_value-x.ensures c.if-x-ge64.false,
   eq-eqb (c.letter_value-x.result % 16) 0 (omega arith),

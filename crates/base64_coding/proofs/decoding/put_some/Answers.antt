@@ -19,4 +19,4 @@ pub bounds-out-n-2 : goal.bounds-out-n-2
 bounds-out-n-2 c = simp length-set (omega arith)
 
 pub returns : goal.returns
-returns-then-count-eq3 c = let two : c.args.count ≡ 2 = omega arith in rw (two, add-one)
+returns c = let two : c.args.count ≡ 2 = omega arith in rw (two, add-one)

@@ -34,7 +34,7 @@ returns-then-z-ge64 c = rw (
 
 pub returns : goal.returns
 unfolding three_bytes
-returns-then-w-ge64 c = rw (
+returns c = rw (
   is-letter _ _ c.letter_value-w.ensures c.if-w-ge64.false,
   is-letter _ _ c.letter_value-x.ensures c.if-x-ge64.false,
   is-letter _ _ c.letter_value-y.ensures c.if-y-ge64.false,

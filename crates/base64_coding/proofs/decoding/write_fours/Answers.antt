@@ -57,6 +57,6 @@ pub shape_of-out : goal.shape_of-out
 shape_of-out c = search rules
 
 pub returns : goal.returns
-returns-then-number c = let t =
+returns c = let t =
     let whole = c.loop-i.invariant.2 in (t.letters, stored-all _ _ _ _ _ _ _ t) in
     record { place = whole.0; buffer = whole.1 }

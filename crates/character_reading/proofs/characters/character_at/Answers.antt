@@ -48,7 +48,7 @@ pub overflow_cast-result : goal.overflow_cast-result
 overflow_cast-result c = omega (arith, c.shared_slice_known-2-1.given c.args.at)
 
 pub returns : goal.returns
-returns-in-Markup c =
+returns c =
     let a = c.args in
     record {
       found = itself a.s.now a.at a.source (omega arith) c.if-c-eq60.false c.if-c-eq38.false c.if-c-eq13.false;

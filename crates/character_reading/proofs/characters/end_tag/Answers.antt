@@ -9,4 +9,4 @@ pub returns-in_default : goal.returns-in_default
 returns-in_default c = ended-not (subst (TagIs _ _ _) c.in_default.is c.whole_tag.ensures)
 
 pub returns : goal.returns
-returns-in_default c = ended_by (subst (TagIs _ _ _) c.in-At.is c.whole_tag.ensures)
+returns c = ended_by (subst (TagIs _ _ _) c.in-At.is c.whole_tag.ensures)

@@ -15,6 +15,6 @@ returns-then-s-next-eq10 c =
     return-feed-item s i c.requires (omega arith) (omega arith)
 
 pub returns : goal.returns
-returns-then-s-next c =
+returns c =
     let s = c.args.s.now in let i = c.args.at in
     return-alone-item s i c.requires (return-other s i c.requires (omega arith) (λ e. omega (arith, e)))

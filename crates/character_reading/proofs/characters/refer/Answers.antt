@@ -27,6 +27,6 @@ overflow_add-result c =
     omega (arith, name.within.1)
 
 pub returns : goal.returns
-returns-in_default c =
+returns c =
     let name : NameIs c.args.s.now c.args.from (At c.in-At.end) = subst (NameIs _ _) c.in-At.is c.semicolon.ensures in
     name-known name (c.expand.ensures ∙ ap reference_as c.in-Means.is)

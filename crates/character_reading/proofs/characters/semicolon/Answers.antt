@@ -24,4 +24,4 @@ loop-i-preserved c =
     (search rules, search rules, p.2 ∙ name-more _ s i here c.if-s-i-eq59.false ∙ longer)
 
 pub returns : goal.returns
-returns-then-s-i-eq59 c = record { found = c.loop-i.invariant.2 ∙ name-end _ _ _ c.loop-i-test.false; within = tt }
+returns c = record { found = c.loop-i.invariant.2 ∙ name-end _ _ _ c.loop-i-test.false; within = tt }

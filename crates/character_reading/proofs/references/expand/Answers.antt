@@ -18,4 +18,4 @@ pub returns-then-name-eq120 : goal.returns-then-name-eq120
 returns-then-name-eq120 c = expand-hex _ (omega arith) c.if-name-ne35.false c.if-name-eq120.true ∙ c.number_means.ensures
 
 pub returns : goal.returns
-returns-then-name-eq0 c = expand-decimal _ (omega arith) c.if-name-ne35.false c.if-name-eq120.false ∙ c.number_means-2.ensures
+returns c = expand-decimal _ (omega arith) c.if-name-ne35.false c.if-name-eq120.false ∙ c.number_means-2.ensures

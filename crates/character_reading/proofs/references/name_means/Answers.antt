@@ -42,7 +42,7 @@ returns-then-same_bytes-5 c =
 
 pub returns : goal.returns
 unfolding named names
-returns-then-same_bytes c =
+returns c =
     let not-amp : same (bytes "amp") c.args.name.now ≡ false = sym c.same_bytes.ensures ∙ c.if-same_bytes.false in
     let not-lt : same (bytes "lt") c.args.name.now ≡ false = sym c.same_bytes-2.ensures ∙ c.if-same_bytes-2.false in
     let not-gt : same (bytes "gt") c.args.name.now ≡ false = sym c.same_bytes-3.ensures ∙ c.if-same_bytes-3.false in

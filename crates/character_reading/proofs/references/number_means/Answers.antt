@@ -47,7 +47,7 @@ loop-i-preserved c =
     )
 
 pub returns : goal.returns
-returns-then-name-from c =
+returns c =
     let digits : let a = c.args in numeric (value_in a.hex) (base_in a.hex) (drop a.from a.name.now) ≡ refused_as (λ f. 10) (numeral (value_in a.hex) (base_in a.hex) 0 (drop a.from a.name.now)) = (let a = c.args in let long = length-drop a.from a.name.now in
     numeric-sized a.hex (drop a.from a.name.now) (omega (arith, long)) (omega (arith, long))) in
     digits ∙ ap (refused_as (λ f. 10)) (c.loop-i.invariant.3 ∙ numeral-end c.args.hex _ _ _ c.loop-i-test.false)

@@ -18,5 +18,5 @@ returns-then-s-end-2 c =
     quoted-yes _ _ c.requires (sym c.is_quote.ensures ∙ c.if-not-is_quote.false) _ c.span_end-end.ensures c.if-s-end.false c.if-s-end-2.true
 
 pub returns : goal.returns
-returns-then-not-is_quote c =
+returns c =
     quoted-less c.args.s.now c.args.from c.requires (sym c.is_quote.ensures ∙ c.if-not-is_quote.false) c.span_end-end.result c.span_end-end.ensures c.if-s-end.false c.if-s-end-2.false

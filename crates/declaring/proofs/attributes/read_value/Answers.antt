@@ -18,5 +18,5 @@ returns-then-from-s c =
     c.ends.ensures) _ c.skip_white-from.ensures _ c.read_quoted.ensures
 
 pub returns : goal.returns
-returns-in_default c =
+returns c =
     assigned-none _ _ _ (subst (TagIs _ _ _) c.in-At.is c.ends.ensures) _ c.skip_white-from.ensures c.if-from-s.false

@@ -41,7 +41,7 @@ returns-in_default-read_null c =
 
 pub returns : goal.returns
 unfolding judge element_of
-returns-in_default c =
+returns c =
     let scalar_is : c.is_scalar-scalar.result ≡ is_scalar (column_of c.in-Carried.kind c.in-Shaped.len Undeclared) = c.is_scalar-scalar.ensures ∙ ap is_scalar c.column_of.ensures in
     rw (
       c.kind_of.ensures ∙ ap kind_read c.in-Carried.is,

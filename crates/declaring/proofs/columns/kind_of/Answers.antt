@@ -81,7 +81,7 @@ returns-then-same_bytes-7 c =
 
 pub returns : goal.returns
 unfolding kind_of kinds
-returns-then-same_bytes c =
+returns c =
     let passed-1 : Passed 1 c = not-met _ _ _ _ c.same_bytes.ensures c.if-same_bytes.false in
     let passed-2 : Passed 2 c = passed-1 ∙ not-met _ _ _ _ c.same_bytes-2.ensures c.if-same_bytes-2.false in
     let passed-3 : Passed 3 c = passed-2 ∙ not-met _ _ _ _ c.same_bytes-3.ensures c.if-same_bytes-3.false in

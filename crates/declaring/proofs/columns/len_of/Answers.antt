@@ -25,7 +25,7 @@ returns-then-t-last-eq42 c =
 
 pub returns : goal.returns
 unfolding len_before fixed_len
-returns-then-t-eq0 c =
+returns c =
     rw (star-no c.args.t.now (length c.args.t.now - 1) (omega (
       arith,
       c.if-t-eq0.false,

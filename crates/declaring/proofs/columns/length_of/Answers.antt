@@ -65,7 +65,7 @@ returns-then-n-le-MOST_ELEMENTS c =
     whole ∙ capped-yes _ _ (numeral-end _ _ _ c.loop-i-test.false) c.if-n-le-MOST_ELEMENTS.true
 
 pub returns : goal.returns
-returns-then-t-eq0 c =
+returns c =
     let text_at : List ℕ = c.args.t.now in
     let whole : length_of text_at ≡ capped (numeral digit 10 c.loop-i.n (drop c.loop-i.i text_at)) = length-numeral text_at (omega arith) c.if-t-gt4.false c.if-t-eq48.false ∙ ap capped c.loop-i.invariant.2 in
     whole ∙ capped-more _ _ (numeral-end _ _ _ c.loop-i-test.false) c.if-n-le-MOST_ELEMENTS.false

@@ -24,5 +24,5 @@ returns-then-scalar c =
     ap (λ (v : Value). null_of (shape c.args.kind) c.args.scalar (as_written c.args.s.now v)) c.in-Present.is ∙ scalar-null _ _ _ c.if-scalar.true ∙ c.null_of.ensures
 
 pub returns : goal.returns
-returns-in_default c =
+returns c =
     ap (λ (v : Value). null_of (shape c.args.kind) c.args.scalar (as_written c.args.s.now v)) c.in-Present.is ∙ array-null _ _ _ c.if-scalar.false

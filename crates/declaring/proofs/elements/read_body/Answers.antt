@@ -28,6 +28,6 @@ read_end_tag-requires-2 c =
     (b.places.1, b.places.2)
 
 pub returns : goal.returns
-returns-in_default c =
+returns c =
     body-values _ _ _ (subst (TagIs _ _ _) c.in-At.is c.ends.ensures) _ _ _ (subst (BodyIs _ _ _) c.in-Holds.is
     c.read_values.ensures) c.read_end_tag-2.ensures

@@ -13,6 +13,6 @@ returns-in_default c =
     end-tag-no _ _ c.args.value _ c.skip_white-i.ensures (subst (TagIs _ _ _) c.in_default.is c.whole_tag.ensures)
 
 pub returns : goal.returns
-returns-in_default c =
+returns c =
     end-tag-yes _ _ c.args.value _ c.skip_white-i.ensures _
     (subst (TagIs _ _ _) c.in-At.is c.whole_tag.ensures) c.requires.1

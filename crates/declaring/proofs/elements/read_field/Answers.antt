@@ -28,7 +28,7 @@ returns-in_default-read_rest c =
     c.read_attributes.ensures) (subst (BodyIs _ _ _) c.in_default-read_rest.is c.read_rest.ensures)
 
 pub returns : goal.returns
-returns-in_default c =
+returns c =
     rw c.assemble.ensures (field_at _ _ _ (subst (TagIs _ _ _) c.in-At.is c.goes_on.ensures) _ _ (subst
     (AttributesIs _ _) c.in-Tallied.is c.read_attributes.ensures) _ _ (subst (BodyIs _ _ _) c.in-Holds.is
     c.read_rest.ensures))

@@ -20,6 +20,6 @@ returns-in_default-ends c =
     c.in_default-ends.is c.ends.ensures)
 
 pub returns : goal.returns
-returns-in_default c =
+returns c =
     rw c.values_body.ensures (values-at _ _ _ _ (subst (AttributesIs _ _) c.in-Tallied.is c.read_attributes.ensures) _ (subst
     (TagIs _ _ _) c.in-At.is c.ends.ensures))

@@ -24,6 +24,6 @@ returns-else-belongs c =
     record { count = omega (arith, stop); onward = search rules; inside = search rules }
 
 pub returns : goal.returns
-returns-else-belongs c =
+returns c =
     let stop = span-end (in_class c.args.class) c.args.s.now c.loop-i.i c.loop-i-test.false in
     record { count = omega (arith, stop); onward = search rules; inside = search rules }

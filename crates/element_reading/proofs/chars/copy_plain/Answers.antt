@@ -61,4 +61,4 @@ pub shape_of-scratch : goal.shape_of-scratch
 shape_of-scratch c = c.loop-i.invariant.1.long
 
 pub returns : goal.returns
-returns-then-scratch-k c = c.loop-i.invariant.1
+returns c = c.loop-i.invariant.1

@@ -9,4 +9,4 @@ returns-then-first-eq0 c = rw (eq-eqb c.args.first 0 c.if-first-eq0.true)
 
 pub returns : goal.returns
 unfolding first_bad
-returns-then-first-eq0 c = rw (ne_eqb c.args.first 0 c.if-first-eq0.false)
+returns c = rw (ne_eqb c.args.first 0 c.if-first-eq0.false)

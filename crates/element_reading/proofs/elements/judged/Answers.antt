@@ -9,4 +9,4 @@ returns-then-number-eq0 c = rw (eq-eqb c.args.number 0 c.if-number-eq0.true)
 
 pub returns : goal.returns
 unfolding judged_as
-returns-then-number-eq0 c = rw (ne_eqb c.args.number 0 c.if-number-eq0.false)
+returns c = rw (ne_eqb c.args.number 0 c.if-number-eq0.false)

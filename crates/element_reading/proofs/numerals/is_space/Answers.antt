@@ -9,4 +9,4 @@ pub returns-then-s-at : goal.returns-then-s-at
 returns-then-s-at c = let a = c.args in rw (le-ltb a.at (length a.s.now) c.if-s-at.true)
 
 pub returns : goal.returns
-returns-then-s-at c = let a = c.args in rw (lt-ltb a.at (length a.s.now) (omega arith))
+returns c = let a = c.args in rw (lt-ltb a.at (length a.s.now) (omega arith))

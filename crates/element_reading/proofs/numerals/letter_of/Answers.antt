@@ -9,4 +9,4 @@ pub returns-then-c-lt256 : goal.returns-then-c-lt256
 returns-then-c-lt256 c = sym (letter-low c.args.c c.if-c-lt256.true)
 
 pub returns : goal.returns
-returns-then-c-lt256 c = sym (letter-none c.args.c (omega arith))
+returns c = sym (letter-none c.args.c (omega arith))

@@ -35,7 +35,7 @@ returns-then-x-eq3 c =
     }
 
 pub returns : goal.returns
-returns-then-word-eq1 c =
+returns c =
     let some_word : (w : List ℕ) → c.args.word ≡ spelling w → truth_word w ≡ truth_as c.truth_of-x.result = λ w e. truth-value w (spelling-some w (λ n. c.if-word-eq1.false (e ∙ n))) ∙ ap truth_as (ap truth_number (sym e) ∙ sym c.truth_of-x.ensures) in
     let stored = to_z-of_z {w = w64} (record { sfits = c.as_element.type_inv }) ∙ c.as_element.ensures in
     record {

@@ -12,4 +12,4 @@ pub returns-then-c-gt90 : goal.returns-then-c-gt90
 returns-then-c-gt90 c = (sym (lower-not c.args.c (λ h. omega arith)), omega arith)
 
 pub returns : goal.returns
-returns-then-c-lt65 c = (sym (lower-yes c.args.c (omega arith) (omega arith)), omega arith)
+returns c = (sym (lower-yes c.args.c (omega arith) (omega arith)), omega arith)

@@ -13,4 +13,4 @@ pub returns-then-c-ge128 : goal.returns-then-c-ge128
 returns-then-c-ge128 c = sym (spell-wide _ _ c.if-c-ge128.true)
 
 pub returns : goal.returns
-returns-then-word-ge281474976710656 c = ap (λ (n : ℕ). c.args.word * 256 + n) c.lower_case.ensures.0 ∙ sym (spell-low _ _ (omega arith) (omega arith))
+returns c = ap (λ (n : ℕ). c.args.word * 256 + n) c.lower_case.ensures.0 ∙ sym (spell-low _ _ (omega arith) (omega arith))

@@ -40,7 +40,7 @@ returns-then-is_null c =
     }
 
 pub returns : goal.returns
-returns-then-count-eq0 c =
+returns c =
     let fits : let col = c.args.column in room_and col.kind col.len c.args.count ≡ true = sym c.count_fits.ensures ∙ c.if-not-count_fits.false in
     let few : c.args.count ≤ length c.args.scratch.now = omega (arith, room-few c.args.column c.args.count fits, c.requires.0, c.requires.1) in
     let room : bound c.args.column.len ≤ length c.args.scratch.now = omega (arith, c.requires.0, c.requires.1) in
