@@ -479,7 +479,7 @@ def turn(crate, file, names):
             body = re.sub(r"(?m)^" + re.escape(name) + r"(?= )", new, body)
             fields = f.fields_of(need)
             if fields:
-                b = re.match(re.escape(new) + r"( \S+)* =(.*)", body, re.S)
+                b = re.match(re.escape(new) + r"( [^\s=]+)* =(.*)", body, re.S)
                 if b and "\n" + new + " " not in body:
                     at = b.start(2)
                     body = body[:at] + as_record(fields, body[at:])
