@@ -140,7 +140,7 @@ overflow_add-size c =
 pub overflow_sub-room : goal.overflow_sub-room
 overflow_sub-room c =
     let begun-of : Begun = c in
-    omega (arith, (rows_of begun-of).rows.invariant.0.room)
+    omega (arith, (rows_of begun-of).rows.inv.0.room)
 
 pub put_row-requires : goal.put_row-requires
 put_row-requires c =
@@ -175,7 +175,7 @@ put_row-requires c =
             (held-ready (from_at r) (to_at r) (cols-at r) (flags-at b) (s-at r) (body_at b) l.at l.i l.inv.0 l.scratch l.m l.inv.1 (listed-length (cols-at r))
             c.loop-i-test.false),
       );
-      holding_in_bounds = subst (λ (y : Holding). r.rows.p.bytes + length (row-held y) ≤ length r.rows.out) h (omega (arith, size-at, c.if-room-size.false, r.rows.invariant.0.room));
+      holding_in_bounds = subst (λ (y : Holding). r.rows.p.bytes + length (row-held y) ≤ length r.rows.out) h (omega (arith, size-at, c.if-room-size.false, r.rows.inv.0.room));
     }
 
 pub overflow_sub-next : goal.overflow_sub-next
@@ -209,8 +209,8 @@ after-requires-in-rows c =
     (row-onward (from_at r) (listed (cols-at r)) (s-at r) r.rows.cursor.at next-at _ (are r) whole w.1, w.1)) in
     let r = rows_of begun-of in
     let o = onward in (
-      omega (arith, c.if-room-size.false, r.rows.invariant.0.room, (done_at r).long, r.good),
-      omega (arith, r.rows.invariant.0.fewer, o.0, o.1, r.good),
+      omega (arith, c.if-room-size.false, r.rows.inv.0.room, (done_at r).long, r.good),
+      omega (arith, r.rows.inv.0.fewer, o.0, o.1, r.good),
     )
 
 pub moved-more-requires : goal.moved-more-requires
@@ -402,7 +402,7 @@ rows-preserved c =
     let r = turn-rows in
     let m = c.moved-more.ensures in
     let d = more-done in
-    let i = r.rows.invariant.0 in (
+    let i = r.rows.inv.0 in (
       record {
         inside = d.inside;
         fewer = d.fewer;
@@ -411,9 +411,9 @@ rows-preserved c =
         onward = omega (arith, i.onward, (onward (c)).0, cursor-moves, d.onward);
         further = λ o before. d.further o (row-behind o (i.further o before));
       },
-      (all_of (c)).before.loop.inv.2 ∙ r.rows.invariant.1,
-      m.scratch_len_unchanged ∙ scratch-behind ∙ r.rows.invariant.2,
-      m.row_len_unchanged ∙ r.rows.invariant.3,
+      (all_of (c)).before.loop.inv.2 ∙ r.rows.inv.1,
+      m.scratch_len_unchanged ∙ scratch-behind ∙ r.rows.inv.2,
+      m.row_len_unchanged ∙ r.rows.inv.3,
     )
 
 pub returns-after-rows : goal.returns-after-rows

@@ -200,12 +200,12 @@ frame_row-requires c =
     let begun-of : Begun = c in
     let l = c.loop-i in
     let r = rows_of begun-of in
-    (few r, omega (arith, l.inv.1.puts.long, r.rows.invariant.2, r.pre.0.2), omega (arith, l.inv.1.puts.room, l.inv.1.puts.long))
+    (few r, omega (arith, l.inv.1.puts.long, r.rows.inv.2, r.pre.0.2), omega (arith, l.inv.1.puts.room, l.inv.1.puts.long))
 
 pub overflow_sub-out : goal.overflow_sub-out
 overflow_sub-out c =
     let begun-of : Begun = c in
-    (rows_of begun-of).rows.invariant.0.room
+    (rows_of begun-of).rows.inv.0.room
 
 pub put_row-bytes-requires : goal.put_row-bytes-requires
 put_row-bytes-requires c =
@@ -220,7 +220,7 @@ put_row-bytes-requires c =
     let g = c.frame_row.ensures.framed in
     let k = subst (FramedAs (to_at r) (cols-at r).count l.nulls l.row l.end framed-row) c.in-Row-frame_row.is g in
     (k.0, k.1 l.inv.1.w (take r.before.before.start-size.result r.rows.row) l.inv.1.puts.front (length-take-le _ r.rows.row (roomy r) ∙ sym (starts r l.nulls)))) in
-    (stands.0, omega (arith, c.if-out-bytes.false, (rows_of begun-of).rows.invariant.0.room))
+    (stands.0, omega (arith, c.if-out-bytes.false, (rows_of begun-of).rows.inv.0.room))
 
 pub overflow_add-rows : goal.overflow_add-rows
 overflow_add-rows c =
@@ -240,7 +240,7 @@ overflow_add-rows c =
     let w = closed-within (from_at r) (s-at r) c.loop-i.at z.result z.ensures next-at c.in-Closed.is in
     (row-onward (from_at r) (listed (cols-at r)) (s-at r) r.rows.place next-at _ (are r) whole w.1, w.1)) in
     let r = rows_of begun-of in
-    let f = rows-further r.rows.invariant.0 (are r) r.pre.1.0 r.pre.1.1 in
+    let f = rows-further r.rows.inv.0 (are r) r.pre.1.0 r.pre.1.1 in
     omega (arith, f.fewer, onward.0, onward.1, r.good)
 
 pub rows-smaller : goal.rows-smaller
@@ -298,14 +298,14 @@ rows-preserved c =
     let b = begun-of in
     let r = b in
     let l = c.loop-i in
-    let i = r.rows.invariant.0 in
+    let i = r.rows.inv.0 in
     let p = wrote_as stands.1 c.put_row-bytes.ensures in
     let fits = c.if-out-bytes.false in
     let g = c.frame_row.ensures in (
       rows_more (from_at r) (to_at r) (listed (cols-at r)) (s-at r) _ _ _ _ r.rows.out r.rows.place r.rows.rows r.rows.bytes i
           l.inv.0.acc next-at whole onward.1 row-bytes written_at (omega (arith, as_many, fits, i.room)) _ _ p,
-      l.inv.2 ∙ r.rows.invariant.1,
-      g.long ∙ l.inv.1.puts.long ∙ r.rows.invariant.2,
+      l.inv.2 ∙ r.rows.inv.1,
+      g.long ∙ l.inv.1.puts.long ∙ r.rows.inv.2,
     )
 
 pub returns-in-Refused : goal.returns-in-Refused
@@ -328,7 +328,7 @@ pub shape_of-scratch-in_default : goal.shape_of-scratch-in_default
 shape_of-scratch-in_default c =
     let unmoved : Turning = turn-of (c) in
     let t = unmoved in
-    c.move_cell.ensures.scratch_len_unchanged ∙ t.before.loop.inv.2 ∙ t.rows.invariant.1
+    c.move_cell.ensures.scratch_len_unchanged ∙ t.before.loop.inv.2 ∙ t.rows.inv.1
 
 pub shape_of-row-in_default : goal.shape_of-row-in_default
 shape_of-row-in_default c =
@@ -357,7 +357,7 @@ shape_of-row-in_default c =
     (subst (SettlesCell (from_at r) (to_at r) (column-at t) _ (s-at r) l.at planned-row l.end _) c.in_default.is m.ensures.settles_cell)) in
     let l = unmoved.before.loop in
     let r = rows_of unmoved.before.before in
-    unmoved-cell.puts.long ∙ l.inv.1.puts.long ∙ r.rows.invariant.2
+    unmoved-cell.puts.long ∙ l.inv.1.puts.long ∙ r.rows.inv.2
 
 pub returns-in_default : goal.returns-in_default
 returns-in_default c =
@@ -390,9 +390,9 @@ returns-in_default c =
     let r = b in
     let f = (c).before.before.before.before.before.flag-of in
     cell-left (from_at r) (to_at r) (listed (cols-at r)) (s-at r) r.rows.place r.rows.out r.rows.bytes _ _ (body_at b) l.at l.i (begun b) l.inv.0
-    r.rows.row _ l.row l.end l.nulls l.inv.1 r.before.before.start-size.ensures.0 r.rows.invariant.2 (column-at t) (next-column t) f.result f.ensures _ unmoved-cell) in
+    r.rows.row _ l.row l.end l.nulls l.inv.1 r.before.before.start-size.ensures.0 r.rows.inv.2 (column-at t) (next-column t) f.result f.ensures _ unmoved-cell) in
     record {
-      moves_rows = record { moved = (rows_of unmoved.before.before).rows.invariant.0; stops = uncelled };
+      moves_rows = record { moved = (rows_of unmoved.before.before).rows.inv.0; stops = uncelled };
       scratch_len_unchanged = shape_of-scratch-in_default c;
       row_len_unchanged = shape_of-row-in_default c;
     }
@@ -453,7 +453,7 @@ returns-in_default-frame_row c =
     (omega (arith, k, g.long, loop-row, l.inv.1.puts.next-is, starts r l.nulls, length-append start (cells ++ write_end (to_at r)), length-append cells (write_end (to_at r))))) in
     let g = c.frame_row.ensures in
     record {
-      moves_rows = record { moved = (rows_of begun-of).rows.invariant.0; stops = too_long };
+      moves_rows = record { moved = (rows_of begun-of).rows.inv.0; stops = too_long };
       scratch_len_unchanged = loop-scratch;
       row_len_unchanged = g.long ∙ loop-row;
     }
@@ -492,10 +492,10 @@ returns-then-out-bytes c =
     let full : LeftAt (rows_of begun-of) = (
     let r = rows_of begun-of in
     full-left (from_at r) (to_at r) (listed (cols-at r)) (s-at r) r.rows.place r.rows.out r.rows.bytes _ _ _ row-bytes whole written_at
-    (omega (arith, c.if-out-bytes.true, as_many, r.rows.invariant.0.room))) in
+    (omega (arith, c.if-out-bytes.true, as_many, r.rows.inv.0.room))) in
     let g = c.frame_row.ensures in
     record {
-      moves_rows = record { moved = (rows_of begun-of).rows.invariant.0; stops = full };
+      moves_rows = record { moved = (rows_of begun-of).rows.inv.0; stops = full };
       scratch_len_unchanged = loop-scratch;
       row_len_unchanged = g.long ∙ loop-row;
     }
