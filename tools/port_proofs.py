@@ -267,6 +267,8 @@ def walk(f, root_names, text):
     # names for steps
     for m in list(re.finditer(r"\blet (" + IDENT + r") = (?:" + "|".join(map(re.escape, set(roots.values()))) + r")\.([\w'-]+)\s+in\b", text)):
         name, step = m.groups()
+        if step in [l[0] for l in f.loops.values()]:
+            text = re.sub(r"(?<![\w'.-])" + re.escape(name) + r"\.inv\b", name + ".invariant", text)
         if step in f.clauses:
             text = re.sub(r"(?<![\w'.-])" + re.escape(name) + r"\.ensures((?:\.\d+(?![\w']))+)", lambda q: name + ".ensures" + (pick(f.clauses[step], q.group(1)) or q.group(1)), text)
         text = re.sub(r"(?<![\w'.-])" + re.escape(name) + r"\.((?:auto|new)(?:\.\d+(?![\w']))+)", lambda q: name + "." + ".".join(by_parameter(f, step, q.group(1).split("."))), text)
@@ -658,7 +660,7 @@ def turn(crate, file, names):
             if new == text:
                 break
             text = new
-        return walk(f, ["c"], text)
+        return walk(f, ["c"], re.sub(r"\((" + IDENT + r")\)(?=\.)", r"\1", text))
 
     for h in inlined:
         h.body, h.type = flat(h.body), flat(h.type)
