@@ -540,6 +540,10 @@ def turn(crate, file, names):
                 unfolding.append(rest.pop(0))
             body = "\n".join(rest)
             roots = re.findall(r"(?m)^" + re.escape(name) + r" (" + IDENT + r")", body)
+            if len(roots) == 1 and roots[0] != "c":
+                body = re.sub(r"(?<![\w'.-])c(?![\w'₀-₉-])", "column", body)
+                body = re.sub(r"(?<![\w'.-])" + re.escape(roots[0]) + r"(?![\w'₀-₉-])", "c", body)
+                roots = ["c"]
             body = walk(f, roots or ["c"], body)
             body = re.sub(r"(?m)^" + re.escape(name) + r" (\S+) κs =", new + r" \1 =", body)
             body = re.sub(r"(?m)^" + re.escape(name) + r"(?= )", new, body)
@@ -558,7 +562,7 @@ def turn(crate, file, names):
         if lines[0].startswith("module _"):
             made_of = of_module(lines)
             if made_of and re.search(r"tie\.|" + ("|".join(map(re.escape, place_types)) or "tie"), lines[0]):
-                hs = [Helper(f, [], it, place_types) if not (re.search(r" : tie\.[A-Z]|→ tie\.[A-Z]", it[0].split(" : ", 2)[-1].split(")", 1)[-1]) ) else it for _, it in made_of]
+                hs = [Helper(f, [], it, place_types) if not re.search(r"→ (?:tie\.[A-Z][^→]*|" + "|".join(map(re.escape, place_types + ["\\0"])) + r")" + re.escape(n) + r" |→ (?:tie\.[A-Z][^→]*|" + "|".join(map(re.escape, place_types + ["\\0"])) + r")$", it[0]) else it for n, it in made_of]
                 if all(isinstance(h, list) or h.ok for h in hs):
                     for (n, it), h in zip(made_of, hs):
                         if isinstance(h, list):
