@@ -20,7 +20,7 @@ returns-then-index-place c =
     let index = c.args.index.now in
     record {
       value = rw (eq-eqb (c.args.row % 64) 0 (omega arith), le-ltb (c.args.row / 64) (length index) (omega arith));
-      index_after = rw (eq-eqb (c.args.row % 64) 0 (omega arith), le-ltb (c.args.row / 64) (length index) (omega arith))
+      index_after = rw (eq-eqb (c.args.row % 64) 0 (omega arith))
           (sym (set_out index (c.args.row / 64) c.args.start (omega arith)));
     }
 
@@ -29,5 +29,5 @@ returns c =
     let index = c.args.index.now in
     record {
       value = rw (eq-eqb (c.args.row % 64) 0 (omega arith), lt-ltb (c.args.row / 64) (length index) (omega arith));
-      index_after = rw (eq-eqb (c.args.row % 64) 0 (omega arith), lt-ltb (c.args.row / 64) (length index) (omega arith));
+      index_after = rw (eq-eqb (c.args.row % 64) 0 (omega arith));
     }
