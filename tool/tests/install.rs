@@ -279,9 +279,12 @@ fn a_second_build_runs_nothing() {
 fn the_library_is_dated_no_later_than_its_newest_source() {
     let root = Path::new(ROOT);
     let date = |place: &PathBuf| fs::metadata(place).and_then(|data| data.modified()).expect("a date");
-    let mut sources = files(&root.join("crates"));
-    sources.extend(files(&root.join("tool/aarch64")));
-    sources.extend(["crates.txt", "include/sailmortar.h", "tool/build.rs", "tool/version.c"].map(|source| root.join(source)));
+    let mut sources = ["crates.txt", "include/sailmortar.h", "tool/build.rs", "tool/version.c"].map(|source| root.join(source)).to_vec();
+    for entry in fs::read_dir(root.join("crates")).expect("the crates") {
+        let folder = entry.expect("a crate").path();
+        let parts = ["src", "specs", "proofs"].map(|part| folder.join(part));
+        sources.extend(parts.iter().filter(|part| part.is_dir()).flat_map(|part| files(part)));
+    }
     let newest = sources.iter().map(date).max().expect("a source");
     for product in ["libsailmortar.a", "libsailmortar.so.0", "libsailmortar.so"] {
         assert!(date(&root.join("target/library").join(product)) <= newest, "{product}");
