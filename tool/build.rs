@@ -1,7 +1,7 @@
 //! Makes target/library/ for C and Python, the archive and the shared library of the proved converter, and has cargo link a copy of the
 //! archive. The Rattle toolchain proves and compiles (`rt lib` in crates/sailmortar_c), cc adds tool/version.c. It says what is missing.
 
-use std::collections::hash_map::DefaultHasher;
+use std::collections::hash_map::{DefaultHasher, HashMap};
 use std::env;
 use std::fs::{self, File, TryLockError};
 use std::hash::{Hash, Hasher};
@@ -16,7 +16,7 @@ const SOURCES: [&str; 4] = ["crates.txt", "include/sailmortar.h", "tool/build.rs
 const PARTS: [&str; 3] = ["src", "specs", "proofs"];
 
 /// The crate that exports the functions for C.
-const EXPORTS: &str = "crates/sailmortar_c";
+const EXPORTS: &str = "sailmortar_c";
 /// What the toolchain makes of it, in its folder.
 const PROVED: &str = "out/libsailmortar_c.a";
 /// When the run of `rt ci` began that has just passed, in nanoseconds of the system's clock: the gate says so (.ci/run).
@@ -188,7 +188,7 @@ fn make(root: &Path, library: &Path, sources: &Sources, toolchain: &str) {
 
 /// Proves the converter, or finds it proved, and has the toolchain write the archive.
 fn prove(root: &Path) {
-    let folder = root.join(EXPORTS);
+    let folder = root.join("crates").join(EXPORTS);
     if let Some(libraries) = libraries_of_the_gate(root) {
         compile_over(&folder, &libraries);
         return;
@@ -215,9 +215,10 @@ fn libraries_of_the_gate(root: &Path) -> Option<Vec<PathBuf>> {
     if !read.iter().all(|place| changed(place).is_ok_and(|moment| moment <= since)) {
         return None;
     }
+    let lines = lines_of_crates(root);
     let mut libraries = Vec::new();
-    for name in below(root, "sailmortar_c") {
-        let folder = root.join("crates").join(&name).join("out/rlib");
+    for name in below(&lines) {
+        let folder = root.join("crates").join(name).join("out/rlib");
         let is_of_the_gate = changed(&folder.join(format!("{name}.rlib/format"))).is_ok_and(|moment| moment >= since);
         if !is_of_the_gate || folder.join("stamp").exists() {
             return None;
@@ -237,18 +238,23 @@ fn folders(place: &Path, found: &mut Vec<PathBuf>) {
     }
 }
 
-/// The crates that one stands on, by the lines of crates.txt.
-fn below(root: &Path, name: &str) -> Vec<String> {
+/// What each crate uses of the others, by the lines of crates.txt.
+fn lines_of_crates(root: &Path) -> HashMap<String, Vec<String>> {
     let listed = root.join("crates.txt");
     let text = done(fs::read_to_string(&listed), "read", &listed);
-    let lines: Vec<(&str, &str)> = text.lines().filter_map(|line| line.split('#').next()?.split_once(':')).collect();
-    let line_of = |name: &str| lines.iter().find(|(words, _)| words.split_whitespace().next() == Some(name)).map(|(_, uses)| *uses);
-    let mut found: Vec<String> = vec![name.to_owned()];
+    let lines = text.lines().filter_map(|line| line.split('#').next()?.split_once(':'));
+    let name_of = |words: &str| words.split_whitespace().next().unwrap_or_default().to_owned();
+    lines.map(|(words, uses)| (name_of(words), uses.split_whitespace().map(str::to_owned).collect())).collect()
+}
+
+/// The crates below that of the exports, those that it uses itself first.
+fn below(lines: &HashMap<String, Vec<String>>) -> Vec<&str> {
+    let mut found = vec![EXPORTS];
     let mut next = 0;
     while next < found.len() {
-        for word in line_of(&found[next]).unwrap_or_default().split_whitespace() {
-            if line_of(word).is_some() && !found.iter().any(|known| known == word) {
-                found.push(word.to_owned());
+        for name in lines.get(found[next]).into_iter().flatten() {
+            if lines.contains_key(name) && !found.contains(&name.as_str()) {
+                found.push(name);
             }
         }
         next += 1;
@@ -261,19 +267,21 @@ fn compile_over(folder: &Path, libraries: &[PathBuf]) {
     let answer = done(Command::new("rt").arg("doc").output(), "asked", Path::new("rt"));
     let page = PathBuf::from(String::from_utf8_lossy(&answer.stdout).trim());
     let kit = page.parent().unwrap_or_else(|| give_up("'rt doc' names no page of the toolchain."));
-    let place = |name: &str| kit.join(name);
     let pair = |word: &str, place: &Path| format!("{word}={}", place.display());
+    let lines = lines_of_crates(&folder.join("../.."));
     done(fs::create_dir_all(folder.join("out")), "made", folder);
-    let mut build = Command::new(place("bin/rattle"));
-    build.current_dir(folder).args(["build", "--crate-name", "sailmortar_c", "src/lib.rt", "--crate-type", "staticlib"]);
-    build.args(["--extern", &pair("std", &place("rlibs/std.rlib")), "-L", &pair("dependency", &place("rlibs"))]);
-    build.args(["--extern", &pair("sailmortar", &folder.join("../sailmortar/out/rlib/sailmortar.rlib"))]);
+    let mut build = Command::new(kit.join("bin/rattle"));
+    build.current_dir(folder).args(["build", "--crate-name", EXPORTS, "src/lib.rt", "--crate-type", "staticlib"]);
+    build.args(["--extern", &pair("std", &kit.join("rlibs/std.rlib")), "-L", &pair("dependency", &kit.join("rlibs"))]);
+    for name in lines.get(EXPORTS).into_iter().flatten() {
+        build.args(["--extern", &pair(name, &folder.join(format!("../{name}/out/rlib/{name}.rlib")))]);
+    }
     for library in libraries {
         build.args(["-L", &pair("dependency", library)]);
     }
-    build.arg("--antt-project").arg(place("rattle/logic/antt-project.json")).arg("--logic-built").arg(place("logic_built"));
-    build.arg("--toolchain").arg(place("toolchain"));
-    build.args(["--links", "sailmortar_c=", "--backend", "llvm", "--jobs", "2", machine(), "-o", PROVED]);
+    build.arg("--antt-project").arg(kit.join("rattle/logic/antt-project.json")).arg("--logic-built").arg(kit.join("logic_built"));
+    build.arg("--toolchain").arg(kit.join("toolchain")).args(["--links", &format!("{EXPORTS}="), "--backend", "llvm"]);
+    build.args(["--jobs", "2", machine(), "-o", PROVED]);
     run(&mut build, "prove and compile the functions for C");
 }
 
@@ -303,7 +311,7 @@ fn say_at_the_terminal(words: &str) {
 
 /// The proved archive, and the object of tool/version.c in it.
 fn archive(root: &Path, fresh: &Path) {
-    let (proved, whole, object) = (root.join(EXPORTS).join(PROVED), fresh.join(ARCHIVE), fresh.join("version.o"));
+    let (proved, whole, object) = (root.join("crates").join(EXPORTS).join(PROVED), fresh.join(ARCHIVE), fresh.join("version.o"));
     done(fs::copy(&proved, &whole), "copied", &proved);
     let mut compile = Command::new("cc");
     compile.args(["-c", "-O2", "-fPIC", "-I"]).arg(root.join("include")).arg(root.join("tool/version.c")).arg("-o").arg(&object);
