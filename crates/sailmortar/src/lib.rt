@@ -1,5 +1,5 @@
-// The public face: the functions for C, Rust and Python, numbers and slices only. `answer` gets the number, the row, the column, the rows done
-// and the bytes written.
+// The public face: the functions for C (exported by sailmortar_c), Rust and Python, numbers and slices only. `answer` gets the number, the row, the
+// column, the rows done and the bytes written.
 #![tactic(auto)]
 
 ghost use Rattle.std.specs.Prelude.{◌≡◌};
