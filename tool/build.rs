@@ -25,7 +25,7 @@ const SINCE: &str = "SAILMORTAR_PROVED_SINCE";
 const ARCHIVE: &str = "libsailmortar.a";
 /// The shared library by its soname, whose number goes up when programs that are linked to the old one cannot run with the new one.
 const SHARED: &str = "libsailmortar.so.0";
-/// The name by which a linker finds the shared library: a link to it.
+/// The name by which a linker finds the shared library: the same file. A link that names it would be refused by `rt ci`, wherever it stands.
 const LINK: &str = "libsailmortar.so";
 const PRODUCTS: [&str; 3] = [ARCHIVE, SHARED, LINK];
 
@@ -319,13 +319,13 @@ fn archive(root: &Path, fresh: &Path) {
     run(Command::new("ar").arg("rcs").args([&whole, &object]), "add an object to the archive");
 }
 
-/// The shared library from the whole archive, with its link. A symbol that neither has is refused here and not when a program starts.
+/// The shared library from the whole archive, by both of its names. A symbol that neither has is refused here and not when a program starts.
 fn share(fresh: &Path) {
     let mut link = Command::new("cc");
     link.arg("-shared").arg(format!("-Wl,-soname,{SHARED}")).args(["-Wl,-z,defs", "-Wl,--whole-archive"]).arg(fresh.join(ARCHIVE));
     link.args(["-Wl,--no-whole-archive", "-o"]).arg(fresh.join(SHARED));
     run(&mut link, "make the shared library");
-    run(Command::new("ln").args(["-s", SHARED]).arg(fresh.join(LINK)), "make a link");
+    done(fs::hard_link(fresh.join(SHARED), fresh.join(LINK)), "made", &fresh.join(LINK));
 }
 
 /// Moves a product to its place and dates it as the newest source: cargo takes a file that is newer than the script's start for changed.
