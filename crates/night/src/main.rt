@@ -53,8 +53,7 @@ fn say_sum(writer: &mut impl Write, out: &[u8]) -> io::Result<()> {
 
 // The first n bytes, 80 of them at most.
 fn say_bytes(writer: &mut impl Write, out: &[u8], n: usize) -> io::Result<()> {
-    let mut k: usize = 0;
-    while k < n {
+    for k in 0..n {
         if 80 <= k {
             return say(writer, b" ..");
         }
@@ -62,7 +61,6 @@ fn say_bytes(writer: &mut impl Write, out: &[u8], n: usize) -> io::Result<()> {
             let byte = out[k];
             write!(writer, " {byte:02x}")?;
         }
-        k += 1;
     }
     Ok(())
 }
@@ -271,13 +269,8 @@ fn compare(
 
 // Each byte as a number.
 fn numbers_of(input: &[u8], parts: &mut [u64]) {
-    let mut k: usize = 0;
-    while k < input.len() {
-        if parts.len() <= k {
-            return;
-        }
-        parts[k] = input[k] as u64;
-        k += 1;
+    for (part, byte) in parts.iter_mut().zip(input) {
+        *part = u64::from(*byte);
     }
 }
 
@@ -352,10 +345,8 @@ fn room_in(way: &[u8]) -> usize
     ensures { result < 100000 }
 {
     let mut n: usize = 0;
-    let mut k: usize = 3;
-    while k < way.len() {
-        n = (n * 10 + (digit(way[k]) as usize)) % 100000;
-        k += 1;
+    for byte in way.iter().skip(3) {
+        n = (n * 10 + (digit(*byte) as usize)) % 100000;
     }
     n
 }
