@@ -13,171 +13,208 @@
 ghost use Rattle.std.specs.Prelude.{◌<◌, ◌≤◌, length};
 ghost use Rattle.night.specs.Places.{Behind};
 
-use libc::{STDIN_FILENO, STDOUT_FILENO};
+use std::io;
+use std::io::{Read, Write};
 
 // ---- writing
 
-fn say(text: &[u8]) {
-    io::write_all(STDOUT_FILENO, text);
+fn say(writer: &mut impl Write, text: &[u8]) -> io::Result<()> {
+    writer.write_all(text)
 }
 
-fn say_number(n: u64) {
-    say(b" ");
-    io::print_decimal(STDOUT_FILENO, n);
+fn say_number(writer: &mut impl Write, n: u64) -> io::Result<()> {
+    write!(writer, " {n}")
 }
 
-fn say_answer(answer: &[u64; 5]) {
-    say_number(answer[0]);
-    say_number(answer[1]);
-    say_number(answer[2]);
-    say_number(answer[3]);
-    say_number(answer[4]);
+fn say_answer(writer: &mut impl Write, answer: &[u64; 5]) -> io::Result<()> {
+    say_number(writer, answer[0])?;
+    say_number(writer, answer[1])?;
+    say_number(writer, answer[2])?;
+    say_number(writer, answer[3])?;
+    say_number(writer, answer[4])
 }
 
-fn say_eight(answer: &[u64; 8]) {
-    let mut k: usize = 0;
-    while k < 8 {
-        say_number(answer[k]);
-        k += 1;
+fn say_eight(writer: &mut impl Write, answer: &[u64; 8]) -> io::Result<()> {
+    for number in answer {
+        say_number(writer, *number)?;
     }
+    Ok(())
 }
 
 // A sum over all bytes, in which each place counts.
-fn say_sum(out: &[u8]) {
+fn say_sum(writer: &mut impl Write, out: &[u8]) -> io::Result<()> {
     let mut sum: u64 = 0;
-    let mut k: usize = 0;
-    while k < out.len() {
-        sum = (sum * 31 + (out[k] as u64)) % 4294967296;
-        k += 1;
+    for byte in out {
+        sum = (sum * 31 + u64::from(*byte)) % 4294967296;
     }
-    say(b" sum");
-    say_number(sum);
+    say(writer, b" sum")?;
+    say_number(writer, sum)
 }
 
 // The first n bytes, 80 of them at most.
-fn say_bytes(out: &[u8], n: usize) {
-    let mut k: usize = 0;
-    while k < n {
+fn say_bytes(writer: &mut impl Write, out: &[u8], n: usize) -> io::Result<()> {
+    for k in 0..n {
         if 80 <= k {
-            say(b" ..");
-            return;
+            return say(writer, b" ..");
         }
         if k < out.len() {
-            say(b" ");
-            io::print_hex(STDOUT_FILENO, out[k] as u64, 2);
+            let byte = out[k];
+            write!(writer, " {byte:02x}")?;
         }
-        k += 1;
     }
+    Ok(())
 }
 
-fn say_written(answer: &[u64; 5], out: &[u8]) {
-    say_answer(answer);
-    say_sum(out);
-    say_bytes(out, answer[4] as usize);
+fn say_written(writer: &mut impl Write, answer: &[u64; 5], out: &[u8]) -> io::Result<()> {
+    say_answer(writer, answer)?;
+    say_sum(writer, out)?;
+    say_bytes(writer, out, answer[4] as usize)
 }
 
 fn fill(out: &mut [u8]) {
-    let mut k: usize = 0;
-    while k < out.len() {
-        out[k] = 238;
-        k += 1;
+    for byte in out.iter_mut() {
+        *byte = 238;
     }
 }
 
 // ---- the calls
 
-fn convert(decls: &[u8], from: u32, to: u32, input: &[u8], out: &mut [u8]) {
+fn convert(
+    writer: &mut impl Write,
+    decls: &[u8],
+    from: u32,
+    to: u32,
+    input: &[u8],
+    out: &mut [u8],
+) -> io::Result<()> {
     fill(out);
     let mut answer = [9u64; 5];
     sailmortar::sailmortar_convert(decls, from, to, input, out, &mut answer);
-    say_written(&answer, out);
+    say_written(writer, &answer, out)
 }
 
-fn convert_prefixes(decls: &[u8], from: u32, to: u32, input: &[u8], out: &mut [u8]) {
-    let mut n: usize = 0;
-    while n < input.len() {
-        say(b"\n");
-        say_number(n as u64);
-        say(b":");
-        convert(decls, from, to, &input[..n], out);
-        n += 1;
+fn convert_prefixes(
+    writer: &mut impl Write,
+    decls: &[u8],
+    from: u32,
+    to: u32,
+    input: &[u8],
+    out: &mut [u8],
+) -> io::Result<()> {
+    for n in 0..input.len() {
+        write!(writer, "\n {n}:")?;
+        convert(writer, decls, from, to, &input[..n], out)?;
     }
+    Ok(())
 }
 
-fn convert_rooms(decls: &[u8], from: u32, to: u32, input: &[u8], out: &mut [u8]) {
-    let mut n: usize = 0;
-    while n < out.len() {
-        say(b"\n");
-        say_number(n as u64);
-        say(b":");
-        convert(decls, from, to, input, &mut out[..n]);
-        n += 1;
+fn convert_rooms(
+    writer: &mut impl Write,
+    decls: &[u8],
+    from: u32,
+    to: u32,
+    input: &[u8],
+    out: &mut [u8],
+) -> io::Result<()> {
+    for n in 0..out.len() {
+        write!(writer, "\n {n}:")?;
+        convert(writer, decls, from, to, input, &mut out[..n])?;
     }
+    Ok(())
 }
 
 // One call, and sixth the place where the rows done end.
-fn convert_piece(decls: &[u8], from: u32, to: u32, input: &[u8], out: &mut [u8]) {
+fn convert_piece(
+    writer: &mut impl Write,
+    decls: &[u8],
+    from: u32,
+    to: u32,
+    input: &[u8],
+    out: &mut [u8],
+) -> io::Result<()> {
     fill(out);
     let mut answer = [9u64; 6];
     sailmortar::sailmortar_convert_piece(decls, from, to, input, out, &mut answer);
-    say_number(answer[0]);
-    say_number(answer[1]);
-    say_number(answer[2]);
-    say_number(answer[3]);
-    say_number(answer[4]);
-    say_number(answer[5]);
-    say_sum(out);
-    say_bytes(out, answer[4] as usize);
+    say_number(writer, answer[0])?;
+    say_number(writer, answer[1])?;
+    say_number(writer, answer[2])?;
+    say_number(writer, answer[3])?;
+    say_number(writer, answer[4])?;
+    say_number(writer, answer[5])?;
+    say_sum(writer, out)?;
+    say_bytes(writer, out, answer[4] as usize)
 }
 
-fn declare(decls: &[u8]) {
+fn declare(writer: &mut impl Write, decls: &[u8]) -> io::Result<()> {
     let mut answer = [9u64; 5];
     sailmortar::sailmortar_declare(decls, &mut answer);
-    say_answer(&answer);
+    say_answer(writer, &answer)
 }
 
-fn encode(input: &[u8], out: &mut [u8]) {
+fn encode(writer: &mut impl Write, input: &[u8], out: &mut [u8]) -> io::Result<()> {
     fill(out);
     let mut answer = [9u64; 5];
     sailmortar::sailmortar_base64_encode(input, out, &mut answer);
-    say_written(&answer, out);
+    say_written(writer, &answer, out)
 }
 
-fn say_places(places: &[u32]) {
-    let mut k: usize = 0;
-    while k < places.len() {
-        say_number(places[k] as u64);
-        k += 1;
+fn say_places(writer: &mut impl Write, places: &[u32]) -> io::Result<()> {
+    for place in places {
+        say_number(writer, u64::from(*place))?;
     }
+    Ok(())
 }
 
-fn fetch(decls: &[u8], from: u32, input: &[u8], index: &[u32], rows: u64, row: u64) {
+fn fetch(
+    writer: &mut impl Write,
+    decls: &[u8],
+    from: u32,
+    input: &[u8],
+    index: &[u32],
+    rows: u64,
+    row: u64,
+) -> io::Result<()> {
     let mut out = [238u8; 100];
     let mut answer = [9u64; 5];
     sailmortar::sailmortar_fetch(decls, from, input, index, rows, row, &mut out, &mut answer);
-    say(b" fetched");
-    say_written(&answer, &out);
+    say(writer, b" fetched")?;
+    say_written(writer, &answer, &out)
 }
 
-fn index_in(decls: &[u8], from: u32, input: &[u8], index: &mut [u32], row: u64) {
+fn index_in(
+    writer: &mut impl Write,
+    decls: &[u8],
+    from: u32,
+    input: &[u8],
+    index: &mut [u32],
+    row: u64,
+) -> io::Result<()> {
     let mut answer = [9u64; 5];
     sailmortar::sailmortar_index(decls, from, input, index, &mut answer);
-    say_answer(&answer);
-    say(b" starts");
-    say_places(index);
-    fetch(decls, from, input, index, answer[3], row);
+    say_answer(writer, &answer)?;
+    say(writer, b" starts")?;
+    say_places(writer, index)?;
+    fetch(writer, decls, from, input, index, answer[3], row)
 }
 
 // An index of so many places, and a row by it.
-fn index_of(decls: &[u8], from: u32, places: usize, input: &[u8], row: u64) {
+fn index_of(
+    writer: &mut impl Write,
+    decls: &[u8],
+    from: u32,
+    places: usize,
+    input: &[u8],
+    row: u64,
+) -> io::Result<()> {
     let mut index = [4008636142u32; 9];
     if 9 < places {
-        return;
+        return Ok(());
     }
-    index_in(decls, from, input, &mut index[..places], row);
+    index_in(writer, decls, from, input, &mut index[..places], row)
 }
 
 fn compare_in(
+    writer: &mut impl Write,
     decls: &[u8],
     from: u32,
     first: &[u8],
@@ -185,9 +222,9 @@ fn compare_in(
     second: &[u8],
     places: &mut [u32],
     lent: usize,
-) {
+) -> io::Result<()> {
     if places.len() < lent {
-        return;
+        return Ok(());
     }
     let mut answer = [9u64; 8];
     sailmortar::sailmortar_compare(
@@ -199,17 +236,25 @@ fn compare_in(
         &mut places[..lent],
         &mut answer,
     );
-    say_eight(&answer);
-    say(b" places");
-    say_places(places);
+    say_eight(writer, &answer)?;
+    say(writer, b" places")?;
+    say_places(writer, places)
 }
 
 // The first night is at the front of the input, as many bytes as the hundreds say, and the second is the rest.
-fn compare(decls: &[u8], from: u32, kind: u32, input: &[u8], parts: usize) {
+fn compare(
+    writer: &mut impl Write,
+    decls: &[u8],
+    from: u32,
+    kind: u32,
+    input: &[u8],
+    parts: usize,
+) -> io::Result<()> {
     let mut places = [4008636142u32; 16];
     let first = parts / 100;
     if first <= input.len() {
         compare_in(
+            writer,
             decls,
             from,
             &input[..first],
@@ -217,23 +262,19 @@ fn compare(decls: &[u8], from: u32, kind: u32, input: &[u8], parts: usize) {
             &input[first..],
             &mut places,
             parts % 100,
-        );
+        )?;
     }
+    Ok(())
 }
 
 // Each byte as a number.
 fn numbers_of(input: &[u8], parts: &mut [u64]) {
-    let mut k: usize = 0;
-    while k < input.len() {
-        if parts.len() <= k {
-            return;
-        }
-        parts[k] = input[k] as u64;
-        k += 1;
+    for (part, byte) in parts.iter_mut().zip(input) {
+        *part = u64::from(*byte);
     }
 }
 
-fn join(input: &[u8], room: usize) {
+fn join(writer: &mut impl Write, input: &[u8], room: usize) -> io::Result<()> {
     let mut parts = [0u64; 90];
     let mut joined = [0u64; 8];
     numbers_of(input, &mut parts);
@@ -241,20 +282,28 @@ fn join(input: &[u8], room: usize) {
         let n = input.len();
         sailmortar::sailmortar_join(100, room as u64, &parts[..n], &mut joined);
     }
-    say_eight(&joined);
+    say_eight(writer, &joined)
 }
 
-fn call(letter: u8, decls: &[u8], from: u32, to: u32, input: &[u8], out: &mut [u8]) {
+fn call(
+    writer: &mut impl Write,
+    letter: u8,
+    decls: &[u8],
+    from: u32,
+    to: u32,
+    input: &[u8],
+    out: &mut [u8],
+) -> io::Result<()> {
     match letter {
-        b'p' => convert_prefixes(decls, from, to, input, out),
-        b'r' => convert_rooms(decls, from, to, input, out),
-        b'w' => convert_piece(decls, from, to, input, out),
-        b'd' => declare(decls),
-        b'e' => encode(input, out),
-        b'i' => index_of(decls, from, to as usize, input, out.len() as u64),
-        b'k' => compare(decls, from, to, input, out.len()),
-        b'j' => join(input, out.len()),
-        _ => convert(decls, from, to, input, out),
+        b'p' => convert_prefixes(writer, decls, from, to, input, out),
+        b'r' => convert_rooms(writer, decls, from, to, input, out),
+        b'w' => convert_piece(writer, decls, from, to, input, out),
+        b'd' => declare(writer, decls),
+        b'e' => encode(writer, input, out),
+        b'i' => index_of(writer, decls, from, to as usize, input, out.len() as u64),
+        b'k' => compare(writer, decls, from, to, input, out.len()),
+        b'j' => join(writer, input, out.len()),
+        _ => convert(writer, decls, from, to, input, out),
     }
 }
 
@@ -296,20 +345,26 @@ fn room_in(way: &[u8]) -> usize
     ensures { result < 100000 }
 {
     let mut n: usize = 0;
-    let mut k: usize = 3;
-    while k < way.len() {
-        n = (n * 10 + (digit(way[k]) as usize)) % 100000;
-        k += 1;
+    for byte in way.iter().skip(3) {
+        n = (n * 10 + (digit(*byte) as usize)) % 100000;
     }
     n
 }
 
 // The input is decoded into a buffer that still holds what the case before left there, and so does `out` where the call does not fill it.
-fn run_case(title: &[u8], way: &[u8], decls: &[u8], text: &[u8], space: &mut [u8], out: &mut [u8]) {
-    say(title);
-    say(b":");
+fn run_case(
+    writer: &mut impl Write,
+    title: &[u8],
+    way: &[u8],
+    decls: &[u8],
+    text: &[u8],
+    space: &mut [u8],
+    out: &mut [u8],
+) -> io::Result<()> {
+    say(writer, title)?;
+    say(writer, b":")?;
     if way.len() < 3 {
-        return;
+        return Ok(());
     }
     let mut answer = [9u64; 5];
     sailmortar::sailmortar_base64_decode(text, space, &mut answer);
@@ -318,19 +373,21 @@ fn run_case(title: &[u8], way: &[u8], decls: &[u8], text: &[u8], space: &mut [u8
     if n <= space.len() {
         if room <= out.len() {
             call(
+                writer,
                 way[0],
                 decls,
                 digit(way[1]),
                 digit(way[2]),
                 &space[..n],
                 &mut out[..room],
-            );
+            )?;
         }
     }
+    Ok(())
 }
 
 // A title begins with the line's end before it.
-fn run_all(s: &[u8], space: &mut [u8], out: &mut [u8]) {
+fn run_all(writer: &mut impl Write, s: &[u8], space: &mut [u8], out: &mut [u8]) -> io::Result<()> {
     let mut at = 0;
     while at < s.len() {
         let title_end = bar(s, at);
@@ -341,24 +398,27 @@ fn run_all(s: &[u8], space: &mut [u8], out: &mut [u8]) {
         let text = behind(s, decls_end);
         let text_end = bar(s, text);
         run_case(
+            writer,
             &s[at..title_end],
             &s[way..way_end],
             &s[decls..decls_end],
             &s[text..text_end],
             space,
             out,
-        );
+        )?;
         at = behind(s, text_end);
     }
+    Ok(())
 }
 
-fn main() {
-    let mut cases = [0u8; 200000];
+// The cases are the first 200,000 bytes of the input, which has fewer.
+fn main(rt: HostRuntime) -> io::Result<()> {
+    let mut cases = Vec::new(rt.alloc());
     let mut space = [0u8; 65536];
     let mut out = [0u8; 99999];
-    let count = io::read_full(STDIN_FILENO, &mut cases);
-    if count <= 200000 {
-        run_all(&cases[..count], &mut space, &mut out);
-    }
-    say(b"\n");
+    let mut writer = io::BufWriter::new(rt.alloc(), io::writer(&rt))?;
+    rt.stdin().take(200000).read_to_end(&mut cases)?;
+    run_all(&mut writer, &cases, &mut space, &mut out)?;
+    say(&mut writer, b"\n")?;
+    writer.flush()
 }

@@ -1,0 +1,9 @@
+-- Each turn runs a case and passes it.
+use Rattle.std.proofs.Common.{◌-◌, ◌≤◌, length}
+use Rattle.night.proofs.run_all.Given as goal
+
+abbrev pub invariant-loop-at : goal.invariant-loop-at
+invariant-loop-at g l = l.at ≤ length l.s
+
+abbrev pub decreases-loop-at : goal.decreases-loop-at
+decreases-loop-at g l = length l.s - l.at
