@@ -12,56 +12,41 @@ use Rattle.text_moving.specs.Clauses.{ClosesAt, Counts}
 use native.Mathlib.Omega.{arith}
 use borrow.Author.Rules.{rules}
 use Rattle.text_moving.proofs.read_elements.Goals as goal
-use Rattle.text_moving.proofs.read_elements.Tie as tie
-
--- what is read
-module _ (c : tie.In-Elements) where
-  abbrev at_read : tie.After-read_content
-  at_read = c
-  abbrev at_size : tie.After-count_size
-  at_size = at_read.before.before
-  abbrev count : ℕ
-  count = c.in-Elements.count
-  abbrev end : ℕ
-  end = c.in-Elements.end
-  found :
-      let a = at_size.before.before.before.args in
-      ContentMoved (InText (shape a.column.kind) a.s.now a.from) (AsBinary (shape a.column.kind)) a.row.now (a.o + at_size.count-size.result)
-      at_read.read-content.last.1.1.1.0 count end c.in-Elements.last
-  found = subst (MovesContent _ _ _ _ _) c.in-Elements.is at_read.read-content.ensures
-  untouched : let a = at_size.before.before.before.args in Puts a.row.now a.o [] at_read.read-content.last.1.1.1.0 a.o
-  untouched = puts_lower found.puts (omega arith)
 
 pub returns-in_default : goal.returns-in_default
 returns-in_default c =
-    let u = puts_lower {o = c.args.o} (subst (MovesContent _ _ _ _ _) c.in_default.is c.read_content.ensures) (omega arith) in
+    let u = puts_lower {o = c.args.o} c.in_default.ensures (omega arith) in
     λ never. (u, u)
 
 pub closes-requires : goal.closes-requires
-closes-requires c = (found c).reads.spells.inside
+closes-requires c = c.in-Elements.ensures.reads.spells.inside
 
 pub returns-then-not-closes : goal.returns-then-not-closes
-returns-then-not-closes c = λ never. (untouched c, untouched c)
+returns-then-not-closes c = 
+    let untouched = puts_lower {o = c.args.o} c.in-Elements.ensures.puts (omega arith) in
+    λ never. (untouched, untouched)
 
 pub returns-then-not-count_fits : goal.returns-then-not-count_fits
-returns-then-not-count_fits c = λ never. (untouched c, untouched c)
+returns-then-not-count_fits c = 
+    let untouched = puts_lower {o = c.args.o} c.in-Elements.ensures.puts (omega arith) in
+    λ never. (untouched, untouched)
 
 pub overflow_add-end : goal.overflow_add-end
 overflow_add-end c =
-    let ended : ClosesAt (at_size c).before.before.before.args.s.now (end c) = c.closes.ensures (c.if-not-closes.false) in
+    let ended : ClosesAt c.args.s.now c.in-Elements.end = c.closes.ensures (c.if-not-closes.false) in
     let h = ended.inside in search rules
 
 pub fill_up-requires : goal.fill_up-requires
 fill_up-requires c =
-    let fits : Counts (at_size c).before.before.before.args.column (count c) = c.count_fits.ensures (c.if-not-count_fits.false) in
-    let u = (found c).puts in
+    let fits : Counts c.args.column c.in-Elements.count = c.count_fits.ensures (c.if-not-count_fits.false) in
+    let u = c.in-Elements.ensures.puts in
     (omega (arith, fits.few, c.requires.1), omega (arith, u.long, c.requires.2), omega (arith, u.room, u.long))
 
 pub returns : goal.returns
 returns c =
-    let ended : ClosesAt (at_size c).before.before.before.args.s.now (end c) = c.closes.ensures (c.if-not-closes.false) in
-    let fits : Counts (at_size c).before.before.before.args.column (count c) = c.count_fits.ensures (c.if-not-count_fits.false) in
+    let ended : ClosesAt c.args.s.now c.in-Elements.end = c.closes.ensures (c.if-not-closes.false) in
+    let fits : Counts c.args.column c.in-Elements.count = c.count_fits.ensures (c.if-not-count_fits.false) in
     let a = c.args in
     λ never. filled_in a.column never a.s.now a.from _
-    fits (at_size c).count-size.ensures.1 (found c) ended
+    fits c.count_size.ensures.1 c.in-Elements.ensures ended
     c.fill_up.ensures
