@@ -25,7 +25,7 @@ def by_parameter(f, step, tail):
     while k < len(tail) and tail[k] == "1":
         k += 1
     if k < len(tail) and tail[k] == "0" and k - 1 < len(names):
-        return [tail[0], names[k - 1]] + tail[k + 1 :]
+        return ["new" if tail[0] == "last" else tail[0], names[k - 1]] + tail[k + 1 :]
     return tail
 
 
@@ -233,7 +233,7 @@ def walk(f, root_names, text):
             step = f.steps.get(norm(head)) or (f.steps.get(norm(head[:-4])) if head.endswith("_lem") else None)
             if not step:
                 return ".".join([top] + parts[k:])
-            if len(tail) > 1 and tail[0] in ("auto", "new"):
+            if len(tail) > 1 and tail[0] in ("auto", "new", "last"):
                 tail = by_parameter(f, step, tail)
             if tail and (tail[0] == "rest" or re.match(r"keys\d+$", tail[0])) and re.match(r"in[-_]", step):
                 base = re.sub(r"-\d+$", "", step)
@@ -271,7 +271,7 @@ def walk(f, root_names, text):
             text = re.sub(r"(?<![\w'.-])" + re.escape(name) + r"\.inv\b", name + ".invariant", text)
         if step in f.clauses:
             text = re.sub(r"(?<![\w'.-])" + re.escape(name) + r"\.ensures((?:\.\d+(?![\w']))+)", lambda q: name + ".ensures" + (pick(f.clauses[step], q.group(1)) or q.group(1)), text)
-        text = re.sub(r"(?<![\w'.-])" + re.escape(name) + r"\.((?:auto|new)(?:\.\d+(?![\w']))+)", lambda q: name + "." + ".".join(by_parameter(f, step, q.group(1).split("."))), text)
+        text = re.sub(r"(?<![\w'.-])" + re.escape(name) + r"\.((?:auto|new|last)(?:\.\d+(?![\w']))+)", lambda q: name + "." + ".".join(by_parameter(f, step, q.group(1).split("."))), text)
     for name, top in roots.items():
         if name != top:
             text = re.sub(r"(?<![\w'.-])" + re.escape(name) + r"(?![\w'₀-₉-])(?!\.\w)", top, text)
@@ -570,7 +570,8 @@ def turn(crate, file, names):
                         else:
                             inlined.append(h)
                     continue
-        mo = re.match(r"(?:abbrev )?(" + IDENT + r") : (?:tie\.[A-Z][^→]*|[A-Z]\w*) → (?:tie\.[A-Z][^→\n]*|[A-Z]\w*)\n\1 (" + IDENT + r") = \2((?:\.before)+)$", whole)
+        a_place = r"(?:tie\.[A-Z][^→\n]*|" + "|".join(map(re.escape, place_types + ["\0"])) + ")"
+        mo = re.match(r"(?:abbrev )?(" + IDENT + r") : " + a_place + " → " + a_place + r"\n\1 " + IDENT + r" = .*$", whole)
         if mo:
             outer.append(mo.group(1))
             continue
@@ -655,16 +656,15 @@ def turn(crate, file, names):
         return "\n".join(lines[:at] + [m.group(1), text])
 
     def flat(text):
-        if not outer:
-            return text
-        named = "|".join(sorted(map(re.escape, outer), key=len, reverse=True))
+        named = "|".join(sorted(map(re.escape, outer + ["\0"]), key=len, reverse=True))
         while True:
-            new = re.sub(r"\((?:" + named + r") (" + IDENT + r")((?:\.before)*)\)", r"\1", text)
+            new = re.sub(r"(?<=[ (])\(c\)(?=[ ).,;\n]|$)", "c", re.sub(r"\((" + IDENT + r")\)(?=\.)", r"\1", text))
+            new = re.sub(r"\((?:" + named + r") (" + IDENT + r")((?:\.before)*)\)", r"\1", new)
             new = re.sub(r"(?<![\w'.-])(?:" + named + r") (" + IDENT + r")((?:\.before)*)(?![\w'])", r"\1", new)
+            new = walk(f, ["c"], new)
             if new == text:
-                break
+                return text
             text = new
-        return walk(f, ["c"], re.sub(r"\((" + IDENT + r")\)(?=\.)", r"\1", text))
 
     for h in inlined:
         h.body, h.type = flat(h.body), flat(h.type)

@@ -63,16 +63,19 @@ begin_row-b-requires c =
 pub loop-i-init : goal.loop-i-init
 unfolding read-start
 loop-i-init c =
-    let rows_of : AtRows = c in
+    let from_at : Rows = c.args.from in
+    let to_at : Rows = c.args.to in
+    let cols-at : Columns = c.args.cols in
+    let s-at : List ℕ = c.args.s.now in
     let flags-at : ℕ = c.in-Row.f in
     let body_at : ℕ = c.in-Row.a in
-    let within : (rows_of.rows.cursor.at ≤ body_at) × (body_at ≤ length (s-at rows_of)) = (let r = rows_of in
+    let within : (c.rows.cursor.at ≤ body_at) × (body_at ≤ length s-at) = (
     let g = c.begin_row-b in
-    begun-within (from_at r) (listed (cols-at r)) (cols-at r).count (listed-length (cols-at r)) (s-at r) r.rows.cursor.at g.result g.ensures flags-at body_at
+    begun-within from_at (listed cols-at) cols-at.count (listed-length cols-at) s-at c.rows.cursor.at g.result g.ensures flags-at body_at
     c.in-Row.is) in
-    let r = rows_of in (
-      read-start (from_at r) (listed (cols-at r)) _ (s-at r) body_at within.1,
-      measured-start (to_at r) (listed (cols-at r)) r.rows.scratch c.start-m.result
+    (
+      read-start from_at (listed cols-at) _ s-at body_at within.1,
+      measured-start to_at (listed cols-at) c.rows.scratch c.start-m.result
           c.start-m.ensures,
       refl,
       refl,
@@ -80,31 +83,41 @@ loop-i-init c =
 
 pub offset_bounds-cols-i : goal.offset_bounds-cols-i
 offset_bounds-cols-i c =
-    let rows_of : AtRows = c in
-    omega (arith, few rows_of, c.loop-i-test.true)
+    let cols-at : Columns = c.args.cols in
+    let are : Within (listed cols-at) = c.requires.0 in
+    let few : cols-at.count ≤ 64 = omega (arith, are.few, listed-length cols-at) in
+    omega (arith, few, c.loop-i-test.true)
 
 pub bounds-cols-i : goal.bounds-cols-i
 bounds-cols-i c =
-    let rows_of : AtRows = c in
-    omega (arith, few rows_of, c.loop-i-test.true)
+    let cols-at : Columns = c.args.cols in
+    let are : Within (listed cols-at) = c.requires.0 in
+    let few : cols-at.count ≤ 64 = omega (arith, are.few, listed-length cols-at) in
+    omega (arith, few, c.loop-i-test.true)
 
 pub flag_of-flagged-requires : goal.flag_of-flagged-requires
 flag_of-flagged-requires c =
-    let rows_of : AtRows = c in
-    (c.loop-i-test.true, few rows_of)
+    let cols-at : Columns = c.args.cols in
+    let are : Within (listed cols-at) = c.requires.0 in
+    let few : cols-at.count ≤ 64 = omega (arith, are.few, listed-length cols-at) in
+    (c.loop-i-test.true, few)
 
 pub measure-t-requires : goal.measure-t-requires
 measure-t-requires c =
-    let rows_of : AtRows = c in
-    let scratch-long : (n : ℕ) → n ≡ length rows_of.rows.scratch → scratch_length ≤ n = λ n e. omega (arith, e, scratch-kept rows_of, (begin rows_of).pre.1) in
+    let cols-at : Columns = c.args.cols in
+    let are : Within (listed cols-at) = c.requires.0 in
+    let scratch-kept : length c.rows.scratch ≡ length c.args.scratch.now = c.rows.invariant.2 ∙ c.moved-first.ensures.scratch_len_unchanged in
+    let few : cols-at.count ≤ 64 = omega (arith, are.few, listed-length cols-at) in
+    let scratch-long : (n : ℕ) → n ≡ length c.rows.scratch → scratch_length ≤ n = λ n e. omega (arith, e, scratch-kept, c.requires.1) in
     let l = c.loop-i in
-    let r = rows_of in
-    (l.invariant.0.inside, omega (arith, few r, c.loop-i-test.true), l.invariant.1.short, listed-bound (cols-at r) l.i (are r) c.loop-i-test.true, scratch-long _ l.invariant.3)
+    (l.invariant.0.inside, omega (arith, few, c.loop-i-test.true), l.invariant.1.short, listed-bound cols-at l.i are c.loop-i-test.true, scratch-long _ l.invariant.3)
 
 pub overflow_add-i : goal.overflow_add-i
 overflow_add-i c =
-    let rows_of : AtRows = c in
-    omega (arith, few rows_of, c.loop-i-test.true)
+    let cols-at : Columns = c.args.cols in
+    let are : Within (listed cols-at) = c.requires.0 in
+    let few : cols-at.count ≤ 64 = omega (arith, are.few, listed-length cols-at) in
+    omega (arith, few, c.loop-i-test.true)
 
 pub loop-i-smaller : goal.loop-i-smaller
 loop-i-smaller c = omega (arith, c.loop-i-test.true)
@@ -112,18 +125,20 @@ loop-i-smaller c = omega (arith, c.loop-i-test.true)
 pub loop-i-preserved : goal.loop-i-preserved
 unfolding read_more
 loop-i-preserved c =
-    let rows_of : AtRows = c in
+    let from_at : Rows = c.args.from in
+    let to_at : Rows = c.args.to in
+    let cols-at : Columns = c.args.cols in
+    let s-at : List ℕ = c.args.s.now in
     let body_at : ℕ = c.in-Row.a in
-    let column-at : Column = get_or (cols-at rows_of).list c.loop-i.i no_column in
-    let next-column : drop c.loop-i.i (listed (cols-at rows_of)) ≡ column-at ∷ drop (suc c.loop-i.i) (listed (cols-at rows_of)) = listed_next (cols-at rows_of) c.loop-i.i c.loop-i-test.true in
+    let column-at : Column = get_or cols-at.list c.loop-i.i no_column in
+    let next-column : drop c.loop-i.i (listed cols-at) ≡ column-at ∷ drop (suc c.loop-i.i) (listed cols-at) = listed_next cols-at c.loop-i.i c.loop-i-test.true in
     let l = c.loop-i in
-    let r = rows_of in
     let f = c.flag_of-flagged in
     let m = c.measure-t in
     let x = subst (MeasuredBy _ _ _ _ _ _ _ _ _) c.in-Next.is m.ensures.measured_by in (
-      read_more (from_at r) (listed (cols-at r)) _ (s-at r) body_at l.at l.i l.invariant.0 column-at next-column f.result f.ensures x.0 _
-          (omega (arith, listed-length (cols-at r), c.loop-i-test.true)) x.1 x.2 x.3,
-      measured-more (to_at r) (listed (cols-at r)) l.invariant.0.acc _ _ l.m _ l.i l.invariant.1 column-at next-column x.0 x.4,
+      read_more from_at (listed cols-at) _ s-at body_at l.at l.i l.invariant.0 column-at next-column f.result f.ensures x.0 _
+          (omega (arith, listed-length cols-at, c.loop-i-test.true)) x.1 x.2 x.3,
+      measured-more to_at (listed cols-at) l.invariant.0.acc _ _ l.m _ l.i l.invariant.1 column-at next-column x.0 x.4,
       l.invariant.2,
       m.ensures.scratch_len_unchanged ∙ l.invariant.3,
     )
@@ -133,287 +148,359 @@ end_row-e-requires c = c.loop-i.invariant.0.inside
 
 pub overflow_add-size : goal.overflow_add-size
 overflow_add-size c =
-    let rows_of : AtRows = c in
-    let r = rows_of in
-    omega (arith, r.before.before.before.before.before.before.before.before.before.before.before.before.frame-size.ensures.0, c.loop-i.invariant.1.short, c.loop-i.invariant.0.upto, (are r).few)
+    let cols-at : Columns = c.args.cols in
+    let are : Within (listed cols-at) = c.requires.0 in
+    omega (arith, c.frame_size-around.ensures.0, c.loop-i.invariant.1.short, c.loop-i.invariant.0.upto, are.few)
 
 pub overflow_sub-room : goal.overflow_sub-room
-overflow_sub-room c =
-    let begun-of : Begun = c in
-    omega (arith, (rows_of begun-of).rows.inv.0.room)
+overflow_sub-room c = omega (arith, c.rows.invariant.0.room)
 
 pub put_row-requires : goal.put_row-requires
 put_row-requires c =
-    let begun-of : Begun = c in
-    let row_at : List ℕ = (let b = begun-of in
-    let r = rows_of b in
+    let from_at : Rows = c.args.from in
+    let to_at : Rows = c.args.to in
+    let cols-at : Columns = c.args.cols in
+    let s-at : List ℕ = c.args.s.now in
+    let are : Within (listed cols-at) = c.requires.0 in
+    let scratch-kept : length c.rows.scratch ≡ length c.args.scratch.now = c.rows.invariant.2 ∙ c.moved-first.ensures.scratch_len_unchanged in
+    let flags-at : ℕ = c.in-Row.f in
+    let body_at : ℕ = c.in-Row.a in
+    let within : (c.rows.cursor.at ≤ body_at) × (body_at ≤ length s-at) = (
+    let g = c.begin_row-b in
+    begun-within from_at (listed cols-at) cols-at.count (listed-length cols-at) s-at c.rows.cursor.at g.result g.ensures flags-at body_at
+    c.in-Row.is) in
+    let scratch-long : (n : ℕ) → n ≡ length c.rows.scratch → scratch_length ≤ n = λ n e. omega (arith, e, scratch-kept, c.requires.1) in
+    let row_at : List ℕ = (
     let l = c.loop-i in
-    row_bytes (to_at r) (cols-at r).count l.m.nulls (put_form (from_at r) (to_at r) (cols-at r) (flags-at b) (drop (body_at b) (s-at r)) l.scratch (holding_of l.m.held))) in
-    let size-at : length row_at ≡ (rows_of begun-of).before.before.before.before.before.before.before.before.before.before.before.before.frame-size.result + c.loop-i.m.size = (let b = begun-of in
-    let r = rows_of b in
+    row_bytes to_at cols-at.count l.m.nulls (put_form from_at to_at cols-at flags-at (drop body_at s-at) l.scratch (holding_of l.m.held))) in
+    let size-at : length row_at ≡ c.frame_size-around.result + c.loop-i.m.size = (
     let l = c.loop-i in
     omega (
       arith,
-      row-length (from_at r) (to_at r) (cols-at r) (flags-at b) (s-at r) (body_at b) l.at l.i l.invariant.0 l.scratch l.m l.invariant.1 (listed-length (cols-at r))
+      row-length from_at to_at cols-at flags-at s-at body_at l.at l.i l.invariant.0 l.scratch l.m l.invariant.1 (listed-length cols-at)
           c.loop-i-test.false c.if-m-ne-NONE.false,
-      r.before.before.before.before.before.before.before.before.before.before.before.before.frame-size.ensures.1 l.m.nulls,
+      c.frame_size-around.ensures.1 l.m.nulls,
     )) in
-    let row-held : Holding → List ℕ = λ h. (let b = begun-of in
-    let r = rows_of b in
+    let row-held : Holding → List ℕ = λ h. (
     let l = c.loop-i in
-    row_bytes (to_at r) (cols-at r).count l.m.nulls (put_form (from_at r) (to_at r) (cols-at r) (flags-at b) (drop (body_at b) (s-at r)) l.scratch h)) in
-    let b = begun-of in
-    let r = rows_of b in
+    row_bytes to_at cols-at.count l.m.nulls (put_form from_at to_at cols-at flags-at (drop body_at s-at) l.scratch h)) in
     let l = c.loop-i in
     let h = sym c.holding_of-holding.ensures in
     record {
       within = (
-        are r,
-        (within b).1,
-        omega (arith, scratch-long b _ l.invariant.3),
-        subst (HeldReady (listed (cols-at r)) l.scratch) h
-            (held-ready (from_at r) (to_at r) (cols-at r) (flags-at b) (s-at r) (body_at b) l.at l.i l.invariant.0 l.scratch l.m l.invariant.1 (listed-length (cols-at r))
+        are,
+        within.1,
+        omega (arith, scratch-long _ l.invariant.3),
+        subst (HeldReady (listed cols-at) l.scratch) h
+            (held-ready from_at to_at cols-at flags-at s-at body_at l.at l.i l.invariant.0 l.scratch l.m l.invariant.1 (listed-length cols-at)
             c.loop-i-test.false),
       );
-      holding_in_bounds = subst (λ (y : Holding). r.rows.p.bytes + length (row-held y) ≤ length r.rows.out) h (omega (arith, size-at, c.if-room-size.false, r.rows.inv.0.room));
+      holding_in_bounds = subst (λ (y : Holding). c.rows.p.bytes + length (row-held y) ≤ length c.rows.out) h (omega (arith, size-at, c.if-room-size.false, c.rows.invariant.0.room));
     }
 
 pub overflow_sub-next : goal.overflow_sub-next
 overflow_sub-next c =
-    let read_at : Ended = c in
-    omega (arith, (onward read_at).0)
+    let from_at : Rows = c.args.from in
+    let cols-at : Columns = c.args.cols in
+    let s-at : List ℕ = c.args.s.now in
+    let are : Within (listed cols-at) = c.requires.0 in
+    let flags-at : ℕ = c.in-Row.f in
+    let body_at : ℕ = c.in-Row.a in
+    let begun : read_row from_at (listed cols-at) (drop c.rows.cursor.at s-at) ≡ cells_end from_at (listed cols-at) (flags_in from_at cols-at.count flags-at) (drop body_at s-at) = (
+    let g = c.begin_row-b in
+    row-begun from_at (listed cols-at) cols-at.count (listed-length cols-at) s-at c.rows.cursor.at g.result g.ensures flags-at body_at
+    c.in-Row.is) in
+    let past : length (listed cols-at) ≤ c.loop-i.i = omega (arith, listed-length cols-at, c.loop-i-test.false) in
+    let all_read : read_cells from_at (listed cols-at) (flags_in from_at cols-at.count flags-at) 0 (drop body_at s-at) ≡ good (c.loop-i.invariant.0.acc, drop c.loop-i.at s-at) = (
+    read-end from_at (listed cols-at) _ s-at body_at c.loop-i.at c.loop-i.i c.loop-i.invariant.0 past) in
+    let next-at : ℕ = c.in-Closed.a in
+    let whole : read_row from_at (listed cols-at) (drop c.rows.cursor.at s-at) ≡ good (c.loop-i.invariant.0.acc, drop next-at s-at) = (
+    let z = c.end_row-e in
+    begun ∙ cells-closed from_at (listed cols-at) _ s-at body_at _ _ all_read z.result z.ensures next-at c.in-Closed.is) in
+    let onward : (c.rows.cursor.at < next-at) × (next-at ≤ length s-at) = (
+    let z = c.end_row-e in
+    let w = closed-within from_at s-at c.loop-i.at z.result z.ensures next-at c.in-Closed.is in
+    (row-onward from_at (listed cols-at) s-at c.rows.cursor.at next-at _ are whole w.1, w.1)) in
+    omega (arith, onward.0)
 
 pub after-requires : goal.after-requires
 after-requires c =
-    let read_at : Ended = c in
-    let o = onward read_at in
-    omega (arith, o.0, o.1, (begin (rows_of (begun-of read_at))).good)
+    let from_at : Rows = c.args.from in
+    let cols-at : Columns = c.args.cols in
+    let s-at : List ℕ = c.args.s.now in
+    let are : Within (listed cols-at) = c.requires.0 in
+    let flags-at : ℕ = c.in-Row.f in
+    let body_at : ℕ = c.in-Row.a in
+    let begun : read_row from_at (listed cols-at) (drop c.rows.cursor.at s-at) ≡ cells_end from_at (listed cols-at) (flags_in from_at cols-at.count flags-at) (drop body_at s-at) = (
+    let g = c.begin_row-b in
+    row-begun from_at (listed cols-at) cols-at.count (listed-length cols-at) s-at c.rows.cursor.at g.result g.ensures flags-at body_at
+    c.in-Row.is) in
+    let past : length (listed cols-at) ≤ c.loop-i.i = omega (arith, listed-length cols-at, c.loop-i-test.false) in
+    let all_read : read_cells from_at (listed cols-at) (flags_in from_at cols-at.count flags-at) 0 (drop body_at s-at) ≡ good (c.loop-i.invariant.0.acc, drop c.loop-i.at s-at) = (
+    read-end from_at (listed cols-at) _ s-at body_at c.loop-i.at c.loop-i.i c.loop-i.invariant.0 past) in
+    let next-at : ℕ = c.in-Closed.a in
+    let whole : read_row from_at (listed cols-at) (drop c.rows.cursor.at s-at) ≡ good (c.loop-i.invariant.0.acc, drop next-at s-at) = (
+    let z = c.end_row-e in
+    begun ∙ cells-closed from_at (listed cols-at) _ s-at body_at _ _ all_read z.result z.ensures next-at c.in-Closed.is) in
+    let onward : (c.rows.cursor.at < next-at) × (next-at ≤ length s-at) = (
+    let z = c.end_row-e in
+    let w = closed-within from_at s-at c.loop-i.at z.result z.ensures next-at c.in-Closed.is in
+    (row-onward from_at (listed cols-at) s-at c.rows.cursor.at next-at _ are whole w.1, w.1)) in
+    let o = onward in
+    omega (arith, o.0, o.1, c.good)
 
 pub after-requires-in-rows : goal.after-requires-in-rows
 after-requires-in-rows c =
-    let rows_of : AtRows = c in
+    let from_at : Rows = c.args.from in
+    let to_at : Rows = c.args.to in
+    let cols-at : Columns = c.args.cols in
+    let s-at : List ℕ = c.args.s.now in
+    let out_at : List ℕ = c.args.out.now in
+    let are : Within (listed cols-at) = c.requires.0 in
+    let done_at : RowsDone from_at to_at (listed cols-at) s-at out_at c.rows.out c.rows.cursor.at c.rows.p.rows c.rows.p.bytes = (let m = c.moved-first in
+    let n = c.start in
+    let z = c.start-2 in
+    let f = rows-further m.ensures.moves_rows.moved are (omega (arith, n.ensures)) (omega (arith, n.ensures, z.ensures.0)) in
+    c.rows.invariant.0.further out_at (f.further out_at (rows_start from_at to_at (listed cols-at) s-at out_at _ _ _ n.ensures z.ensures))) in
     let flags-at : ℕ = c.in-Row.f in
     let body_at : ℕ = c.in-Row.a in
-    let past : length (listed (cols-at rows_of)) ≤ c.loop-i.i = omega (arith, listed-length (cols-at rows_of), c.loop-i-test.false) in
-    let all_read : read_cells (from_at rows_of) (listed (cols-at rows_of)) (flags_in (from_at rows_of) (cols-at rows_of).count flags-at) 0 (drop body_at (s-at rows_of)) ≡ good (c.loop-i.invariant.0.acc, drop c.loop-i.at (s-at rows_of)) = (let r = rows_of in
-    read-end (from_at r) (listed (cols-at r)) _ (s-at r) body_at c.loop-i.at c.loop-i.i c.loop-i.invariant.0 past) in
+    let begun : read_row from_at (listed cols-at) (drop c.rows.cursor.at s-at) ≡ cells_end from_at (listed cols-at) (flags_in from_at cols-at.count flags-at) (drop body_at s-at) = (
+    let g = c.begin_row-b in
+    row-begun from_at (listed cols-at) cols-at.count (listed-length cols-at) s-at c.rows.cursor.at g.result g.ensures flags-at body_at
+    c.in-Row.is) in
+    let past : length (listed cols-at) ≤ c.loop-i.i = omega (arith, listed-length cols-at, c.loop-i-test.false) in
+    let all_read : read_cells from_at (listed cols-at) (flags_in from_at cols-at.count flags-at) 0 (drop body_at s-at) ≡ good (c.loop-i.invariant.0.acc, drop c.loop-i.at s-at) = (
+    read-end from_at (listed cols-at) _ s-at body_at c.loop-i.at c.loop-i.i c.loop-i.invariant.0 past) in
     let next-at : ℕ = c.in-Closed.a in
-    let begun-of : Begun = c in
-    let whole : read_row (from_at (rows_of begun-of)) (listed (cols-at (rows_of begun-of))) (drop (rows_of begun-of).rows.cursor.at (s-at (rows_of begun-of))) ≡ good (c.loop-i.invariant.0.acc, drop next-at (s-at (rows_of begun-of))) = (let b = begun-of in
-    let r = rows_of b in
+    let whole : read_row from_at (listed cols-at) (drop c.rows.cursor.at s-at) ≡ good (c.loop-i.invariant.0.acc, drop next-at s-at) = (
     let z = c.end_row-e in
-    begun b ∙ cells-closed (from_at r) (listed (cols-at r)) _ (s-at r) (body_at b) _ _ all_read z.result z.ensures next-at c.in-Closed.is) in
-    let onward : ((rows_of begun-of).rows.cursor.at < next-at) × (next-at ≤ length (s-at (rows_of begun-of))) = (let r = rows_of begun-of in
+    begun ∙ cells-closed from_at (listed cols-at) _ s-at body_at _ _ all_read z.result z.ensures next-at c.in-Closed.is) in
+    let onward : (c.rows.cursor.at < next-at) × (next-at ≤ length s-at) = (
     let z = c.end_row-e in
-    let w = closed-within (from_at r) (s-at r) c.loop-i.at z.result z.ensures next-at c.in-Closed.is in
-    (row-onward (from_at r) (listed (cols-at r)) (s-at r) r.rows.cursor.at next-at _ (are r) whole w.1, w.1)) in
-    let r = rows_of begun-of in
+    let w = closed-within from_at s-at c.loop-i.at z.result z.ensures next-at c.in-Closed.is in
+    (row-onward from_at (listed cols-at) s-at c.rows.cursor.at next-at _ are whole w.1, w.1)) in
     let o = onward in (
-      omega (arith, c.if-room-size.false, r.rows.inv.0.room, (done_at r).long, r.good),
-      omega (arith, r.rows.inv.0.fewer, o.0, o.1, r.good),
+      omega (arith, c.if-room-size.false, c.rows.invariant.0.room, done_at.long, c.good),
+      omega (arith, c.rows.invariant.0.fewer, o.0, o.1, c.good),
     )
 
 pub moved-more-requires : goal.moved-more-requires
 moved-more-requires c =
-    let rows_of : AtRows = c in
+    let from_at : Rows = c.args.from in
+    let to_at : Rows = c.args.to in
+    let cols-at : Columns = c.args.cols in
+    let s-at : List ℕ = c.args.s.now in
+    let out_at : List ℕ = c.args.out.now in
+    let are : Within (listed cols-at) = c.requires.0 in
+    let done_at : RowsDone from_at to_at (listed cols-at) s-at out_at c.rows.out c.rows.cursor.at c.rows.p.rows c.rows.p.bytes = (let m = c.moved-first in
+    let n = c.start in
+    let z = c.start-2 in
+    let f = rows-further m.ensures.moves_rows.moved are (omega (arith, n.ensures)) (omega (arith, n.ensures, z.ensures.0)) in
+    c.rows.invariant.0.further out_at (f.further out_at (rows_start from_at to_at (listed cols-at) s-at out_at _ _ _ n.ensures z.ensures))) in
+    let scratch-kept : length c.rows.scratch ≡ length c.args.scratch.now = c.rows.invariant.2 ∙ c.moved-first.ensures.scratch_len_unchanged in
+    let row_kept : length c.rows.row ≡ length c.args.row.now = c.rows.invariant.3 ∙ c.moved-first.ensures.row_len_unchanged in
+    let left : at_end from_at (drop c.rows.cursor.at s-at) ≡ false = sym c.at_end.ensures ∙ c.rows-test.true in
     let flags-at : ℕ = c.in-Row.f in
     let body_at : ℕ = c.in-Row.a in
-    let past : length (listed (cols-at rows_of)) ≤ c.loop-i.i = omega (arith, listed-length (cols-at rows_of), c.loop-i-test.false) in
-    let all_read : read_cells (from_at rows_of) (listed (cols-at rows_of)) (flags_in (from_at rows_of) (cols-at rows_of).count flags-at) 0 (drop body_at (s-at rows_of)) ≡ good (c.loop-i.invariant.0.acc, drop c.loop-i.at (s-at rows_of)) = (let r = rows_of in
-    read-end (from_at r) (listed (cols-at r)) _ (s-at r) body_at c.loop-i.at c.loop-i.i c.loop-i.invariant.0 past) in
+    let begun : read_row from_at (listed cols-at) (drop c.rows.cursor.at s-at) ≡ cells_end from_at (listed cols-at) (flags_in from_at cols-at.count flags-at) (drop body_at s-at) = (
+    let g = c.begin_row-b in
+    row-begun from_at (listed cols-at) cols-at.count (listed-length cols-at) s-at c.rows.cursor.at g.result g.ensures flags-at body_at
+    c.in-Row.is) in
+    let past : length (listed cols-at) ≤ c.loop-i.i = omega (arith, listed-length cols-at, c.loop-i-test.false) in
+    let all_read : read_cells from_at (listed cols-at) (flags_in from_at cols-at.count flags-at) 0 (drop body_at s-at) ≡ good (c.loop-i.invariant.0.acc, drop c.loop-i.at s-at) = (
+    read-end from_at (listed cols-at) _ s-at body_at c.loop-i.at c.loop-i.i c.loop-i.invariant.0 past) in
     let next-at : ℕ = c.in-Closed.a in
-    let begun-of : Begun = c in
-    let whole : read_row (from_at (rows_of begun-of)) (listed (cols-at (rows_of begun-of))) (drop (rows_of begun-of).rows.cursor.at (s-at (rows_of begun-of))) ≡ good (c.loop-i.invariant.0.acc, drop next-at (s-at (rows_of begun-of))) = (let b = begun-of in
-    let r = rows_of b in
+    let whole : read_row from_at (listed cols-at) (drop c.rows.cursor.at s-at) ≡ good (c.loop-i.invariant.0.acc, drop next-at s-at) = (
     let z = c.end_row-e in
-    begun b ∙ cells-closed (from_at r) (listed (cols-at r)) _ (s-at r) (body_at b) _ _ all_read z.result z.ensures next-at c.in-Closed.is) in
-    let onward : ((rows_of begun-of).rows.cursor.at < next-at) × (next-at ≤ length (s-at (rows_of begun-of))) = (let r = rows_of begun-of in
+    begun ∙ cells-closed from_at (listed cols-at) _ s-at body_at _ _ all_read z.result z.ensures next-at c.in-Closed.is) in
+    let onward : (c.rows.cursor.at < next-at) × (next-at ≤ length s-at) = (
     let z = c.end_row-e in
-    let w = closed-within (from_at r) (s-at r) c.loop-i.at z.result z.ensures next-at c.in-Closed.is in
-    (row-onward (from_at r) (listed (cols-at r)) (s-at r) r.rows.cursor.at next-at _ (are r) whole w.1, w.1)) in
-    let row_at : List ℕ = (let b = begun-of in
-    let r = rows_of b in
+    let w = closed-within from_at s-at c.loop-i.at z.result z.ensures next-at c.in-Closed.is in
+    (row-onward from_at (listed cols-at) s-at c.rows.cursor.at next-at _ are whole w.1, w.1)) in
+    let row_at : List ℕ = (
     let l = c.loop-i in
-    row_bytes (to_at r) (cols-at r).count l.m.nulls (put_form (from_at r) (to_at r) (cols-at r) (flags-at b) (drop (body_at b) (s-at r)) l.scratch (holding_of l.m.held))) in
-    let written_at : write_row (to_at (rows_of begun-of)) (listed (cols-at (rows_of begun-of))) c.loop-i.invariant.0.acc ≡ good row_at = (let b = begun-of in
-    let r = rows_of b in
+    row_bytes to_at cols-at.count l.m.nulls (put_form from_at to_at cols-at flags-at (drop body_at s-at) l.scratch (holding_of l.m.held))) in
+    let written_at : write_row to_at (listed cols-at) c.loop-i.invariant.0.acc ≡ good row_at = (
     let l = c.loop-i in
-    row_wrote (from_at r) (to_at r) (cols-at r) (flags-at b) (s-at r) (body_at b) l.at l.i l.invariant.0 l.scratch l.m l.invariant.1 (listed-length (cols-at r))
+    row_wrote from_at to_at cols-at flags-at s-at body_at l.at l.i l.invariant.0 l.scratch l.m l.invariant.1 (listed-length cols-at)
     c.loop-i-test.false c.if-m-ne-NONE.false) in
-    let size-at : length row_at ≡ (rows_of begun-of).before.before.before.before.before.before.before.before.before.before.before.before.frame-size.result + c.loop-i.m.size = (let b = begun-of in
-    let r = rows_of b in
+    let size-at : length row_at ≡ c.frame_size-around.result + c.loop-i.m.size = (
     let l = c.loop-i in
     omega (
       arith,
-      row-length (from_at r) (to_at r) (cols-at r) (flags-at b) (s-at r) (body_at b) l.at l.i l.invariant.0 l.scratch l.m l.invariant.1 (listed-length (cols-at r))
+      row-length from_at to_at cols-at flags-at s-at body_at l.at l.i l.invariant.0 l.scratch l.m l.invariant.1 (listed-length cols-at)
           c.loop-i-test.false c.if-m-ne-NONE.false,
-      r.before.before.before.before.before.before.before.before.before.before.before.before.frame-size.ensures.1 l.m.nulls,
+      c.frame_size-around.ensures.1 l.m.nulls,
     )) in
-    let row-held : Holding → List ℕ = λ h. (let b = begun-of in
-    let r = rows_of b in
+    let row-held : Holding → List ℕ = λ h. (
     let l = c.loop-i in
-    row_bytes (to_at r) (cols-at r).count l.m.nulls (put_form (from_at r) (to_at r) (cols-at r) (flags-at b) (drop (body_at b) (s-at r)) l.scratch h)) in
-    let read_at : Ended = c in
-    let cursor-moves : c.after.result.at ≡ next-at read_at = omega (arith, (onward read_at).0, c.after.ensures) in
-    let turn-rows : AtRows = rows_of (begun-of (c)) in
+    row_bytes to_at cols-at.count l.m.nulls (put_form from_at to_at cols-at flags-at (drop body_at s-at) l.scratch h)) in
+    let cursor-moves : c.after.result.at ≡ next-at = omega (arith, onward.0, c.after.ensures) in
     let out-behind : List ℕ = c.put_row.new.out in
-    let row-behind : (o : List ℕ) → RowsDone (from_at turn-rows) (to_at turn-rows) (listed (cols-at turn-rows)) (s-at turn-rows) o turn-rows.rows.out turn-rows.rows.cursor.at turn-rows.rows.p.rows turn-rows.rows.p.bytes → RowsDone (from_at turn-rows) (to_at turn-rows) (listed (cols-at turn-rows)) (s-at turn-rows) o out-behind c.after.result.at c.after-in-rows.result.rows c.after-in-rows.result.bytes = λ o d. (
-    let r = rows_of begun-of in
+    let row-behind : (o : List ℕ) → RowsDone from_at to_at (listed cols-at) s-at o c.rows.out c.rows.cursor.at c.rows.p.rows c.rows.p.bytes → RowsDone from_at to_at (listed cols-at) s-at o out-behind c.after.result.at c.after-in-rows.result.rows c.after-in-rows.result.bytes = λ o d. (
     let l = c.loop-i in
     let n = onward in
     let w = c.put_row.ensures in
     let h = c.holding_of-holding.ensures in
-    row_done (from_at r) (to_at r) (listed (cols-at r)) (are r) (s-at r) o r.rows.out r.rows.cursor.at r.rows.p.rows r.rows.p.bytes d (left (left-of begun-of))
+    row_done from_at to_at (listed cols-at) are s-at o c.rows.out c.rows.cursor.at c.rows.p.rows c.rows.p.bytes d left
     l.invariant.0.acc _
     whole row_at written_at (omega (arith, size-at, c.if-room-size.false)) _ refl n.0 n.1 _
-    (w.wrote.now-is ∙ ap (λ (y : Holding). sets r.rows.out r.rows.p.bytes (row-held y)) h) _ _ _ cursor-moves c.after-in-rows.ensures.0
-    (c.after-in-rows.ensures.1 ∙ ap (λ (k : ℕ). r.rows.p.bytes + k) (sym size-at))) in
-    let scratch-behind : length c.put_row.new.scratch ≡ length turn-rows.rows.scratch = c.put_row.ensures.scratch_len_unchanged ∙ (all_of (c)).before.loop.inv.3 in
-    let r = turn-rows in
-    let d = row-behind (out_at r) (done_at r) in
+    (w.wrote.now-is ∙ ap (λ (y : Holding). sets c.rows.out c.rows.p.bytes (row-held y)) h) _ _ _ cursor-moves c.after-in-rows.ensures.0
+    (c.after-in-rows.ensures.1 ∙ ap (λ (k : ℕ). c.rows.p.bytes + k) (sym size-at))) in
+    let scratch-behind : length c.put_row.new.scratch ≡ length c.rows.scratch = c.put_row.ensures.scratch_len_unchanged ∙ c.loop-i.invariant.3 in
+    let d = row-behind out_at done_at in
     record {
-      within = (are r, omega (arith, scratch-behind, scratch-kept r, r.pre.1), omega (arith, row_kept r, r.pre.2));
+      within = (are, omega (arith, scratch-behind, scratch-kept, c.requires.1), omega (arith, row_kept, c.requires.2));
       at_in_bounds = (d.inside, d.fewer, d.room);
     }
 
 pub rows-smaller : goal.rows-smaller
 rows-smaller c =
-    let rows_of : AtRows = c in
+    let from_at : Rows = c.args.from in
+    let to_at : Rows = c.args.to in
+    let cols-at : Columns = c.args.cols in
+    let s-at : List ℕ = c.args.s.now in
+    let out_at : List ℕ = c.args.out.now in
+    let are : Within (listed cols-at) = c.requires.0 in
+    let done_at : RowsDone from_at to_at (listed cols-at) s-at out_at c.rows.out c.rows.cursor.at c.rows.p.rows c.rows.p.bytes = (let m = c.moved-first in
+    let n = c.start in
+    let z = c.start-2 in
+    let f = rows-further m.ensures.moves_rows.moved are (omega (arith, n.ensures)) (omega (arith, n.ensures, z.ensures.0)) in
+    c.rows.invariant.0.further out_at (f.further out_at (rows_start from_at to_at (listed cols-at) s-at out_at _ _ _ n.ensures z.ensures))) in
+    let left : at_end from_at (drop c.rows.cursor.at s-at) ≡ false = sym c.at_end.ensures ∙ c.rows-test.true in
     let flags-at : ℕ = c.in-Row.f in
     let body_at : ℕ = c.in-Row.a in
-    let past : length (listed (cols-at rows_of)) ≤ c.loop-i.i = omega (arith, listed-length (cols-at rows_of), c.loop-i-test.false) in
-    let all_read : read_cells (from_at rows_of) (listed (cols-at rows_of)) (flags_in (from_at rows_of) (cols-at rows_of).count flags-at) 0 (drop body_at (s-at rows_of)) ≡ good (c.loop-i.invariant.0.acc, drop c.loop-i.at (s-at rows_of)) = (let r = rows_of in
-    read-end (from_at r) (listed (cols-at r)) _ (s-at r) body_at c.loop-i.at c.loop-i.i c.loop-i.invariant.0 past) in
+    let begun : read_row from_at (listed cols-at) (drop c.rows.cursor.at s-at) ≡ cells_end from_at (listed cols-at) (flags_in from_at cols-at.count flags-at) (drop body_at s-at) = (
+    let g = c.begin_row-b in
+    row-begun from_at (listed cols-at) cols-at.count (listed-length cols-at) s-at c.rows.cursor.at g.result g.ensures flags-at body_at
+    c.in-Row.is) in
+    let past : length (listed cols-at) ≤ c.loop-i.i = omega (arith, listed-length cols-at, c.loop-i-test.false) in
+    let all_read : read_cells from_at (listed cols-at) (flags_in from_at cols-at.count flags-at) 0 (drop body_at s-at) ≡ good (c.loop-i.invariant.0.acc, drop c.loop-i.at s-at) = (
+    read-end from_at (listed cols-at) _ s-at body_at c.loop-i.at c.loop-i.i c.loop-i.invariant.0 past) in
     let next-at : ℕ = c.in-Closed.a in
-    let begun-of : Begun = c in
-    let whole : read_row (from_at (rows_of begun-of)) (listed (cols-at (rows_of begun-of))) (drop (rows_of begun-of).rows.cursor.at (s-at (rows_of begun-of))) ≡ good (c.loop-i.invariant.0.acc, drop next-at (s-at (rows_of begun-of))) = (let b = begun-of in
-    let r = rows_of b in
+    let whole : read_row from_at (listed cols-at) (drop c.rows.cursor.at s-at) ≡ good (c.loop-i.invariant.0.acc, drop next-at s-at) = (
     let z = c.end_row-e in
-    begun b ∙ cells-closed (from_at r) (listed (cols-at r)) _ (s-at r) (body_at b) _ _ all_read z.result z.ensures next-at c.in-Closed.is) in
-    let onward : ((rows_of begun-of).rows.cursor.at < next-at) × (next-at ≤ length (s-at (rows_of begun-of))) = (let r = rows_of begun-of in
+    begun ∙ cells-closed from_at (listed cols-at) _ s-at body_at _ _ all_read z.result z.ensures next-at c.in-Closed.is) in
+    let onward : (c.rows.cursor.at < next-at) × (next-at ≤ length s-at) = (
     let z = c.end_row-e in
-    let w = closed-within (from_at r) (s-at r) c.loop-i.at z.result z.ensures next-at c.in-Closed.is in
-    (row-onward (from_at r) (listed (cols-at r)) (s-at r) r.rows.cursor.at next-at _ (are r) whole w.1, w.1)) in
-    let row_at : List ℕ = (let b = begun-of in
-    let r = rows_of b in
+    let w = closed-within from_at s-at c.loop-i.at z.result z.ensures next-at c.in-Closed.is in
+    (row-onward from_at (listed cols-at) s-at c.rows.cursor.at next-at _ are whole w.1, w.1)) in
+    let row_at : List ℕ = (
     let l = c.loop-i in
-    row_bytes (to_at r) (cols-at r).count l.m.nulls (put_form (from_at r) (to_at r) (cols-at r) (flags-at b) (drop (body_at b) (s-at r)) l.scratch (holding_of l.m.held))) in
-    let written_at : write_row (to_at (rows_of begun-of)) (listed (cols-at (rows_of begun-of))) c.loop-i.invariant.0.acc ≡ good row_at = (let b = begun-of in
-    let r = rows_of b in
+    row_bytes to_at cols-at.count l.m.nulls (put_form from_at to_at cols-at flags-at (drop body_at s-at) l.scratch (holding_of l.m.held))) in
+    let written_at : write_row to_at (listed cols-at) c.loop-i.invariant.0.acc ≡ good row_at = (
     let l = c.loop-i in
-    row_wrote (from_at r) (to_at r) (cols-at r) (flags-at b) (s-at r) (body_at b) l.at l.i l.invariant.0 l.scratch l.m l.invariant.1 (listed-length (cols-at r))
+    row_wrote from_at to_at cols-at flags-at s-at body_at l.at l.i l.invariant.0 l.scratch l.m l.invariant.1 (listed-length cols-at)
     c.loop-i-test.false c.if-m-ne-NONE.false) in
-    let size-at : length row_at ≡ (rows_of begun-of).before.before.before.before.before.before.before.before.before.before.before.before.frame-size.result + c.loop-i.m.size = (let b = begun-of in
-    let r = rows_of b in
+    let size-at : length row_at ≡ c.frame_size-around.result + c.loop-i.m.size = (
     let l = c.loop-i in
     omega (
       arith,
-      row-length (from_at r) (to_at r) (cols-at r) (flags-at b) (s-at r) (body_at b) l.at l.i l.invariant.0 l.scratch l.m l.invariant.1 (listed-length (cols-at r))
+      row-length from_at to_at cols-at flags-at s-at body_at l.at l.i l.invariant.0 l.scratch l.m l.invariant.1 (listed-length cols-at)
           c.loop-i-test.false c.if-m-ne-NONE.false,
-      r.before.before.before.before.before.before.before.before.before.before.before.before.frame-size.ensures.1 l.m.nulls,
+      c.frame_size-around.ensures.1 l.m.nulls,
     )) in
-    let row-held : Holding → List ℕ = λ h. (let b = begun-of in
-    let r = rows_of b in
+    let row-held : Holding → List ℕ = λ h. (
     let l = c.loop-i in
-    row_bytes (to_at r) (cols-at r).count l.m.nulls (put_form (from_at r) (to_at r) (cols-at r) (flags-at b) (drop (body_at b) (s-at r)) l.scratch h)) in
-    let read_at : Ended = c in
-    let cursor-moves : c.after.result.at ≡ next-at read_at = omega (arith, (onward read_at).0, c.after.ensures) in
-    let turn-rows : AtRows = rows_of (begun-of (c)) in
+    row_bytes to_at cols-at.count l.m.nulls (put_form from_at to_at cols-at flags-at (drop body_at s-at) l.scratch h)) in
+    let cursor-moves : c.after.result.at ≡ next-at = omega (arith, onward.0, c.after.ensures) in
     let out-behind : List ℕ = c.put_row.new.out in
-    let row-behind : (o : List ℕ) → RowsDone (from_at turn-rows) (to_at turn-rows) (listed (cols-at turn-rows)) (s-at turn-rows) o turn-rows.rows.out turn-rows.rows.cursor.at turn-rows.rows.p.rows turn-rows.rows.p.bytes → RowsDone (from_at turn-rows) (to_at turn-rows) (listed (cols-at turn-rows)) (s-at turn-rows) o out-behind c.after.result.at c.after-in-rows.result.rows c.after-in-rows.result.bytes = λ o d. (
-    let r = rows_of begun-of in
+    let row-behind : (o : List ℕ) → RowsDone from_at to_at (listed cols-at) s-at o c.rows.out c.rows.cursor.at c.rows.p.rows c.rows.p.bytes → RowsDone from_at to_at (listed cols-at) s-at o out-behind c.after.result.at c.after-in-rows.result.rows c.after-in-rows.result.bytes = λ o d. (
     let l = c.loop-i in
     let n = onward in
     let w = c.put_row.ensures in
     let h = c.holding_of-holding.ensures in
-    row_done (from_at r) (to_at r) (listed (cols-at r)) (are r) (s-at r) o r.rows.out r.rows.cursor.at r.rows.p.rows r.rows.p.bytes d (left (left-of begun-of))
+    row_done from_at to_at (listed cols-at) are s-at o c.rows.out c.rows.cursor.at c.rows.p.rows c.rows.p.bytes d left
     l.invariant.0.acc _
     whole row_at written_at (omega (arith, size-at, c.if-room-size.false)) _ refl n.0 n.1 _
-    (w.wrote.now-is ∙ ap (λ (y : Holding). sets r.rows.out r.rows.p.bytes (row-held y)) h) _ _ _ cursor-moves c.after-in-rows.ensures.0
-    (c.after-in-rows.ensures.1 ∙ ap (λ (k : ℕ). r.rows.p.bytes + k) (sym size-at))) in
-    let more-done : let r = turn-rows in let m = c.moved-more in RowsFurther (from_at r) (to_at r) (listed (cols-at r)) (s-at r) out-behind c.after.result.at c.after-in-rows.result.rows c.after-in-rows.result.bytes m.new.out m.result.place m.result.rows m.result.bytes = (
-    let r = turn-rows in
-    let d = row-behind (out_at r) (done_at r) in
-    rows-further c.moved-more.ensures.moves_rows.moved (are r) d.inside d.fewer) in
-    let n = onward (c) in
+    (w.wrote.now-is ∙ ap (λ (y : Holding). sets c.rows.out c.rows.p.bytes (row-held y)) h) _ _ _ cursor-moves c.after-in-rows.ensures.0
+    (c.after-in-rows.ensures.1 ∙ ap (λ (k : ℕ). c.rows.p.bytes + k) (sym size-at))) in
+    let more-done : let m = c.moved-more in RowsFurther from_at to_at (listed cols-at) s-at out-behind c.after.result.at c.after-in-rows.result.rows c.after-in-rows.result.bytes m.new.out m.result.place m.result.rows m.result.bytes = (
+    let d = row-behind out_at done_at in
+    rows-further c.moved-more.ensures.moves_rows.moved are d.inside d.fewer) in
+    let n = onward in
     let m = more-done in
     omega (arith, n.0, n.1, cursor-moves, m.onward, m.inside)
 
 pub rows-preserved : goal.rows-preserved
 rows-preserved c =
-    let rows_of : AtRows = c in
+    let from_at : Rows = c.args.from in
+    let to_at : Rows = c.args.to in
+    let cols-at : Columns = c.args.cols in
+    let s-at : List ℕ = c.args.s.now in
+    let out_at : List ℕ = c.args.out.now in
+    let are : Within (listed cols-at) = c.requires.0 in
+    let done_at : RowsDone from_at to_at (listed cols-at) s-at out_at c.rows.out c.rows.cursor.at c.rows.p.rows c.rows.p.bytes = (let m = c.moved-first in
+    let n = c.start in
+    let z = c.start-2 in
+    let f = rows-further m.ensures.moves_rows.moved are (omega (arith, n.ensures)) (omega (arith, n.ensures, z.ensures.0)) in
+    c.rows.invariant.0.further out_at (f.further out_at (rows_start from_at to_at (listed cols-at) s-at out_at _ _ _ n.ensures z.ensures))) in
+    let left : at_end from_at (drop c.rows.cursor.at s-at) ≡ false = sym c.at_end.ensures ∙ c.rows-test.true in
     let flags-at : ℕ = c.in-Row.f in
     let body_at : ℕ = c.in-Row.a in
-    let past : length (listed (cols-at rows_of)) ≤ c.loop-i.i = omega (arith, listed-length (cols-at rows_of), c.loop-i-test.false) in
-    let all_read : read_cells (from_at rows_of) (listed (cols-at rows_of)) (flags_in (from_at rows_of) (cols-at rows_of).count flags-at) 0 (drop body_at (s-at rows_of)) ≡ good (c.loop-i.invariant.0.acc, drop c.loop-i.at (s-at rows_of)) = (let r = rows_of in
-    read-end (from_at r) (listed (cols-at r)) _ (s-at r) body_at c.loop-i.at c.loop-i.i c.loop-i.invariant.0 past) in
+    let begun : read_row from_at (listed cols-at) (drop c.rows.cursor.at s-at) ≡ cells_end from_at (listed cols-at) (flags_in from_at cols-at.count flags-at) (drop body_at s-at) = (
+    let g = c.begin_row-b in
+    row-begun from_at (listed cols-at) cols-at.count (listed-length cols-at) s-at c.rows.cursor.at g.result g.ensures flags-at body_at
+    c.in-Row.is) in
+    let past : length (listed cols-at) ≤ c.loop-i.i = omega (arith, listed-length cols-at, c.loop-i-test.false) in
+    let all_read : read_cells from_at (listed cols-at) (flags_in from_at cols-at.count flags-at) 0 (drop body_at s-at) ≡ good (c.loop-i.invariant.0.acc, drop c.loop-i.at s-at) = (
+    read-end from_at (listed cols-at) _ s-at body_at c.loop-i.at c.loop-i.i c.loop-i.invariant.0 past) in
     let next-at : ℕ = c.in-Closed.a in
-    let begun-of : Begun = c in
-    let whole : read_row (from_at (rows_of begun-of)) (listed (cols-at (rows_of begun-of))) (drop (rows_of begun-of).rows.cursor.at (s-at (rows_of begun-of))) ≡ good (c.loop-i.invariant.0.acc, drop next-at (s-at (rows_of begun-of))) = (let b = begun-of in
-    let r = rows_of b in
+    let whole : read_row from_at (listed cols-at) (drop c.rows.cursor.at s-at) ≡ good (c.loop-i.invariant.0.acc, drop next-at s-at) = (
     let z = c.end_row-e in
-    begun b ∙ cells-closed (from_at r) (listed (cols-at r)) _ (s-at r) (body_at b) _ _ all_read z.result z.ensures next-at c.in-Closed.is) in
-    let onward : ((rows_of begun-of).rows.cursor.at < next-at) × (next-at ≤ length (s-at (rows_of begun-of))) = (let r = rows_of begun-of in
+    begun ∙ cells-closed from_at (listed cols-at) _ s-at body_at _ _ all_read z.result z.ensures next-at c.in-Closed.is) in
+    let onward : (c.rows.cursor.at < next-at) × (next-at ≤ length s-at) = (
     let z = c.end_row-e in
-    let w = closed-within (from_at r) (s-at r) c.loop-i.at z.result z.ensures next-at c.in-Closed.is in
-    (row-onward (from_at r) (listed (cols-at r)) (s-at r) r.rows.cursor.at next-at _ (are r) whole w.1, w.1)) in
-    let row_at : List ℕ = (let b = begun-of in
-    let r = rows_of b in
+    let w = closed-within from_at s-at c.loop-i.at z.result z.ensures next-at c.in-Closed.is in
+    (row-onward from_at (listed cols-at) s-at c.rows.cursor.at next-at _ are whole w.1, w.1)) in
+    let row_at : List ℕ = (
     let l = c.loop-i in
-    row_bytes (to_at r) (cols-at r).count l.m.nulls (put_form (from_at r) (to_at r) (cols-at r) (flags-at b) (drop (body_at b) (s-at r)) l.scratch (holding_of l.m.held))) in
-    let written_at : write_row (to_at (rows_of begun-of)) (listed (cols-at (rows_of begun-of))) c.loop-i.invariant.0.acc ≡ good row_at = (let b = begun-of in
-    let r = rows_of b in
+    row_bytes to_at cols-at.count l.m.nulls (put_form from_at to_at cols-at flags-at (drop body_at s-at) l.scratch (holding_of l.m.held))) in
+    let written_at : write_row to_at (listed cols-at) c.loop-i.invariant.0.acc ≡ good row_at = (
     let l = c.loop-i in
-    row_wrote (from_at r) (to_at r) (cols-at r) (flags-at b) (s-at r) (body_at b) l.at l.i l.invariant.0 l.scratch l.m l.invariant.1 (listed-length (cols-at r))
+    row_wrote from_at to_at cols-at flags-at s-at body_at l.at l.i l.invariant.0 l.scratch l.m l.invariant.1 (listed-length cols-at)
     c.loop-i-test.false c.if-m-ne-NONE.false) in
-    let size-at : length row_at ≡ (rows_of begun-of).before.before.before.before.before.before.before.before.before.before.before.before.frame-size.result + c.loop-i.m.size = (let b = begun-of in
-    let r = rows_of b in
+    let size-at : length row_at ≡ c.frame_size-around.result + c.loop-i.m.size = (
     let l = c.loop-i in
     omega (
       arith,
-      row-length (from_at r) (to_at r) (cols-at r) (flags-at b) (s-at r) (body_at b) l.at l.i l.invariant.0 l.scratch l.m l.invariant.1 (listed-length (cols-at r))
+      row-length from_at to_at cols-at flags-at s-at body_at l.at l.i l.invariant.0 l.scratch l.m l.invariant.1 (listed-length cols-at)
           c.loop-i-test.false c.if-m-ne-NONE.false,
-      r.before.before.before.before.before.before.before.before.before.before.before.before.frame-size.ensures.1 l.m.nulls,
+      c.frame_size-around.ensures.1 l.m.nulls,
     )) in
-    let row-held : Holding → List ℕ = λ h. (let b = begun-of in
-    let r = rows_of b in
+    let row-held : Holding → List ℕ = λ h. (
     let l = c.loop-i in
-    row_bytes (to_at r) (cols-at r).count l.m.nulls (put_form (from_at r) (to_at r) (cols-at r) (flags-at b) (drop (body_at b) (s-at r)) l.scratch h)) in
-    let read_at : Ended = c in
-    let cursor-moves : c.after.result.at ≡ next-at read_at = omega (arith, (onward read_at).0, c.after.ensures) in
-    let turn-rows : AtRows = rows_of (begun-of (c)) in
+    row_bytes to_at cols-at.count l.m.nulls (put_form from_at to_at cols-at flags-at (drop body_at s-at) l.scratch h)) in
+    let cursor-moves : c.after.result.at ≡ next-at = omega (arith, onward.0, c.after.ensures) in
     let out-behind : List ℕ = c.put_row.new.out in
-    let row-behind : (o : List ℕ) → RowsDone (from_at turn-rows) (to_at turn-rows) (listed (cols-at turn-rows)) (s-at turn-rows) o turn-rows.rows.out turn-rows.rows.cursor.at turn-rows.rows.p.rows turn-rows.rows.p.bytes → RowsDone (from_at turn-rows) (to_at turn-rows) (listed (cols-at turn-rows)) (s-at turn-rows) o out-behind c.after.result.at c.after-in-rows.result.rows c.after-in-rows.result.bytes = λ o d. (
-    let r = rows_of begun-of in
+    let row-behind : (o : List ℕ) → RowsDone from_at to_at (listed cols-at) s-at o c.rows.out c.rows.cursor.at c.rows.p.rows c.rows.p.bytes → RowsDone from_at to_at (listed cols-at) s-at o out-behind c.after.result.at c.after-in-rows.result.rows c.after-in-rows.result.bytes = λ o d. (
     let l = c.loop-i in
     let n = onward in
     let w = c.put_row.ensures in
     let h = c.holding_of-holding.ensures in
-    row_done (from_at r) (to_at r) (listed (cols-at r)) (are r) (s-at r) o r.rows.out r.rows.cursor.at r.rows.p.rows r.rows.p.bytes d (left (left-of begun-of))
+    row_done from_at to_at (listed cols-at) are s-at o c.rows.out c.rows.cursor.at c.rows.p.rows c.rows.p.bytes d left
     l.invariant.0.acc _
     whole row_at written_at (omega (arith, size-at, c.if-room-size.false)) _ refl n.0 n.1 _
-    (w.wrote.now-is ∙ ap (λ (y : Holding). sets r.rows.out r.rows.p.bytes (row-held y)) h) _ _ _ cursor-moves c.after-in-rows.ensures.0
-    (c.after-in-rows.ensures.1 ∙ ap (λ (k : ℕ). r.rows.p.bytes + k) (sym size-at))) in
-    let scratch-behind : length c.put_row.new.scratch ≡ length turn-rows.rows.scratch = c.put_row.ensures.scratch_len_unchanged ∙ (all_of (c)).before.loop.inv.3 in
-    let more-done : let r = turn-rows in let m = c.moved-more in RowsFurther (from_at r) (to_at r) (listed (cols-at r)) (s-at r) out-behind c.after.result.at c.after-in-rows.result.rows c.after-in-rows.result.bytes m.new.out m.result.place m.result.rows m.result.bytes = (
-    let r = turn-rows in
-    let d = row-behind (out_at r) (done_at r) in
-    rows-further c.moved-more.ensures.moves_rows.moved (are r) d.inside d.fewer) in
-    let r = turn-rows in
+    (w.wrote.now-is ∙ ap (λ (y : Holding). sets c.rows.out c.rows.p.bytes (row-held y)) h) _ _ _ cursor-moves c.after-in-rows.ensures.0
+    (c.after-in-rows.ensures.1 ∙ ap (λ (k : ℕ). c.rows.p.bytes + k) (sym size-at))) in
+    let scratch-behind : length c.put_row.new.scratch ≡ length c.rows.scratch = c.put_row.ensures.scratch_len_unchanged ∙ c.loop-i.invariant.3 in
+    let more-done : let m = c.moved-more in RowsFurther from_at to_at (listed cols-at) s-at out-behind c.after.result.at c.after-in-rows.result.rows c.after-in-rows.result.bytes m.new.out m.result.place m.result.rows m.result.bytes = (
+    let d = row-behind out_at done_at in
+    rows-further c.moved-more.ensures.moves_rows.moved are d.inside d.fewer) in
     let m = c.moved-more.ensures in
     let d = more-done in
-    let i = r.rows.inv.0 in (
+    let i = c.rows.invariant.0 in (
       record {
         inside = d.inside;
         fewer = d.fewer;
         room = d.room;
         long = d.long ∙ wrote-long c.put_row.ensures.wrote ∙ i.long;
-        onward = omega (arith, i.onward, (onward (c)).0, cursor-moves, d.onward);
+        onward = omega (arith, i.onward, onward.0, cursor-moves, d.onward);
         further = λ o before. d.further o (row-behind o (i.further o before));
       },
-      (all_of (c)).before.loop.inv.2 ∙ r.rows.inv.1,
-      m.scratch_len_unchanged ∙ scratch-behind ∙ r.rows.inv.2,
-      m.row_len_unchanged ∙ r.rows.inv.3,
+      c.loop-i.invariant.2 ∙ c.rows.invariant.1,
+      m.scratch_len_unchanged ∙ scratch-behind ∙ c.rows.invariant.2,
+      m.row_len_unchanged ∙ c.rows.invariant.3,
     )
 
 pub returns-after-rows : goal.returns-after-rows
@@ -468,23 +555,21 @@ returns-in-Refused-t c =
     let f = rows-further m.ensures.moves_rows.moved are (omega (arith, n.ensures)) (omega (arith, n.ensures, z.ensures.0)) in
     c.rows.invariant.0.further out_at (f.further out_at (rows_start from_at to_at (listed cols-at) s-at out_at _ _ _ n.ensures z.ensures))) in
     let left : at_end from_at (drop c.rows.cursor.at s-at) ≡ false = sym c.at_end.ensures ∙ c.rows-test.true in
-    let rows_of : AtRows = c in
     let flags-at : ℕ = c.in-Row.f in
     let body_at : ℕ = c.in-Row.a in
-    let begun : read_row (from_at rows_of) (listed (cols-at rows_of)) (drop rows_of.rows.cursor.at (s-at rows_of)) ≡ cells_end (from_at rows_of) (listed (cols-at rows_of)) (flags_in (from_at rows_of) (cols-at rows_of).count flags-at) (drop body_at (s-at rows_of)) = (let r = rows_of in
+    let begun : read_row from_at (listed cols-at) (drop c.rows.cursor.at s-at) ≡ cells_end from_at (listed cols-at) (flags_in from_at cols-at.count flags-at) (drop body_at s-at) = (
     let g = c.begin_row-b in
-    row-begun (from_at r) (listed (cols-at r)) (cols-at r).count (listed-length (cols-at r)) (s-at r) r.rows.cursor.at g.result g.ensures flags-at body_at
+    row-begun from_at (listed cols-at) cols-at.count (listed-length cols-at) s-at c.rows.cursor.at g.result g.ensures flags-at body_at
     c.in-Row.is) in
-    let column-at : Column = get_or (cols-at rows_of).list c.loop-i.i no_column in
-    let next-column : drop c.loop-i.i (listed (cols-at rows_of)) ≡ column-at ∷ drop (suc c.loop-i.i) (listed (cols-at rows_of)) = listed_next (cols-at rows_of) c.loop-i.i c.loop-i-test.true in
+    let column-at : Column = get_or cols-at.list c.loop-i.i no_column in
+    let next-column : drop c.loop-i.i (listed cols-at) ≡ column-at ∷ drop (suc c.loop-i.i) (listed cols-at) = listed_next cols-at c.loop-i.i c.loop-i-test.true in
     let stopped : (n k : ℕ) → read_row from_at (listed cols-at) (drop c.rows.cursor.at s-at) ≡ bad (at k n) → Finished from_at to_at (listed cols-at) s-at out_at c.rows.out (record { number = n; row = c.rows.p.rows; column = k; rows = c.rows.p.rows; bytes = c.rows.p.bytes }) c.rows.cursor.at = λ n k e. (
     read-refusal from_at to_at (listed cols-at) are s-at out_at c.rows.out c.rows.cursor.at c.rows.p.rows c.rows.p.bytes done_at left (at k n) e) in
     let l = c.loop-i in
-    let r = rows_of in
     let f = c.flag_of-flagged in
     let x = subst (MeasuredBy _ _ _ _ _ _ _ _ _) c.in-Refused-t.is c.measure-t.ensures.measured_by in
-    let q = read-stop (from_at r) (listed (cols-at r)) _ (s-at r) body_at l.at l.i l.invariant.0 column-at next-column f.result f.ensures _ x in
-    let d = stopped _ l.i (begun ∙ cells-stopped (from_at r) (listed (cols-at r)) _ (s-at r) body_at _ q) in record { answer_value = d.answers; place_value = d.stands; out_after = d.leaves }
+    let q = read-stop from_at (listed cols-at) _ s-at body_at l.at l.i l.invariant.0 column-at next-column f.result f.ensures _ x in
+    let d = stopped _ l.i (begun ∙ cells-stopped from_at (listed cols-at) _ s-at body_at _ q) in record { answer_value = d.answers; place_value = d.stands; out_after = d.leaves }
 
 pub returns-in-Refused-e : goal.returns-in-Refused-e
 unfolding at
@@ -501,83 +586,100 @@ returns-in-Refused-e c =
     let f = rows-further m.ensures.moves_rows.moved are (omega (arith, n.ensures)) (omega (arith, n.ensures, z.ensures.0)) in
     c.rows.invariant.0.further out_at (f.further out_at (rows_start from_at to_at (listed cols-at) s-at out_at _ _ _ n.ensures z.ensures))) in
     let left : at_end from_at (drop c.rows.cursor.at s-at) ≡ false = sym c.at_end.ensures ∙ c.rows-test.true in
-    let rows_of : AtRows = c in
     let flags-at : ℕ = c.in-Row.f in
     let body_at : ℕ = c.in-Row.a in
-    let begun : read_row (from_at rows_of) (listed (cols-at rows_of)) (drop rows_of.rows.cursor.at (s-at rows_of)) ≡ cells_end (from_at rows_of) (listed (cols-at rows_of)) (flags_in (from_at rows_of) (cols-at rows_of).count flags-at) (drop body_at (s-at rows_of)) = (let r = rows_of in
+    let begun : read_row from_at (listed cols-at) (drop c.rows.cursor.at s-at) ≡ cells_end from_at (listed cols-at) (flags_in from_at cols-at.count flags-at) (drop body_at s-at) = (
     let g = c.begin_row-b in
-    row-begun (from_at r) (listed (cols-at r)) (cols-at r).count (listed-length (cols-at r)) (s-at r) r.rows.cursor.at g.result g.ensures flags-at body_at
+    row-begun from_at (listed cols-at) cols-at.count (listed-length cols-at) s-at c.rows.cursor.at g.result g.ensures flags-at body_at
     c.in-Row.is) in
     let stopped : (n k : ℕ) → read_row from_at (listed cols-at) (drop c.rows.cursor.at s-at) ≡ bad (at k n) → Finished from_at to_at (listed cols-at) s-at out_at c.rows.out (record { number = n; row = c.rows.p.rows; column = k; rows = c.rows.p.rows; bytes = c.rows.p.bytes }) c.rows.cursor.at = λ n k e. (
     read-refusal from_at to_at (listed cols-at) are s-at out_at c.rows.out c.rows.cursor.at c.rows.p.rows c.rows.p.bytes done_at left (at k n) e) in
-    let past : length (listed (cols-at rows_of)) ≤ c.loop-i.i = omega (arith, listed-length (cols-at rows_of), c.loop-i-test.false) in
-    let all_read : read_cells (from_at rows_of) (listed (cols-at rows_of)) (flags_in (from_at rows_of) (cols-at rows_of).count flags-at) 0 (drop body_at (s-at rows_of)) ≡ good (c.loop-i.invariant.0.acc, drop c.loop-i.at (s-at rows_of)) = (let r = rows_of in
-    read-end (from_at r) (listed (cols-at r)) _ (s-at r) body_at c.loop-i.at c.loop-i.i c.loop-i.invariant.0 past) in
-    let r = rows_of in
+    let past : length (listed cols-at) ≤ c.loop-i.i = omega (arith, listed-length cols-at, c.loop-i-test.false) in
+    let all_read : read_cells from_at (listed cols-at) (flags_in from_at cols-at.count flags-at) 0 (drop body_at s-at) ≡ good (c.loop-i.invariant.0.acc, drop c.loop-i.at s-at) = (
+    read-end from_at (listed cols-at) _ s-at body_at c.loop-i.at c.loop-i.i c.loop-i.invariant.0 past) in
     let e = c.end_row-e in
-    let q = cells_open (from_at r) (listed (cols-at r)) _ (s-at r) body_at _ _ all_read e.result e.ensures c.in-Refused-e.n c.in-Refused-e.is in
-    let d = stopped _ (cols-at r).count (begun ∙ q ∙ ap (λ (k : ℕ). bad (at k c.in-Refused-e.n)) (listed-length (cols-at r))) in record { answer_value = d.answers; place_value = d.stands; out_after = d.leaves }
+    let q = cells_open from_at (listed cols-at) _ s-at body_at _ _ all_read e.result e.ensures c.in-Refused-e.n c.in-Refused-e.is in
+    let d = stopped _ cols-at.count (begun ∙ q ∙ ap (λ (k : ℕ). bad (at k c.in-Refused-e.n)) (listed-length cols-at)) in record { answer_value = d.answers; place_value = d.stands; out_after = d.leaves }
 
 pub returns-then-m-ne-NONE : goal.returns-then-m-ne-NONE
 unfolding at
 returns-then-m-ne-NONE c =
-    let rows_of : AtRows = c in
+    let from_at : Rows = c.args.from in
+    let to_at : Rows = c.args.to in
+    let cols-at : Columns = c.args.cols in
+    let s-at : List ℕ = c.args.s.now in
+    let out_at : List ℕ = c.args.out.now in
+    let are : Within (listed cols-at) = c.requires.0 in
+    let done_at : RowsDone from_at to_at (listed cols-at) s-at out_at c.rows.out c.rows.cursor.at c.rows.p.rows c.rows.p.bytes = (let m = c.moved-first in
+    let n = c.start in
+    let z = c.start-2 in
+    let f = rows-further m.ensures.moves_rows.moved are (omega (arith, n.ensures)) (omega (arith, n.ensures, z.ensures.0)) in
+    c.rows.invariant.0.further out_at (f.further out_at (rows_start from_at to_at (listed cols-at) s-at out_at _ _ _ n.ensures z.ensures))) in
+    let left : at_end from_at (drop c.rows.cursor.at s-at) ≡ false = sym c.at_end.ensures ∙ c.rows-test.true in
     let flags-at : ℕ = c.in-Row.f in
     let body_at : ℕ = c.in-Row.a in
-    let past : length (listed (cols-at rows_of)) ≤ c.loop-i.i = omega (arith, listed-length (cols-at rows_of), c.loop-i-test.false) in
-    let all_read : read_cells (from_at rows_of) (listed (cols-at rows_of)) (flags_in (from_at rows_of) (cols-at rows_of).count flags-at) 0 (drop body_at (s-at rows_of)) ≡ good (c.loop-i.invariant.0.acc, drop c.loop-i.at (s-at rows_of)) = (let r = rows_of in
-    read-end (from_at r) (listed (cols-at r)) _ (s-at r) body_at c.loop-i.at c.loop-i.i c.loop-i.invariant.0 past) in
+    let begun : read_row from_at (listed cols-at) (drop c.rows.cursor.at s-at) ≡ cells_end from_at (listed cols-at) (flags_in from_at cols-at.count flags-at) (drop body_at s-at) = (
+    let g = c.begin_row-b in
+    row-begun from_at (listed cols-at) cols-at.count (listed-length cols-at) s-at c.rows.cursor.at g.result g.ensures flags-at body_at
+    c.in-Row.is) in
+    let past : length (listed cols-at) ≤ c.loop-i.i = omega (arith, listed-length cols-at, c.loop-i-test.false) in
+    let all_read : read_cells from_at (listed cols-at) (flags_in from_at cols-at.count flags-at) 0 (drop body_at s-at) ≡ good (c.loop-i.invariant.0.acc, drop c.loop-i.at s-at) = (
+    read-end from_at (listed cols-at) _ s-at body_at c.loop-i.at c.loop-i.i c.loop-i.invariant.0 past) in
     let next-at : ℕ = c.in-Closed.a in
-    let begun-of : Begun = c in
-    let whole : read_row (from_at (rows_of begun-of)) (listed (cols-at (rows_of begun-of))) (drop (rows_of begun-of).rows.cursor.at (s-at (rows_of begun-of))) ≡ good (c.loop-i.invariant.0.acc, drop next-at (s-at (rows_of begun-of))) = (let b = begun-of in
-    let r = rows_of b in
+    let whole : read_row from_at (listed cols-at) (drop c.rows.cursor.at s-at) ≡ good (c.loop-i.invariant.0.acc, drop next-at s-at) = (
     let z = c.end_row-e in
-    begun b ∙ cells-closed (from_at r) (listed (cols-at r)) _ (s-at r) (body_at b) _ _ all_read z.result z.ensures next-at c.in-Closed.is) in
-    let b = begun-of in
-    let r = rows_of b in
+    begun ∙ cells-closed from_at (listed cols-at) _ s-at body_at _ _ all_read z.result z.ensures next-at c.in-Closed.is) in
     let l = c.loop-i in
-    let q = row-cannot (from_at r) (to_at r) (cols-at r) (flags-at b) (s-at r) (body_at b) l.at l.i l.invariant.0 l.scratch l.m l.invariant.1 (listed-length (cols-at r))
+    let q = row-cannot from_at to_at cols-at flags-at s-at body_at l.at l.i l.invariant.0 l.scratch l.m l.invariant.1 (listed-length cols-at)
     c.loop-i-test.false c.if-m-ne-NONE.true in
-    let d = write-refusal (from_at r) (to_at r) (listed (cols-at r)) (are r) (s-at r) (out_at r) r.rows.out r.rows.cursor.at r.rows.p.rows r.rows.p.bytes (done_at r)
-    (left b)
+    let d = write-refusal from_at to_at (listed cols-at) are s-at out_at c.rows.out c.rows.cursor.at c.rows.p.rows c.rows.p.bytes done_at
+    left
     l.invariant.0.acc _ whole _ q in record { answer_value = d.answers; place_value = d.stands; out_after = d.leaves }
 
 pub returns-then-room-size : goal.returns-then-room-size
 returns-then-room-size c =
-    let rows_of : AtRows = c in
+    let from_at : Rows = c.args.from in
+    let to_at : Rows = c.args.to in
+    let cols-at : Columns = c.args.cols in
+    let s-at : List ℕ = c.args.s.now in
+    let out_at : List ℕ = c.args.out.now in
+    let are : Within (listed cols-at) = c.requires.0 in
+    let done_at : RowsDone from_at to_at (listed cols-at) s-at out_at c.rows.out c.rows.cursor.at c.rows.p.rows c.rows.p.bytes = (let m = c.moved-first in
+    let n = c.start in
+    let z = c.start-2 in
+    let f = rows-further m.ensures.moves_rows.moved are (omega (arith, n.ensures)) (omega (arith, n.ensures, z.ensures.0)) in
+    c.rows.invariant.0.further out_at (f.further out_at (rows_start from_at to_at (listed cols-at) s-at out_at _ _ _ n.ensures z.ensures))) in
+    let left : at_end from_at (drop c.rows.cursor.at s-at) ≡ false = sym c.at_end.ensures ∙ c.rows-test.true in
     let flags-at : ℕ = c.in-Row.f in
     let body_at : ℕ = c.in-Row.a in
-    let past : length (listed (cols-at rows_of)) ≤ c.loop-i.i = omega (arith, listed-length (cols-at rows_of), c.loop-i-test.false) in
-    let all_read : read_cells (from_at rows_of) (listed (cols-at rows_of)) (flags_in (from_at rows_of) (cols-at rows_of).count flags-at) 0 (drop body_at (s-at rows_of)) ≡ good (c.loop-i.invariant.0.acc, drop c.loop-i.at (s-at rows_of)) = (let r = rows_of in
-    read-end (from_at r) (listed (cols-at r)) _ (s-at r) body_at c.loop-i.at c.loop-i.i c.loop-i.invariant.0 past) in
+    let begun : read_row from_at (listed cols-at) (drop c.rows.cursor.at s-at) ≡ cells_end from_at (listed cols-at) (flags_in from_at cols-at.count flags-at) (drop body_at s-at) = (
+    let g = c.begin_row-b in
+    row-begun from_at (listed cols-at) cols-at.count (listed-length cols-at) s-at c.rows.cursor.at g.result g.ensures flags-at body_at
+    c.in-Row.is) in
+    let past : length (listed cols-at) ≤ c.loop-i.i = omega (arith, listed-length cols-at, c.loop-i-test.false) in
+    let all_read : read_cells from_at (listed cols-at) (flags_in from_at cols-at.count flags-at) 0 (drop body_at s-at) ≡ good (c.loop-i.invariant.0.acc, drop c.loop-i.at s-at) = (
+    read-end from_at (listed cols-at) _ s-at body_at c.loop-i.at c.loop-i.i c.loop-i.invariant.0 past) in
     let next-at : ℕ = c.in-Closed.a in
-    let begun-of : Begun = c in
-    let whole : read_row (from_at (rows_of begun-of)) (listed (cols-at (rows_of begun-of))) (drop (rows_of begun-of).rows.cursor.at (s-at (rows_of begun-of))) ≡ good (c.loop-i.invariant.0.acc, drop next-at (s-at (rows_of begun-of))) = (let b = begun-of in
-    let r = rows_of b in
+    let whole : read_row from_at (listed cols-at) (drop c.rows.cursor.at s-at) ≡ good (c.loop-i.invariant.0.acc, drop next-at s-at) = (
     let z = c.end_row-e in
-    begun b ∙ cells-closed (from_at r) (listed (cols-at r)) _ (s-at r) (body_at b) _ _ all_read z.result z.ensures next-at c.in-Closed.is) in
-    let row_at : List ℕ = (let b = begun-of in
-    let r = rows_of b in
+    begun ∙ cells-closed from_at (listed cols-at) _ s-at body_at _ _ all_read z.result z.ensures next-at c.in-Closed.is) in
+    let row_at : List ℕ = (
     let l = c.loop-i in
-    row_bytes (to_at r) (cols-at r).count l.m.nulls (put_form (from_at r) (to_at r) (cols-at r) (flags-at b) (drop (body_at b) (s-at r)) l.scratch (holding_of l.m.held))) in
-    let written_at : write_row (to_at (rows_of begun-of)) (listed (cols-at (rows_of begun-of))) c.loop-i.invariant.0.acc ≡ good row_at = (let b = begun-of in
-    let r = rows_of b in
+    row_bytes to_at cols-at.count l.m.nulls (put_form from_at to_at cols-at flags-at (drop body_at s-at) l.scratch (holding_of l.m.held))) in
+    let written_at : write_row to_at (listed cols-at) c.loop-i.invariant.0.acc ≡ good row_at = (
     let l = c.loop-i in
-    row_wrote (from_at r) (to_at r) (cols-at r) (flags-at b) (s-at r) (body_at b) l.at l.i l.invariant.0 l.scratch l.m l.invariant.1 (listed-length (cols-at r))
+    row_wrote from_at to_at cols-at flags-at s-at body_at l.at l.i l.invariant.0 l.scratch l.m l.invariant.1 (listed-length cols-at)
     c.loop-i-test.false c.if-m-ne-NONE.false) in
-    let size-at : length row_at ≡ (rows_of begun-of).before.before.before.before.before.before.before.before.before.before.before.before.frame-size.result + c.loop-i.m.size = (let b = begun-of in
-    let r = rows_of b in
+    let size-at : length row_at ≡ c.frame_size-around.result + c.loop-i.m.size = (
     let l = c.loop-i in
     omega (
       arith,
-      row-length (from_at r) (to_at r) (cols-at r) (flags-at b) (s-at r) (body_at b) l.at l.i l.invariant.0 l.scratch l.m l.invariant.1 (listed-length (cols-at r))
+      row-length from_at to_at cols-at flags-at s-at body_at l.at l.i l.invariant.0 l.scratch l.m l.invariant.1 (listed-length cols-at)
           c.loop-i-test.false c.if-m-ne-NONE.false,
-      r.before.before.before.before.before.before.before.before.before.before.before.before.frame-size.ensures.1 l.m.nulls,
+      c.frame_size-around.ensures.1 l.m.nulls,
     )) in
-    let b = begun-of in
-    let r = rows_of b in
-    let d = room-refusal (from_at r) (to_at r) (listed (cols-at r)) (are r) (s-at r) (out_at r) r.rows.out r.rows.cursor.at r.rows.p.rows r.rows.p.bytes (done_at r)
-    (left b)
+    let d = room-refusal from_at to_at (listed cols-at) are s-at out_at c.rows.out c.rows.cursor.at c.rows.p.rows c.rows.p.bytes done_at
+    left
     c.loop-i.invariant.0.acc _ whole row_at written_at
     (omega (arith, size-at, c.if-room-size.true)) in record { answer_value = d.answers; place_value = d.stands; out_after = d.leaves }
 
@@ -633,64 +735,104 @@ shape_of-row-in-Refused c =
 
 pub shape_of-out-in-Refused-t : goal.shape_of-out-in-Refused-t
 shape_of-out-in-Refused-t c =
-    let rows_of : AtRows = c in
-    (done_at rows_of).long
+    let from_at : Rows = c.args.from in
+    let to_at : Rows = c.args.to in
+    let cols-at : Columns = c.args.cols in
+    let s-at : List ℕ = c.args.s.now in
+    let out_at : List ℕ = c.args.out.now in
+    let are : Within (listed cols-at) = c.requires.0 in
+    let done_at : RowsDone from_at to_at (listed cols-at) s-at out_at c.rows.out c.rows.cursor.at c.rows.p.rows c.rows.p.bytes = (let m = c.moved-first in
+    let n = c.start in
+    let z = c.start-2 in
+    let f = rows-further m.ensures.moves_rows.moved are (omega (arith, n.ensures)) (omega (arith, n.ensures, z.ensures.0)) in
+    c.rows.invariant.0.further out_at (f.further out_at (rows_start from_at to_at (listed cols-at) s-at out_at _ _ _ n.ensures z.ensures))) in
+    done_at.long
 
 pub shape_of-scratch-in-Refused-t : goal.shape_of-scratch-in-Refused-t
 shape_of-scratch-in-Refused-t c =
-    let rows_of : AtRows = c in
-    let scratch-of : length c.loop-i.scratch ≡ length (begin rows_of).args.scratch.now = c.loop-i.invariant.3 ∙ scratch-kept rows_of in
+    let scratch-kept : length c.rows.scratch ≡ length c.args.scratch.now = c.rows.invariant.2 ∙ c.moved-first.ensures.scratch_len_unchanged in
+    let scratch-of : length c.loop-i.scratch ≡ length c.args.scratch.now = c.loop-i.invariant.3 ∙ scratch-kept in
     c.measure-t.ensures.scratch_len_unchanged ∙ scratch-of
 
 pub shape_of-row-in-Refused-t : goal.shape_of-row-in-Refused-t
 shape_of-row-in-Refused-t c =
-    let rows_of : AtRows = c in
-    row_kept rows_of
+    let row_kept : length c.rows.row ≡ length c.args.row.now = c.rows.invariant.3 ∙ c.moved-first.ensures.row_len_unchanged in
+    row_kept
 
 pub shape_of-out-in-Refused-e : goal.shape_of-out-in-Refused-e
 shape_of-out-in-Refused-e c =
-    let rows_of : AtRows = c in
-    (done_at rows_of).long
+    let from_at : Rows = c.args.from in
+    let to_at : Rows = c.args.to in
+    let cols-at : Columns = c.args.cols in
+    let s-at : List ℕ = c.args.s.now in
+    let out_at : List ℕ = c.args.out.now in
+    let are : Within (listed cols-at) = c.requires.0 in
+    let done_at : RowsDone from_at to_at (listed cols-at) s-at out_at c.rows.out c.rows.cursor.at c.rows.p.rows c.rows.p.bytes = (let m = c.moved-first in
+    let n = c.start in
+    let z = c.start-2 in
+    let f = rows-further m.ensures.moves_rows.moved are (omega (arith, n.ensures)) (omega (arith, n.ensures, z.ensures.0)) in
+    c.rows.invariant.0.further out_at (f.further out_at (rows_start from_at to_at (listed cols-at) s-at out_at _ _ _ n.ensures z.ensures))) in
+    done_at.long
 
 pub shape_of-scratch-in-Refused-e : goal.shape_of-scratch-in-Refused-e
 shape_of-scratch-in-Refused-e c =
-    let rows_of : AtRows = c in
-    let scratch-of : length c.loop-i.scratch ≡ length (begin rows_of).args.scratch.now = c.loop-i.invariant.3 ∙ scratch-kept rows_of in
+    let scratch-kept : length c.rows.scratch ≡ length c.args.scratch.now = c.rows.invariant.2 ∙ c.moved-first.ensures.scratch_len_unchanged in
+    let scratch-of : length c.loop-i.scratch ≡ length c.args.scratch.now = c.loop-i.invariant.3 ∙ scratch-kept in
     scratch-of
 
 pub shape_of-row-in-Refused-e : goal.shape_of-row-in-Refused-e
 shape_of-row-in-Refused-e c =
-    let rows_of : AtRows = c in
-    row_kept rows_of
+    let row_kept : length c.rows.row ≡ length c.args.row.now = c.rows.invariant.3 ∙ c.moved-first.ensures.row_len_unchanged in
+    row_kept
 
 pub shape_of-out-then-m-ne-NONE : goal.shape_of-out-then-m-ne-NONE
 shape_of-out-then-m-ne-NONE c =
-    let begun-of : Begun = c in
-    (done_at (rows_of begun-of)).long
+    let from_at : Rows = c.args.from in
+    let to_at : Rows = c.args.to in
+    let cols-at : Columns = c.args.cols in
+    let s-at : List ℕ = c.args.s.now in
+    let out_at : List ℕ = c.args.out.now in
+    let are : Within (listed cols-at) = c.requires.0 in
+    let done_at : RowsDone from_at to_at (listed cols-at) s-at out_at c.rows.out c.rows.cursor.at c.rows.p.rows c.rows.p.bytes = (let m = c.moved-first in
+    let n = c.start in
+    let z = c.start-2 in
+    let f = rows-further m.ensures.moves_rows.moved are (omega (arith, n.ensures)) (omega (arith, n.ensures, z.ensures.0)) in
+    c.rows.invariant.0.further out_at (f.further out_at (rows_start from_at to_at (listed cols-at) s-at out_at _ _ _ n.ensures z.ensures))) in
+    done_at.long
 
 pub shape_of-scratch-then-m-ne-NONE : goal.shape_of-scratch-then-m-ne-NONE
 shape_of-scratch-then-m-ne-NONE c =
-    let rows_of : AtRows = c in
-    let scratch-of : length c.loop-i.scratch ≡ length (begin rows_of).args.scratch.now = c.loop-i.invariant.3 ∙ scratch-kept rows_of in
+    let scratch-kept : length c.rows.scratch ≡ length c.args.scratch.now = c.rows.invariant.2 ∙ c.moved-first.ensures.scratch_len_unchanged in
+    let scratch-of : length c.loop-i.scratch ≡ length c.args.scratch.now = c.loop-i.invariant.3 ∙ scratch-kept in
     scratch-of
 
 pub shape_of-row-then-m-ne-NONE : goal.shape_of-row-then-m-ne-NONE
 shape_of-row-then-m-ne-NONE c =
-    let begun-of : Begun = c in
-    row_kept (rows_of begun-of)
+    let row_kept : length c.rows.row ≡ length c.args.row.now = c.rows.invariant.3 ∙ c.moved-first.ensures.row_len_unchanged in
+    row_kept
 
 pub shape_of-out-then-room-size : goal.shape_of-out-then-room-size
 shape_of-out-then-room-size c =
-    let begun-of : Begun = c in
-    (done_at (rows_of begun-of)).long
+    let from_at : Rows = c.args.from in
+    let to_at : Rows = c.args.to in
+    let cols-at : Columns = c.args.cols in
+    let s-at : List ℕ = c.args.s.now in
+    let out_at : List ℕ = c.args.out.now in
+    let are : Within (listed cols-at) = c.requires.0 in
+    let done_at : RowsDone from_at to_at (listed cols-at) s-at out_at c.rows.out c.rows.cursor.at c.rows.p.rows c.rows.p.bytes = (let m = c.moved-first in
+    let n = c.start in
+    let z = c.start-2 in
+    let f = rows-further m.ensures.moves_rows.moved are (omega (arith, n.ensures)) (omega (arith, n.ensures, z.ensures.0)) in
+    c.rows.invariant.0.further out_at (f.further out_at (rows_start from_at to_at (listed cols-at) s-at out_at _ _ _ n.ensures z.ensures))) in
+    done_at.long
 
 pub shape_of-scratch-then-room-size : goal.shape_of-scratch-then-room-size
 shape_of-scratch-then-room-size c =
-    let rows_of : AtRows = c in
-    let scratch-of : length c.loop-i.scratch ≡ length (begin rows_of).args.scratch.now = c.loop-i.invariant.3 ∙ scratch-kept rows_of in
+    let scratch-kept : length c.rows.scratch ≡ length c.args.scratch.now = c.rows.invariant.2 ∙ c.moved-first.ensures.scratch_len_unchanged in
+    let scratch-of : length c.loop-i.scratch ≡ length c.args.scratch.now = c.loop-i.invariant.3 ∙ scratch-kept in
     scratch-of
 
 pub shape_of-row-then-room-size : goal.shape_of-row-then-room-size
 shape_of-row-then-room-size c =
-    let begun-of : Begun = c in
-    row_kept (rows_of begun-of)
+    let row_kept : length c.rows.row ≡ length c.args.row.now = c.rows.invariant.3 ∙ c.moved-first.ensures.row_len_unchanged in
+    row_kept

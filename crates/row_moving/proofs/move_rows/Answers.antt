@@ -39,6 +39,7 @@ use Rattle.table.specs.declared.Column.{Column}
 use Rattle.table.specs.declared.Columns.{Columns}
 use Rattle.table.specs.declared.Rows.{Rows}
 use Rattle.row_moving.proofs.move_rows.Goals as goal
+use Rattle.row_moving.proofs.move_rows.Goals.{in-Careful+in-Cell-move_cell, in-Cell}
 
 pub start_size-first-requires : goal.start_size-first-requires
 start_size-first-requires c = omega (arith, c.requires.within.0.few, listed-length c.args.cols)
@@ -104,7 +105,12 @@ move_planned-planned-requires c =
     )
 
 pub offset_bounds-cols-i : goal.offset_bounds-cols-i
-offset_bounds-cols-i c = omega (arith, few-turns (c))
+offset_bounds-cols-i c =
+    let cols-at : Columns = c.args.cols in
+    let are : Within (listed cols-at) = c.requires.within.0 in
+    let few : cols-at.count ≤ 64 = omega (arith, are.few, listed-length cols-at) in
+    let few-turns : c.loop-i.i < 64 = omega (arith, few, c.loop-i-test.true) in
+    omega (arith, few-turns)
 
 pub move_cell-requires : goal.move_cell-requires
 move_cell-requires c =
@@ -118,7 +124,7 @@ move_cell-requires c =
     let step_is : get_or c.plan_of-plan.result.list c.loop-i.i no_step ≡ step_of column-at = (
     ap (λ (p : Plan). get_or p.list c.loop-i.i no_step) c.plan_of-plan.ensures ∙ plan-at (listed cols-at) c.loop-i.i column-at next-column) in
     let flag_at : Bool = c.flag_of-flagged.result in
-    let planned-row : List ℕ = c.move_planned-planned.last.1.1.1.1.1.1.0 in
+    let planned-row : List ℕ = c.move_planned-planned.new.row in
     let by-plan : let l = c.loop-i in MovesCell from_at to_at column-at flag_at s-at l.at l.row l.end planned-row c.move_planned-planned.result = (
     c.move_planned-planned.ensures column-at (listed-bounded cols-at c.loop-i.i are c.loop-i-test.true) step_is) in
     let declined : Puts c.loop-i.row c.loop-i.end [] planned-row c.loop-i.end = (
@@ -141,7 +147,12 @@ add_flag-nulls-requires c =
     few-turns
 
 pub add_flag-nulls-requires-in-Careful : goal.add_flag-nulls-requires-in-Careful
-add_flag-nulls-requires-in-Careful c = few-turns (c)
+add_flag-nulls-requires-in-Careful c =
+    let cols-at : Columns = c.args.cols in
+    let are : Within (listed cols-at) = c.requires.within.0 in
+    let few : cols-at.count ≤ 64 = omega (arith, are.few, listed-length cols-at) in
+    let few-turns : c.loop-i.i < 64 = omega (arith, few, c.loop-i-test.true) in
+    few-turns
 
 pub overflow_add-i : goal.overflow_add-i
 overflow_add-i c =
@@ -169,7 +180,7 @@ loop-i-preserved c =
     let step_is : get_or c.plan_of-plan.result.list c.loop-i.i no_step ≡ step_of column-at = (
     ap (λ (p : Plan). get_or p.list c.loop-i.i no_step) c.plan_of-plan.ensures ∙ plan-at (listed cols-at) c.loop-i.i column-at next-column) in
     let flag_at : Bool = c.flag_of-flagged.result in
-    let planned-row : List ℕ = c.move_planned-planned.last.1.1.1.1.1.1.0 in
+    let planned-row : List ℕ = c.move_planned-planned.new.row in
     let by-plan : let l = c.loop-i in MovesCell from_at to_at column-at flag_at s-at l.at l.row l.end planned-row c.move_planned-planned.result = (
     c.move_planned-planned.ensures column-at (listed-bounded cols-at c.loop-i.i are c.loop-i-test.true) step_is) in
     let advance : (new : List ℕ) (next e : ℕ) (null : Bool) (q : ℕ) → let l = c.loop-i in CellMoved from_at to_at column-at flag_at s-at l.at l.row l.end new next e null → to_digits 2 (l.i + 1) q ≡ to_digits 2 l.i l.nulls ++ (flag_bit null ∷ []) → (k : RowRead from_at (listed cols-at) (flags_in from_at cols-at.count flags-at) s-at body_at next (l.i + 1)) × RowMoved to_at (listed cols-at) k.acc c.rows.row c.start_size-first.result new e q (l.i + 1) = λ new next e null q x w. (
@@ -181,135 +192,147 @@ loop-i-preserved c =
           _ _ _ x q w,
     )) in
     let l = c.loop-i in
-    ⊎_elim
-    (λ w.
-    let x = subst (MovesCell from_at to_at column-at flag_at s-at l.at l.row l.end planned-row) w.1.given.1 by-plan in
-    let a = advance planned-row _ _ _ _ x w.3.ensures in
-    rw (w.4, w.5, w.6, w.7, w.8) (a.0, a.1, l.invariant.2))
-    (λ w.
-    let d : Declined = record { before = record { before = c; match2 = w.0 }; enum_told = w.1 } in
-    let m = w.5 in
-    let n = w.10.given in
-    let y = subst (SettlesCell from_at to_at column-at flag_at s-at l.at planned-row l.end m.last.1.1.1.1.1.1.1.0) n.1 m.ensures.0 in
-    let x = settled-after from_at to_at column-at flag_at s-at l.at l.row l.end planned-row _ (Moved.Cell n.0.0 n.0.1.0 n.0.1.1.0) (declined d) y in
-    let a = advance _ _ _ _ _ x w.12.ensures in
-    rw (w.13, w.14, w.15, w.16, w.17) (a.0, a.1, m.ensures.1 ∙ l.invariant.2))
-    c.match-planned.branch
+    elim c.match-planned.branch [
+      in-Cell w ↦
+        let x = subst (MovesCell from_at to_at column-at flag_at s-at l.at l.row l.end planned-row) w.in-Cell.is by-plan in
+        let a = advance planned-row _ _ _ _ x w.add_flag-nulls.ensures in
+        rw (w.scratch-is, w.row-is, w.at-is, w.end-is, w.nulls-is) (a.0, a.1, l.invariant.2)
+    | in-Careful+in-Cell-move_cell w ↦
+        let declined = subst (MovesCell from_at to_at column-at flag_at s-at l.at l.row l.end planned-row) w.in-Careful.is by-plan in
+        let m = w.move_cell in
+        let n = w.in-Cell-move_cell in
+        let y = subst (SettlesCell from_at to_at column-at flag_at s-at l.at planned-row l.end m.new.row) n.is m.ensures.settles_cell in
+        let x = settled-after from_at to_at column-at flag_at s-at l.at l.row l.end planned-row _ (Moved.Cell n.next n.e n.null) declined y in
+        let a = advance _ _ _ _ _ x w.add_flag-nulls-in-Careful.ensures in
+        rw (w.scratch-is, w.row-is, w.at-is, w.end-is, w.nulls-is) (a.0, a.1, m.ensures.scratch_len_unchanged ∙ l.invariant.2)
+    ]
 
 pub end_row-requires : goal.end_row-requires
 end_row-requires c = c.loop-i.invariant.0.inside
 
 pub frame_row-requires : goal.frame_row-requires
 frame_row-requires c =
-    let begun-of : Begun = c in
+    let cols-at : Columns = c.args.cols in
+    let are : Within (listed cols-at) = c.requires.within.0 in
+    let few : cols-at.count ≤ 64 = omega (arith, are.few, listed-length cols-at) in
     let l = c.loop-i in
-    let r = rows_of begun-of in
-    (few r, omega (arith, l.invariant.1.puts.long, r.rows.inv.2, r.pre.0.2), omega (arith, l.invariant.1.puts.room, l.invariant.1.puts.long))
+    (few, omega (arith, l.invariant.1.puts.long, c.rows.invariant.2, c.requires.within.2), omega (arith, l.invariant.1.puts.room, l.invariant.1.puts.long))
 
 pub overflow_sub-out : goal.overflow_sub-out
-overflow_sub-out c =
-    let begun-of : Begun = c in
-    (rows_of begun-of).rows.inv.0.room
+overflow_sub-out c = c.rows.invariant.0.room
 
 pub put_row-bytes-requires : goal.put_row-bytes-requires
 put_row-bytes-requires c =
-    let begun-of : Begun = c in
+    let to_at : Rows = c.args.to in
+    let cols-at : Columns = c.args.cols in
+    let starts : (nulls : ℕ) → length (start_bytes to_at cols-at.count nulls) ≡ c.start_size-first.result = λ nulls. c.start_size-first.ensures.1 nulls in
+    let roomy : c.start_size-first.result ≤ length c.rows.row = omega (arith, c.start_size-first.ensures.0, c.rows.invariant.2, c.requires.within.2) in
     let size-at : ℕ = c.in-Row-frame_row.size in
-    let framed-row : List ℕ = c.frame_row.last.1.1.1.0 in
+    let framed-row : List ℕ = c.frame_row.new.row in
     let row-bytes : List ℕ = (let l = c.loop-i in
-    let r = rows_of begun-of in
-    start_bytes (to_at r) (cols-at r).count l.nulls ++ (l.invariant.1.w ++ write_end (to_at r))) in
+    start_bytes to_at cols-at.count l.nulls ++ (l.invariant.1.w ++ write_end to_at)) in
     let stands : (size-at ≤ length framed-row) × (take size-at framed-row ≡ row-bytes) = (let l = c.loop-i in
-    let r = rows_of begun-of in
     let g = c.frame_row.ensures.framed in
-    let k = subst (FramedAs (to_at r) (cols-at r).count l.nulls l.row l.end framed-row) c.in-Row-frame_row.is g in
-    (k.0, k.1 l.invariant.1.w (take r.before.before.start-size.result r.rows.row) l.invariant.1.puts.front (length-take-le _ r.rows.row (roomy r) ∙ sym (starts r l.nulls)))) in
-    (stands.0, omega (arith, c.if-out-bytes.false, (rows_of begun-of).rows.inv.0.room))
+    let k = subst (FramedAs to_at cols-at.count l.nulls l.row l.end framed-row) c.in-Row-frame_row.is g in
+    (k.0, k.1 l.invariant.1.w (take c.start_size-first.result c.rows.row) l.invariant.1.puts.front (length-take-le _ c.rows.row roomy ∙ sym (starts l.nulls)))) in
+    (stands.0, omega (arith, c.if-out-bytes.false, c.rows.invariant.0.room))
 
 pub overflow_add-rows : goal.overflow_add-rows
 overflow_add-rows c =
+    let from_at : Rows = c.args.from in
     let cols-at : Columns = c.args.cols in
-    let begun-of : Begun = c in
+    let s-at : List ℕ = c.args.s.now in
+    let are : Within (listed cols-at) = c.requires.within.0 in
+    let flags-at : ℕ = c.in-Row.f in
+    let body_at : ℕ = c.in-Row.a in
+    let begun : read_row from_at (listed cols-at) (drop c.rows.place s-at) ≡ cells_end from_at (listed cols-at) (flags_in from_at cols-at.count flags-at) (drop body_at s-at) = (
+    let g = c.begin_quickly-b in
+    row-begun from_at (listed cols-at) cols-at.count (listed-length cols-at) s-at c.rows.place g.result g.ensures flags-at body_at c.in-Row.is) in
     let next-at : ℕ = c.in-Closed.next in
     let past : length (listed cols-at) ≤ c.loop-i.i = omega (arith, listed-length cols-at, c.loop-i-test.false) in
-    let whole : read_row (from_at (rows_of begun-of)) (listed (cols-at (rows_of begun-of))) (drop (rows_of begun-of).rows.place (s-at (rows_of begun-of))) ≡ good (c.loop-i.invariant.0.acc, drop next-at (s-at (rows_of begun-of))) = (
-    let b = begun-of in
-    let r = b in
+    let whole : read_row from_at (listed cols-at) (drop c.rows.place s-at) ≡ good (c.loop-i.invariant.0.acc, drop next-at s-at) = (
     let l = c.loop-i in
     let z = c.end_row in
-    let q = read-end (from_at r) (listed (cols-at r)) _ (s-at r) (body_at b) l.at l.i l.invariant.0 past in
-    begun b ∙ cells-closed (from_at r) (listed (cols-at r)) _ (s-at r) (body_at b) _ _ q z.result z.ensures next-at c.in-Closed.is) in
-    let onward : ((rows_of begun-of).rows.place < next-at) × (next-at ≤ length (s-at (rows_of begun-of))) = (let r = rows_of begun-of in
+    let q = read-end from_at (listed cols-at) _ s-at body_at l.at l.i l.invariant.0 past in
+    begun ∙ cells-closed from_at (listed cols-at) _ s-at body_at _ _ q z.result z.ensures next-at c.in-Closed.is) in
+    let onward : (c.rows.place < next-at) × (next-at ≤ length s-at) = (
     let z = c.end_row in
-    let w = closed-within (from_at r) (s-at r) c.loop-i.at z.result z.ensures next-at c.in-Closed.is in
-    (row-onward (from_at r) (listed (cols-at r)) (s-at r) r.rows.place next-at _ (are r) whole w.1, w.1)) in
-    let r = rows_of begun-of in
-    let f = rows-further r.rows.inv.0 (are r) r.pre.1.0 r.pre.1.1 in
-    omega (arith, f.fewer, onward.0, onward.1, r.good)
+    let w = closed-within from_at s-at c.loop-i.at z.result z.ensures next-at c.in-Closed.is in
+    (row-onward from_at (listed cols-at) s-at c.rows.place next-at _ are whole w.1, w.1)) in
+    let f = rows-further c.rows.invariant.0 are c.requires.place_in_bounds.0 c.requires.place_in_bounds.1 in
+    omega (arith, f.fewer, onward.0, onward.1)
 
 pub rows-smaller : goal.rows-smaller
 rows-smaller c =
+    let from_at : Rows = c.args.from in
     let cols-at : Columns = c.args.cols in
-    let begun-of : Begun = c in
+    let s-at : List ℕ = c.args.s.now in
+    let are : Within (listed cols-at) = c.requires.within.0 in
+    let flags-at : ℕ = c.in-Row.f in
+    let body_at : ℕ = c.in-Row.a in
+    let begun : read_row from_at (listed cols-at) (drop c.rows.place s-at) ≡ cells_end from_at (listed cols-at) (flags_in from_at cols-at.count flags-at) (drop body_at s-at) = (
+    let g = c.begin_quickly-b in
+    row-begun from_at (listed cols-at) cols-at.count (listed-length cols-at) s-at c.rows.place g.result g.ensures flags-at body_at c.in-Row.is) in
     let next-at : ℕ = c.in-Closed.next in
     let past : length (listed cols-at) ≤ c.loop-i.i = omega (arith, listed-length cols-at, c.loop-i-test.false) in
-    let whole : read_row (from_at (rows_of begun-of)) (listed (cols-at (rows_of begun-of))) (drop (rows_of begun-of).rows.place (s-at (rows_of begun-of))) ≡ good (c.loop-i.invariant.0.acc, drop next-at (s-at (rows_of begun-of))) = (
-    let b = begun-of in
-    let r = b in
+    let whole : read_row from_at (listed cols-at) (drop c.rows.place s-at) ≡ good (c.loop-i.invariant.0.acc, drop next-at s-at) = (
     let l = c.loop-i in
     let z = c.end_row in
-    let q = read-end (from_at r) (listed (cols-at r)) _ (s-at r) (body_at b) l.at l.i l.invariant.0 past in
-    begun b ∙ cells-closed (from_at r) (listed (cols-at r)) _ (s-at r) (body_at b) _ _ q z.result z.ensures next-at c.in-Closed.is) in
-    let onward : ((rows_of begun-of).rows.place < next-at) × (next-at ≤ length (s-at (rows_of begun-of))) = (let r = rows_of begun-of in
+    let q = read-end from_at (listed cols-at) _ s-at body_at l.at l.i l.invariant.0 past in
+    begun ∙ cells-closed from_at (listed cols-at) _ s-at body_at _ _ q z.result z.ensures next-at c.in-Closed.is) in
+    let onward : (c.rows.place < next-at) × (next-at ≤ length s-at) = (
     let z = c.end_row in
-    let w = closed-within (from_at r) (s-at r) c.loop-i.at z.result z.ensures next-at c.in-Closed.is in
-    (row-onward (from_at r) (listed (cols-at r)) (s-at r) r.rows.place next-at _ (are r) whole w.1, w.1)) in
+    let w = closed-within from_at s-at c.loop-i.at z.result z.ensures next-at c.in-Closed.is in
+    (row-onward from_at (listed cols-at) s-at c.rows.place next-at _ are whole w.1, w.1)) in
     omega (arith, onward.0, onward.1)
 
 pub rows-preserved : goal.rows-preserved
 rows-preserved c =
+    let from_at : Rows = c.args.from in
+    let to_at : Rows = c.args.to in
     let cols-at : Columns = c.args.cols in
-    let begun-of : Begun = c in
+    let s-at : List ℕ = c.args.s.now in
+    let are : Within (listed cols-at) = c.requires.within.0 in
+    let flags-at : ℕ = c.in-Row.f in
+    let body_at : ℕ = c.in-Row.a in
+    let begun : read_row from_at (listed cols-at) (drop c.rows.place s-at) ≡ cells_end from_at (listed cols-at) (flags_in from_at cols-at.count flags-at) (drop body_at s-at) = (
+    let g = c.begin_quickly-b in
+    row-begun from_at (listed cols-at) cols-at.count (listed-length cols-at) s-at c.rows.place g.result g.ensures flags-at body_at c.in-Row.is) in
+    let starts : (nulls : ℕ) → length (start_bytes to_at cols-at.count nulls) ≡ c.start_size-first.result = λ nulls. c.start_size-first.ensures.1 nulls in
+    let roomy : c.start_size-first.result ≤ length c.rows.row = omega (arith, c.start_size-first.ensures.0, c.rows.invariant.2, c.requires.within.2) in
     let next-at : ℕ = c.in-Closed.next in
     let past : length (listed cols-at) ≤ c.loop-i.i = omega (arith, listed-length cols-at, c.loop-i-test.false) in
-    let whole : read_row (from_at (rows_of begun-of)) (listed (cols-at (rows_of begun-of))) (drop (rows_of begun-of).rows.place (s-at (rows_of begun-of))) ≡ good (c.loop-i.invariant.0.acc, drop next-at (s-at (rows_of begun-of))) = (
-    let b = begun-of in
-    let r = b in
+    let whole : read_row from_at (listed cols-at) (drop c.rows.place s-at) ≡ good (c.loop-i.invariant.0.acc, drop next-at s-at) = (
     let l = c.loop-i in
     let z = c.end_row in
-    let q = read-end (from_at r) (listed (cols-at r)) _ (s-at r) (body_at b) l.at l.i l.invariant.0 past in
-    begun b ∙ cells-closed (from_at r) (listed (cols-at r)) _ (s-at r) (body_at b) _ _ q z.result z.ensures next-at c.in-Closed.is) in
-    let onward : ((rows_of begun-of).rows.place < next-at) × (next-at ≤ length (s-at (rows_of begun-of))) = (let r = rows_of begun-of in
+    let q = read-end from_at (listed cols-at) _ s-at body_at l.at l.i l.invariant.0 past in
+    begun ∙ cells-closed from_at (listed cols-at) _ s-at body_at _ _ q z.result z.ensures next-at c.in-Closed.is) in
+    let onward : (c.rows.place < next-at) × (next-at ≤ length s-at) = (
     let z = c.end_row in
-    let w = closed-within (from_at r) (s-at r) c.loop-i.at z.result z.ensures next-at c.in-Closed.is in
-    (row-onward (from_at r) (listed (cols-at r)) (s-at r) r.rows.place next-at _ (are r) whole w.1, w.1)) in
+    let w = closed-within from_at s-at c.loop-i.at z.result z.ensures next-at c.in-Closed.is in
+    (row-onward from_at (listed cols-at) s-at c.rows.place next-at _ are whole w.1, w.1)) in
     let size-at : ℕ = c.in-Row-frame_row.size in
-    let framed-row : List ℕ = c.frame_row.last.1.1.1.0 in
+    let framed-row : List ℕ = c.frame_row.new.row in
     let row-bytes : List ℕ = (let l = c.loop-i in
-    let r = rows_of begun-of in
-    start_bytes (to_at r) (cols-at r).count l.nulls ++ (l.invariant.1.w ++ write_end (to_at r))) in
-    let written_at : write_row (to_at (rows_of begun-of)) (listed (cols-at (rows_of begun-of))) c.loop-i.invariant.0.acc ≡ good row-bytes = (
+    start_bytes to_at cols-at.count l.nulls ++ (l.invariant.1.w ++ write_end to_at)) in
+    let written_at : write_row to_at (listed cols-at) c.loop-i.invariant.0.acc ≡ good row-bytes = (
     let l = c.loop-i in
-    let r = rows_of begun-of in
-    moved_row (to_at r) (listed (cols-at r)) l.invariant.0.acc _ _ _ _ l.nulls l.i (cols-at r).count l.invariant.1 past
-    (omega (arith, past, l.invariant.0.upto, listed-length (cols-at r)))) in
+    moved_row to_at (listed cols-at) l.invariant.0.acc _ _ _ _ l.nulls l.i cols-at.count l.invariant.1 past
+    (omega (arith, past, l.invariant.0.upto, listed-length cols-at))) in
     let stands : (size-at ≤ length framed-row) × (take size-at framed-row ≡ row-bytes) = (let l = c.loop-i in
-    let r = rows_of begun-of in
     let g = c.frame_row.ensures.framed in
-    let k = subst (FramedAs (to_at r) (cols-at r).count l.nulls l.row l.end framed-row) c.in-Row-frame_row.is g in
-    (k.0, k.1 l.invariant.1.w (take r.before.before.start-size.result r.rows.row) l.invariant.1.puts.front (length-take-le _ r.rows.row (roomy r) ∙ sym (starts r l.nulls)))) in
+    let k = subst (FramedAs to_at cols-at.count l.nulls l.row l.end framed-row) c.in-Row-frame_row.is g in
+    (k.0, k.1 l.invariant.1.w (take c.start_size-first.result c.rows.row) l.invariant.1.puts.front (length-take-le _ c.rows.row roomy ∙ sym (starts l.nulls)))) in
     let as_many : length row-bytes ≡ size-at = ap length (sym stands.1) ∙ length-take-le size-at framed-row stands.0 in
-    let b = begun-of in
-    let r = b in
     let l = c.loop-i in
-    let i = r.rows.inv.0 in
+    let i = c.rows.invariant.0 in
     let p = wrote_as stands.1 c.put_row-bytes.ensures in
     let fits = c.if-out-bytes.false in
     let g = c.frame_row.ensures in (
-      rows_more (from_at r) (to_at r) (listed (cols-at r)) (s-at r) _ _ _ _ r.rows.out r.rows.place r.rows.rows r.rows.bytes i
+      rows_more from_at to_at (listed cols-at) s-at _ _ _ _ c.rows.out c.rows.place c.rows.rows c.rows.bytes i
           l.invariant.0.acc next-at whole onward.1 row-bytes written_at (omega (arith, as_many, fits, i.room)) _ _ p,
-      l.invariant.2 ∙ r.rows.inv.1,
-      g.long ∙ l.invariant.1.puts.long ∙ r.rows.inv.2,
+      l.invariant.2 ∙ c.rows.invariant.1,
+      g.long ∙ l.invariant.1.puts.long ∙ c.rows.invariant.2,
     )
 
 pub returns-in-Refused : goal.returns-in-Refused
@@ -330,9 +353,7 @@ returns-in-Refused c =
 
 pub shape_of-scratch-in_default : goal.shape_of-scratch-in_default
 shape_of-scratch-in_default c =
-    let unmoved : Turning = turn-of (c) in
-    let t = unmoved in
-    c.move_cell.ensures.scratch_len_unchanged ∙ t.before.loop.inv.2 ∙ t.rows.inv.1
+    c.move_cell.ensures.scratch_len_unchanged ∙ c.loop-i.invariant.2 ∙ c.rows.invariant.1
 
 pub shape_of-row-in_default : goal.shape_of-row-in_default
 shape_of-row-in_default c =
@@ -346,22 +367,19 @@ shape_of-row-in_default c =
     let step_is : get_or c.plan_of-plan.result.list c.loop-i.i no_step ≡ step_of column-at = (
     ap (λ (p : Plan). get_or p.list c.loop-i.i no_step) c.plan_of-plan.ensures ∙ plan-at (listed cols-at) c.loop-i.i column-at next-column) in
     let flag_at : Bool = c.flag_of-flagged.result in
-    let planned-row : List ℕ = c.move_planned-planned.last.1.1.1.1.1.1.0 in
+    let planned-row : List ℕ = c.move_planned-planned.new.row in
     let by-plan : let l = c.loop-i in MovesCell from_at to_at column-at flag_at s-at l.at l.row l.end planned-row c.move_planned-planned.result = (
     c.move_planned-planned.ensures column-at (listed-bounded cols-at c.loop-i.i are c.loop-i-test.true) step_is) in
     let declined : Puts c.loop-i.row c.loop-i.end [] planned-row c.loop-i.end = (
     let l = c.loop-i in
     subst (MovesCell from_at to_at column-at flag_at s-at l.at l.row l.end planned-row) c.in-Careful.is by-plan) in
-    let unmoved : Turning = turn-of (c) in
-    let unmoved-cell : let t = unmoved in let l = t.before.loop in let r = t in CellLeft (from_at r) (to_at r) (column-at t) (flag_at (c)) (s-at r) l.at l.row l.end c.move_cell.new.row = (let t = unmoved in
-    let l = t.before.loop in
-    let r = t in
+    let unmoved-cell : let l = c.loop-i in CellLeft from_at to_at column-at flag_at s-at l.at l.row l.end c.move_cell.new.row = (
+    let l = c.loop-i in
     let m = c.move_cell in
-    settled-after (from_at r) (to_at r) (column-at t) flag_at (s-at r) l.at l.row l.end planned-row _ Moved.Careful declined
-    (subst (SettlesCell (from_at r) (to_at r) (column-at t) _ (s-at r) l.at planned-row l.end _) c.in_default.is m.ensures.settles_cell)) in
-    let l = unmoved.before.loop in
-    let r = rows_of unmoved.before.before in
-    unmoved-cell.puts.long ∙ l.inv.1.puts.long ∙ r.rows.inv.2
+    settled-after from_at to_at column-at flag_at s-at l.at l.row l.end planned-row _ Moved.Careful declined
+    (subst (SettlesCell from_at to_at column-at _ s-at l.at planned-row l.end _) c.in_default.is m.ensures.settles_cell)) in
+    let l = c.loop-i in
+    unmoved-cell.puts.long ∙ l.invariant.1.puts.long ∙ c.rows.invariant.2
 
 pub returns-in_default : goal.returns-in_default
 returns-in_default c =
@@ -370,33 +388,35 @@ returns-in_default c =
     let cols-at : Columns = c.args.cols in
     let s-at : List ℕ = c.args.s.now in
     let are : Within (listed cols-at) = c.requires.within.0 in
+    let flags-at : ℕ = c.in-Row.f in
+    let body_at : ℕ = c.in-Row.a in
+    let begun : read_row from_at (listed cols-at) (drop c.rows.place s-at) ≡ cells_end from_at (listed cols-at) (flags_in from_at cols-at.count flags-at) (drop body_at s-at) = (
+    let g = c.begin_quickly-b in
+    row-begun from_at (listed cols-at) cols-at.count (listed-length cols-at) s-at c.rows.place g.result g.ensures flags-at body_at c.in-Row.is) in
     let column-at : Column = get_or cols-at.list c.loop-i.i no_column in
     let next-column : drop c.loop-i.i (listed cols-at) ≡ column-at ∷ drop (suc c.loop-i.i) (listed cols-at) = listed_next cols-at c.loop-i.i c.loop-i-test.true in
     let step_is : get_or c.plan_of-plan.result.list c.loop-i.i no_step ≡ step_of column-at = (
     ap (λ (p : Plan). get_or p.list c.loop-i.i no_step) c.plan_of-plan.ensures ∙ plan-at (listed cols-at) c.loop-i.i column-at next-column) in
     let flag_at : Bool = c.flag_of-flagged.result in
-    let planned-row : List ℕ = c.move_planned-planned.last.1.1.1.1.1.1.0 in
+    let planned-row : List ℕ = c.move_planned-planned.new.row in
     let by-plan : let l = c.loop-i in MovesCell from_at to_at column-at flag_at s-at l.at l.row l.end planned-row c.move_planned-planned.result = (
     c.move_planned-planned.ensures column-at (listed-bounded cols-at c.loop-i.i are c.loop-i-test.true) step_is) in
     let declined : Puts c.loop-i.row c.loop-i.end [] planned-row c.loop-i.end = (
     let l = c.loop-i in
     subst (MovesCell from_at to_at column-at flag_at s-at l.at l.row l.end planned-row) c.in-Careful.is by-plan) in
-    let unmoved : Turning = turn-of (c) in
-    let unmoved-cell : let t = unmoved in let l = t.before.loop in let r = t in CellLeft (from_at r) (to_at r) (column-at t) (flag_at (c)) (s-at r) l.at l.row l.end c.move_cell.new.row = (let t = unmoved in
-    let l = t.before.loop in
-    let r = t in
+    let LeftAt : Type 0 = RowLeft from_at to_at (listed cols-at) s-at c.rows.place c.rows.out c.rows.bytes (length c.args.row.now) in
+    let unmoved-cell : let l = c.loop-i in CellLeft from_at to_at column-at flag_at s-at l.at l.row l.end c.move_cell.new.row = (
+    let l = c.loop-i in
     let m = c.move_cell in
-    settled-after (from_at r) (to_at r) (column-at t) flag_at (s-at r) l.at l.row l.end planned-row _ Moved.Careful declined
-    (subst (SettlesCell (from_at r) (to_at r) (column-at t) _ (s-at r) l.at planned-row l.end _) c.in_default.is m.ensures.settles_cell)) in
-    let uncelled : LeftAt (rows_of unmoved.before.before) = (let t = unmoved in
-    let l = t.before.loop in
-    let b = t.before.before in
-    let r = b in
+    settled-after from_at to_at column-at flag_at s-at l.at l.row l.end planned-row _ Moved.Careful declined
+    (subst (SettlesCell from_at to_at column-at _ s-at l.at planned-row l.end _) c.in_default.is m.ensures.settles_cell)) in
+    let uncelled : LeftAt = (
+    let l = c.loop-i in
     let f = c.flag_of-flagged in
-    cell-left (from_at r) (to_at r) (listed (cols-at r)) (s-at r) r.rows.place r.rows.out r.rows.bytes _ _ (body_at b) l.at l.i (begun b) l.inv.0
-    r.rows.row _ l.row l.end l.nulls l.inv.1 r.before.before.start-size.ensures.0 r.rows.inv.2 (column-at t) (next-column t) f.result f.ensures _ unmoved-cell) in
+    cell-left from_at to_at (listed cols-at) s-at c.rows.place c.rows.out c.rows.bytes _ _ body_at l.at l.i begun l.invariant.0
+    c.rows.row _ l.row l.end l.nulls l.invariant.1 c.start_size-first.ensures.0 c.rows.invariant.2 column-at next-column f.result f.ensures _ unmoved-cell) in
     record {
-      moves_rows = record { moved = (rows_of unmoved.before.before).rows.inv.0; stops = uncelled };
+      moves_rows = record { moved = c.rows.invariant.0; stops = uncelled };
       scratch_len_unchanged = shape_of-scratch-in_default c;
       row_len_unchanged = shape_of-row-in_default c;
     }
@@ -426,80 +446,89 @@ returns-in_default-end_row c =
 
 pub returns-in_default-frame_row : goal.returns-in_default-frame_row
 returns-in_default-frame_row c =
+    let from_at : Rows = c.args.from in
+    let to_at : Rows = c.args.to in
     let cols-at : Columns = c.args.cols in
-    let begun-of : Begun = c in
+    let s-at : List ℕ = c.args.s.now in
+    let flags-at : ℕ = c.in-Row.f in
+    let body_at : ℕ = c.in-Row.a in
+    let begun : read_row from_at (listed cols-at) (drop c.rows.place s-at) ≡ cells_end from_at (listed cols-at) (flags_in from_at cols-at.count flags-at) (drop body_at s-at) = (
+    let g = c.begin_quickly-b in
+    row-begun from_at (listed cols-at) cols-at.count (listed-length cols-at) s-at c.rows.place g.result g.ensures flags-at body_at c.in-Row.is) in
+    let starts : (nulls : ℕ) → length (start_bytes to_at cols-at.count nulls) ≡ c.start_size-first.result = λ nulls. c.start_size-first.ensures.1 nulls in
     let next-at : ℕ = c.in-Closed.next in
     let past : length (listed cols-at) ≤ c.loop-i.i = omega (arith, listed-length cols-at, c.loop-i-test.false) in
-    let whole : read_row (from_at (rows_of begun-of)) (listed (cols-at (rows_of begun-of))) (drop (rows_of begun-of).rows.place (s-at (rows_of begun-of))) ≡ good (c.loop-i.invariant.0.acc, drop next-at (s-at (rows_of begun-of))) = (
-    let b = begun-of in
-    let r = b in
+    let whole : read_row from_at (listed cols-at) (drop c.rows.place s-at) ≡ good (c.loop-i.invariant.0.acc, drop next-at s-at) = (
     let l = c.loop-i in
     let z = c.end_row in
-    let q = read-end (from_at r) (listed (cols-at r)) _ (s-at r) (body_at b) l.at l.i l.invariant.0 past in
-    begun b ∙ cells-closed (from_at r) (listed (cols-at r)) _ (s-at r) (body_at b) _ _ q z.result z.ensures next-at c.in-Closed.is) in
+    let q = read-end from_at (listed cols-at) _ s-at body_at l.at l.i l.invariant.0 past in
+    begun ∙ cells-closed from_at (listed cols-at) _ s-at body_at _ _ q z.result z.ensures next-at c.in-Closed.is) in
     let row-bytes : List ℕ = (let l = c.loop-i in
-    let r = rows_of begun-of in
-    start_bytes (to_at r) (cols-at r).count l.nulls ++ (l.invariant.1.w ++ write_end (to_at r))) in
-    let written_at : write_row (to_at (rows_of begun-of)) (listed (cols-at (rows_of begun-of))) c.loop-i.invariant.0.acc ≡ good row-bytes = (
+    start_bytes to_at cols-at.count l.nulls ++ (l.invariant.1.w ++ write_end to_at)) in
+    let written_at : write_row to_at (listed cols-at) c.loop-i.invariant.0.acc ≡ good row-bytes = (
     let l = c.loop-i in
-    let r = rows_of begun-of in
-    moved_row (to_at r) (listed (cols-at r)) l.invariant.0.acc _ _ _ _ l.nulls l.i (cols-at r).count l.invariant.1 past
-    (omega (arith, past, l.invariant.0.upto, listed-length (cols-at r)))) in
+    moved_row to_at (listed cols-at) l.invariant.0.acc _ _ _ _ l.nulls l.i cols-at.count l.invariant.1 past
+    (omega (arith, past, l.invariant.0.upto, listed-length cols-at))) in
+    let LeftAt : Type 0 = RowLeft from_at to_at (listed cols-at) s-at c.rows.place c.rows.out c.rows.bytes (length c.args.row.now) in
     let loop-scratch : length c.loop-i.scratch ≡ length c.args.scratch.now = c.loop-i.invariant.2 ∙ c.rows.invariant.1 in
     let loop-row : length c.loop-i.row ≡ length c.args.row.now = c.loop-i.invariant.1.puts.long ∙ c.rows.invariant.2 in
-    let too_long : LeftAt (rows_of begun-of) = (let r = rows_of begun-of in
+    let too_long : LeftAt = (
     let l = c.loop-i in
     let g = c.frame_row.ensures in
-    let k = subst (FramedAs (to_at r) (cols-at r).count l.nulls l.row l.end _) c.in_default-frame_row.is g.framed in
-    let start = start_bytes (to_at r) (cols-at r).count l.nulls in
+    let k = subst (FramedAs to_at cols-at.count l.nulls l.row l.end _) c.in_default-frame_row.is g.framed in
+    let start = start_bytes to_at cols-at.count l.nulls in
     let cells = l.invariant.1.w in
-    long-left (from_at r) (to_at r) (listed (cols-at r)) (s-at r) r.rows.place r.rows.out r.rows.bytes _ _ _ row-bytes whole written_at
-    (omega (arith, k, g.long, loop-row, l.invariant.1.puts.next-is, starts r l.nulls, length-append start (cells ++ write_end (to_at r)), length-append cells (write_end (to_at r))))) in
+    long-left from_at to_at (listed cols-at) s-at c.rows.place c.rows.out c.rows.bytes _ _ _ row-bytes whole written_at
+    (omega (arith, k, g.long, loop-row, l.invariant.1.puts.next-is, starts l.nulls, length-append start (cells ++ write_end to_at), length-append cells (write_end to_at)))) in
     let g = c.frame_row.ensures in
     record {
-      moves_rows = record { moved = (rows_of begun-of).rows.inv.0; stops = too_long };
+      moves_rows = record { moved = c.rows.invariant.0; stops = too_long };
       scratch_len_unchanged = loop-scratch;
       row_len_unchanged = g.long ∙ loop-row;
     }
 
 pub returns-then-out-bytes : goal.returns-then-out-bytes
 returns-then-out-bytes c =
+    let from_at : Rows = c.args.from in
+    let to_at : Rows = c.args.to in
     let cols-at : Columns = c.args.cols in
-    let begun-of : Begun = c in
+    let s-at : List ℕ = c.args.s.now in
+    let flags-at : ℕ = c.in-Row.f in
+    let body_at : ℕ = c.in-Row.a in
+    let begun : read_row from_at (listed cols-at) (drop c.rows.place s-at) ≡ cells_end from_at (listed cols-at) (flags_in from_at cols-at.count flags-at) (drop body_at s-at) = (
+    let g = c.begin_quickly-b in
+    row-begun from_at (listed cols-at) cols-at.count (listed-length cols-at) s-at c.rows.place g.result g.ensures flags-at body_at c.in-Row.is) in
+    let starts : (nulls : ℕ) → length (start_bytes to_at cols-at.count nulls) ≡ c.start_size-first.result = λ nulls. c.start_size-first.ensures.1 nulls in
+    let roomy : c.start_size-first.result ≤ length c.rows.row = omega (arith, c.start_size-first.ensures.0, c.rows.invariant.2, c.requires.within.2) in
     let next-at : ℕ = c.in-Closed.next in
     let past : length (listed cols-at) ≤ c.loop-i.i = omega (arith, listed-length cols-at, c.loop-i-test.false) in
-    let whole : read_row (from_at (rows_of begun-of)) (listed (cols-at (rows_of begun-of))) (drop (rows_of begun-of).rows.place (s-at (rows_of begun-of))) ≡ good (c.loop-i.invariant.0.acc, drop next-at (s-at (rows_of begun-of))) = (
-    let b = begun-of in
-    let r = b in
+    let whole : read_row from_at (listed cols-at) (drop c.rows.place s-at) ≡ good (c.loop-i.invariant.0.acc, drop next-at s-at) = (
     let l = c.loop-i in
     let z = c.end_row in
-    let q = read-end (from_at r) (listed (cols-at r)) _ (s-at r) (body_at b) l.at l.i l.invariant.0 past in
-    begun b ∙ cells-closed (from_at r) (listed (cols-at r)) _ (s-at r) (body_at b) _ _ q z.result z.ensures next-at c.in-Closed.is) in
+    let q = read-end from_at (listed cols-at) _ s-at body_at l.at l.i l.invariant.0 past in
+    begun ∙ cells-closed from_at (listed cols-at) _ s-at body_at _ _ q z.result z.ensures next-at c.in-Closed.is) in
     let size-at : ℕ = c.in-Row-frame_row.size in
-    let framed-row : List ℕ = c.frame_row.last.1.1.1.0 in
+    let framed-row : List ℕ = c.frame_row.new.row in
     let row-bytes : List ℕ = (let l = c.loop-i in
-    let r = rows_of begun-of in
-    start_bytes (to_at r) (cols-at r).count l.nulls ++ (l.invariant.1.w ++ write_end (to_at r))) in
-    let written_at : write_row (to_at (rows_of begun-of)) (listed (cols-at (rows_of begun-of))) c.loop-i.invariant.0.acc ≡ good row-bytes = (
+    start_bytes to_at cols-at.count l.nulls ++ (l.invariant.1.w ++ write_end to_at)) in
+    let written_at : write_row to_at (listed cols-at) c.loop-i.invariant.0.acc ≡ good row-bytes = (
     let l = c.loop-i in
-    let r = rows_of begun-of in
-    moved_row (to_at r) (listed (cols-at r)) l.invariant.0.acc _ _ _ _ l.nulls l.i (cols-at r).count l.invariant.1 past
-    (omega (arith, past, l.invariant.0.upto, listed-length (cols-at r)))) in
+    moved_row to_at (listed cols-at) l.invariant.0.acc _ _ _ _ l.nulls l.i cols-at.count l.invariant.1 past
+    (omega (arith, past, l.invariant.0.upto, listed-length cols-at))) in
     let stands : (size-at ≤ length framed-row) × (take size-at framed-row ≡ row-bytes) = (let l = c.loop-i in
-    let r = rows_of begun-of in
     let g = c.frame_row.ensures.framed in
-    let k = subst (FramedAs (to_at r) (cols-at r).count l.nulls l.row l.end framed-row) c.in-Row-frame_row.is g in
-    (k.0, k.1 l.invariant.1.w (take r.before.before.start-size.result r.rows.row) l.invariant.1.puts.front (length-take-le _ r.rows.row (roomy r) ∙ sym (starts r l.nulls)))) in
+    let k = subst (FramedAs to_at cols-at.count l.nulls l.row l.end framed-row) c.in-Row-frame_row.is g in
+    (k.0, k.1 l.invariant.1.w (take c.start_size-first.result c.rows.row) l.invariant.1.puts.front (length-take-le _ c.rows.row roomy ∙ sym (starts l.nulls)))) in
     let as_many : length row-bytes ≡ size-at = ap length (sym stands.1) ∙ length-take-le size-at framed-row stands.0 in
+    let LeftAt : Type 0 = RowLeft from_at to_at (listed cols-at) s-at c.rows.place c.rows.out c.rows.bytes (length c.args.row.now) in
     let loop-scratch : length c.loop-i.scratch ≡ length c.args.scratch.now = c.loop-i.invariant.2 ∙ c.rows.invariant.1 in
     let loop-row : length c.loop-i.row ≡ length c.args.row.now = c.loop-i.invariant.1.puts.long ∙ c.rows.invariant.2 in
-    let full : LeftAt (rows_of begun-of) = (
-    let r = rows_of begun-of in
-    full-left (from_at r) (to_at r) (listed (cols-at r)) (s-at r) r.rows.place r.rows.out r.rows.bytes _ _ _ row-bytes whole written_at
-    (omega (arith, c.if-out-bytes.true, as_many, r.rows.inv.0.room))) in
+    let full : LeftAt = (
+    full-left from_at to_at (listed cols-at) s-at c.rows.place c.rows.out c.rows.bytes _ _ _ row-bytes whole written_at
+    (omega (arith, c.if-out-bytes.true, as_many, c.rows.invariant.0.room))) in
     let g = c.frame_row.ensures in
     record {
-      moves_rows = record { moved = (rows_of begun-of).rows.inv.0; stops = full };
+      moves_rows = record { moved = c.rows.invariant.0; stops = full };
       scratch_len_unchanged = loop-scratch;
       row_len_unchanged = g.long ∙ loop-row;
     }
@@ -513,43 +542,48 @@ bounds-plan-i c =
     few-turns
 
 pub bounds-cols-i : goal.bounds-cols-i
-bounds-cols-i c = few-turns (c)
+bounds-cols-i c =
+    let cols-at : Columns = c.args.cols in
+    let are : Within (listed cols-at) = c.requires.within.0 in
+    let few : cols-at.count ≤ 64 = omega (arith, are.few, listed-length cols-at) in
+    let few-turns : c.loop-i.i < 64 = omega (arith, few, c.loop-i-test.true) in
+    few-turns
 
 pub shape_of-out-in-Refused : goal.shape_of-out-in-Refused
-shape_of-out-in-Refused c = wrote-long (returns-in-Refused c).0.moved.wrote
+shape_of-out-in-Refused c = wrote-long (returns-in-Refused c).moves_rows.moved.wrote
 
 pub shape_of-scratch-in-Refused : goal.shape_of-scratch-in-Refused
-shape_of-scratch-in-Refused c = (returns-in-Refused c).1.0
+shape_of-scratch-in-Refused c = (returns-in-Refused c).scratch_len_unchanged
 
 pub shape_of-row-in-Refused : goal.shape_of-row-in-Refused
-shape_of-row-in-Refused c = (returns-in-Refused c).1.1
+shape_of-row-in-Refused c = (returns-in-Refused c).row_len_unchanged
 
 pub shape_of-out-in_default : goal.shape_of-out-in_default
-shape_of-out-in_default c = wrote-long (returns-in_default c).0.moved.wrote
+shape_of-out-in_default c = wrote-long (returns-in_default c).moves_rows.moved.wrote
 
 pub shape_of-out-in_default-end_row : goal.shape_of-out-in_default-end_row
-shape_of-out-in_default-end_row c = wrote-long (returns-in_default-end_row c).0.moved.wrote
+shape_of-out-in_default-end_row c = wrote-long (returns-in_default-end_row c).moves_rows.moved.wrote
 
 pub shape_of-scratch-in_default-end_row : goal.shape_of-scratch-in_default-end_row
-shape_of-scratch-in_default-end_row c = (returns-in_default-end_row c).1.0
+shape_of-scratch-in_default-end_row c = (returns-in_default-end_row c).scratch_len_unchanged
 
 pub shape_of-row-in_default-end_row : goal.shape_of-row-in_default-end_row
-shape_of-row-in_default-end_row c = (returns-in_default-end_row c).1.1
+shape_of-row-in_default-end_row c = (returns-in_default-end_row c).row_len_unchanged
 
 pub shape_of-out-in_default-frame_row : goal.shape_of-out-in_default-frame_row
-shape_of-out-in_default-frame_row c = wrote-long (returns-in_default-frame_row c).0.moved.wrote
+shape_of-out-in_default-frame_row c = wrote-long (returns-in_default-frame_row c).moves_rows.moved.wrote
 
 pub shape_of-scratch-in_default-frame_row : goal.shape_of-scratch-in_default-frame_row
-shape_of-scratch-in_default-frame_row c = (returns-in_default-frame_row c).1.0
+shape_of-scratch-in_default-frame_row c = (returns-in_default-frame_row c).scratch_len_unchanged
 
 pub shape_of-row-in_default-frame_row : goal.shape_of-row-in_default-frame_row
-shape_of-row-in_default-frame_row c = (returns-in_default-frame_row c).1.1
+shape_of-row-in_default-frame_row c = (returns-in_default-frame_row c).row_len_unchanged
 
 pub shape_of-out-then-out-bytes : goal.shape_of-out-then-out-bytes
-shape_of-out-then-out-bytes c = wrote-long (returns-then-out-bytes c).0.moved.wrote
+shape_of-out-then-out-bytes c = wrote-long (returns-then-out-bytes c).moves_rows.moved.wrote
 
 pub shape_of-scratch-then-out-bytes : goal.shape_of-scratch-then-out-bytes
-shape_of-scratch-then-out-bytes c = (returns-then-out-bytes c).1.0
+shape_of-scratch-then-out-bytes c = (returns-then-out-bytes c).scratch_len_unchanged
 
 pub shape_of-row-then-out-bytes : goal.shape_of-row-then-out-bytes
-shape_of-row-then-out-bytes c = (returns-then-out-bytes c).1.1
+shape_of-row-then-out-bytes c = (returns-then-out-bytes c).row_len_unchanged
