@@ -247,7 +247,7 @@ after-requires c =
     let w = closed-within from_at s-at c.loop-i.at z.result z.ensures next-at c.in-Closed.is in
     (row-onward from_at (listed cols-at) s-at c.rows.cursor.at next-at _ are whole w.1, w.1)) in
     let o = onward in
-    omega (arith, o.0, o.1, c.good)
+    omega (arith, o.0, o.1)
 
 pub after-requires-in-rows : goal.after-requires-in-rows
 after-requires-in-rows c =
@@ -280,8 +280,8 @@ after-requires-in-rows c =
     let w = closed-within from_at s-at c.loop-i.at z.result z.ensures next-at c.in-Closed.is in
     (row-onward from_at (listed cols-at) s-at c.rows.cursor.at next-at _ are whole w.1, w.1)) in
     let o = onward in (
-      omega (arith, c.if-room-size.false, c.rows.invariant.0.room, done_at.long, c.good),
-      omega (arith, c.rows.invariant.0.fewer, o.0, o.1, c.good),
+      omega (arith, c.if-room-size.false, c.rows.invariant.0.room, done_at.long),
+      omega (arith, c.rows.invariant.0.fewer, o.0, o.1),
     )
 
 pub moved-more-requires : goal.moved-more-requires

@@ -45,7 +45,7 @@ decreases-loop-i l = l.count - l.i
 abbrev pub invariant-rows : goal.invariant-rows
 invariant-rows l =
     RowsFurther l.from l.to (listed l.cols) l.s l.initial.out l.initial.cursor.at l.initial.p.rows l.initial.p.bytes l.out l.cursor.at l.p.rows l.p.bytes
-    × (l.stop ≡ record { number = 0; l.row = 0; column = 0; place = length l.s })
+    × (l.stop ≡ record { number = 0; row = 0; column = 0; place = length l.s })
     × (length l.scratch ≡ length l.initial.scratch)
     × (length l.row ≡ length l.initial.row)
 
