@@ -17,8 +17,7 @@ pub returns-in-Refused : goal.returns-in-Refused
 unfolding answer_of buffer_of written at
 returns-in-Refused c =
     let f = c.in-Refused.ensures (length c.args.out.now) in
-    let whole = rw f (c.asked_for.ensures, refl) in
-    record { value = whole.0; out_after = whole.1 }
+    record { value = rw f c.asked_for.ensures; out_after = rw f }
 
 pub returns-in-Row : goal.returns-in-Row
 returns-in-Row c =
