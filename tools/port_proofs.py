@@ -194,6 +194,17 @@ def walk(f, root_names, text):
                 break
         else:
             break
+    # so does a name for what an arm of a match tells
+    told = {old for old, _, _ in f.arms}
+    while True:
+        for m in re.finditer(r"\blet (" + IDENT + r") = (" + IDENT + r")((?:\.before)*)\.([\w'-]+)\s+in\b[ ]?", text):
+            if m.group(2) in roots and norm(m.group(4)) in told and m.group(1) not in roots:
+                rest = text[m.end() :]
+                name, full = m.group(1), m.group(2) + m.group(3) + "." + m.group(4)
+                text = text[: m.start()] + re.sub(r"(?<![\w'.-])" + re.escape(name) + r"(?=\.)", full, rest)
+                break
+        else:
+            break
     text = re.sub(r"\n[ ]*(?=\n)", "", text)
     ensures = {}
     requires = {}
@@ -209,6 +220,8 @@ def walk(f, root_names, text):
             if k == len(parts):
                 return top
             head, tail = parts[k], parts[k + 1 :]
+            head = "requires" if head == "pre" else head
+            parts[k] = head
             if head == "requires" and f.pre and tail:
                 new = pick(f.pre, "".join("." + p for p in tail))
                 return f"{top}.requires{new}" if new else ".".join([top] + parts[k:])
@@ -227,6 +240,8 @@ def walk(f, root_names, text):
                 new = pick(f.clauses[step], "".join("." + p for p in tail[1:]))
                 if new:
                     tail = ["ensures"] + new.split(".")[1:]
+            if tail and tail[0] in ("taken", "left") and re.search(r"^if-|-test$", step):
+                tail[0] = "true" if tail[0] == "taken" else "false"
             return top + "." + ".".join([step] + tail)
         if root in ensures:
             new = pick(ensures[root], rest)
@@ -464,7 +479,7 @@ def turn(crate, file, names):
             body = re.sub(r"(?m)^" + re.escape(name) + r"(?= )", new, body)
             fields = f.fields_of(need)
             if fields:
-                b = re.match(re.escape(new) + r"( \S+)* =(.*)", body, re.S)
+                b = re.match(re.escape(new) + r"( [^\s=]+)* =(.*)", body, re.S)
                 if b and "\n" + new + " " not in body:
                     at = b.start(2)
                     body = body[:at] + as_record(fields, body[at:])

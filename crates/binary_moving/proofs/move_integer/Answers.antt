@@ -32,4 +32,4 @@ returns-then-is_declared c =
     (sym (ap (is_declared c.args.column.null) fits) ∙ sym c.is_declared.ensures ∙ c.if-is_declared.true) p.ensures
 
 pub returns : goal.returns
-returns c = λ from one q. puts_none c.args.row.now c.args.o (omega (arith, c.pre.2))
+returns c = λ from one q. puts_none c.args.row.now c.args.o (omega (arith, c.requires.2))

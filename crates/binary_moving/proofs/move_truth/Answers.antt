@@ -30,4 +30,4 @@ returns-then-same_integer c =
     (sym (ap (λ (z : ℤ). same_integer z (pos 2)) fits) ∙ sym c.same_integer.ensures ∙ c.if-same_integer.true) p.ensures
 
 pub returns : goal.returns
-returns c = λ from one q. puts_none c.args.row.now c.args.o (omega (arith, c.pre.2))
+returns c = λ from one q. puts_none c.args.row.now c.args.o (omega (arith, c.requires.2))

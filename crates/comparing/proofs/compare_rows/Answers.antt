@@ -38,7 +38,7 @@ returns-then-q-ne0 c =
 
 pub fill-requires : goal.fill-requires
 fill-requires c =
-    (c.pre.0, c.pre.1, (c).count-differing.ensures.0.within, search rules, search rules)
+    (c.requires.0, c.requires.1, (c).count-differing.ensures.0.within, search rules, search rules)
 
 pub returns : goal.returns
 returns c =

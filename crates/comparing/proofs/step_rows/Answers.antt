@@ -47,9 +47,9 @@ loop-cols-preserved c =
     let p = c.compare_here-p in
     let inv = c.loop-cols.invariant in
     let n = c.note_row-differing in
-    let more = sym c.steps_on.ensures ∙ c.loop-cols-test.taken in
+    let more = sym c.steps_on.ensures ∙ c.loop-cols-test.true in
     let h = subst (PairsRow _ _ _ _ _ _ _) c.in-Read.is p.ensures.pairs_row in (
-      step-more c.args.from c.args.kind (listed c.args.cols) c.args.first.now c.args.second.now c.args.start c.args.places.now c.pre.0 _ _ _ _ inv.0 _ more
+      step-more c.args.from c.args.kind (listed c.args.cols) c.args.first.now c.args.second.now c.args.start c.args.places.now c.requires.0 _ _ _ _ inv.0 _ more
           c.args.cols.count (listed-length c.args.cols) _ _ _ h _ _ n.ensures _ c.last_same-same.ensures,
       n.ensures.long ∙ inv.1,
       p.ensures.a_len_unchanged ∙ inv.2,

@@ -13,37 +13,41 @@ pub returns-then-n-eq0 : goal.returns-then-n-eq0
 returns-then-n-eq0 c = none-moved _ _ _ _ _ _ c.if-n-eq0.true c.requires.2
 
 pub show_truths-requires : goal.show_truths-requires
+unfolding content_bytes
 show_truths-requires c =
     let truths-kind : shape c.args.kind ≡ Truths = shape_of c.elements_of.ensures c.in-Truths.is in
     (
       omega (arith, c.if-n-eq0.false),
       c.requires.0,
-      unfold content_bytes in omega (arith, bytes-as Truths (shape c.args.kind) c.args.n truths-kind, c.requires.1),
+      omega (arith, bytes-as Truths (shape c.args.kind) c.args.n truths-kind, c.requires.1),
       c.requires.2,
     )
 
 pub show_bits-requires : goal.show_bits-requires
+unfolding content_bytes
 show_bits-requires c =
     let bits-kind : shape c.args.kind ≡ Bits = shape_of c.elements_of.ensures c.in-Bits.is in
     (
       omega (arith, c.if-n-eq0.false),
       c.requires.0,
-      unfold content_bytes in omega (arith, bytes-as Bits (shape c.args.kind) c.args.n bits-kind, c.requires.1),
+      omega (arith, bytes-as Bits (shape c.args.kind) c.args.n bits-kind, c.requires.1),
       c.requires.2,
     )
 
 pub show_text-requires : goal.show_text-requires
+unfolding content_bytes
 show_text-requires c =
     let text-kind : shape c.args.kind ≡ Text = shape_of c.elements_of.ensures c.in-Text.is in
-    (unfold content_bytes in omega (arith, bytes-as Text (shape c.args.kind) c.args.n text-kind, c.requires.1), c.requires.2)
+    (omega (arith, bytes-as Text (shape c.args.kind) c.args.n text-kind, c.requires.1), c.requires.2)
 
 pub show_whole-requires : goal.show_whole-requires
+unfolding content_bytes
 show_whole-requires c =
     let whole-kind : shape c.args.kind ≡ Whole (is_signed c.in-Whole.integer) (width_of c.in-Whole.integer) = shape_of c.elements_of.ensures c.in-Whole.is in
     (
       omega (arith, c.if-n-eq0.false),
       c.requires.0,
-      unfold content_bytes in omega (arith, bytes-as _ (shape c.args.kind) c.args.n whole-kind, c.requires.1),
+      omega (arith, bytes-as _ (shape c.args.kind) c.args.n whole-kind, c.requires.1),
       c.requires.2,
     )
 

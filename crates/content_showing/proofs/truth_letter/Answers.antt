@@ -13,4 +13,4 @@ overflow_add-result-2 c =
     record { fits = omega (arith, bit_le (eqb b 84 || eqb b 116 || eqb b 49), bit_le (eqb b 70 || eqb b 102 || eqb b 48), bit_le (eqb b 0 || eqb b 32 || eqb b 63)) }
 
 pub overflow_add-result : goal.overflow_add-result
-overflow_add-result c = record { fits = omega (arith, (overflow_add-result-2 c).ranges) }
+overflow_add-result c = record { fits = omega (arith, (overflow_add-result-2 c).fits) }

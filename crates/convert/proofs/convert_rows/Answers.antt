@@ -56,7 +56,7 @@ at_end-requires c = c.rows.invariant.0.inside
 pub begin_row-b-requires : goal.begin_row-b-requires
 begin_row-b-requires c =
     let cols-at : Columns = c.args.cols in
-    let are : Within (listed cols-at) = c.pre.0 in
+    let are : Within (listed cols-at) = c.requires.0 in
     let few : cols-at.count ≤ 64 = omega (arith, are.few, listed-length cols-at) in
     (c.rows.inv.0.inside, omega (arith, are.some, listed-length cols-at), few)
 
@@ -115,7 +115,7 @@ loop-i-preserved c =
     let rows_of : AtRows = c in
     let body_at : ℕ = c.in-Row.a in
     let column-at : Column = get_or (cols-at rows_of).list c.loop-i.i no_column in
-    let next-column : drop c.loop-i.i (listed (cols-at rows_of)) ≡ column-at ∷ drop (suc c.loop-i.i) (listed (cols-at rows_of)) = listed_next (cols-at rows_of) c.loop-i.i c.loop-i-test.taken in
+    let next-column : drop c.loop-i.i (listed (cols-at rows_of)) ≡ column-at ∷ drop (suc c.loop-i.i) (listed (cols-at rows_of)) = listed_next (cols-at rows_of) c.loop-i.i c.loop-i-test.true in
     let l = c.loop-i in
     let r = rows_of in
     let f = c.flag_of-flagged in
@@ -155,7 +155,7 @@ put_row-requires c =
     omega (
       arith,
       row-length (from_at r) (to_at r) (cols-at r) (flags-at b) (s-at r) (body_at b) l.at l.i l.inv.0 l.scratch l.m l.inv.1 (listed-length (cols-at r))
-          c.loop-i-test.left c.if-m-ne-NONE.left,
+          c.loop-i-test.false c.if-m-ne-NONE.false,
       r.before.before.before.before.before.before.before.before.before.before.before.before.frame-size.ensures.1 l.m.nulls,
     )) in
     let row-held : Holding → List ℕ = λ h. (let b = begun-of in
@@ -173,7 +173,7 @@ put_row-requires c =
         omega (arith, scratch-long b _ l.inv.3),
         subst (HeldReady (listed (cols-at r)) l.scratch) h
             (held-ready (from_at r) (to_at r) (cols-at r) (flags-at b) (s-at r) (body_at b) l.at l.i l.inv.0 l.scratch l.m l.inv.1 (listed-length (cols-at r))
-            c.loop-i-test.left),
+            c.loop-i-test.false),
       );
       holding_in_bounds = subst (λ (y : Holding). r.rows.p.bytes + length (row-held y) ≤ length r.rows.out) h (omega (arith, size-at, c.if-room-size.false, r.rows.inv.0.room));
     }
@@ -194,7 +194,7 @@ after-requires-in-rows c =
     let rows_of : AtRows = c in
     let flags-at : ℕ = c.in-Row.f in
     let body_at : ℕ = c.in-Row.a in
-    let past : length (listed (cols-at rows_of)) ≤ c.loop-i.i = omega (arith, listed-length (cols-at rows_of), c.loop-i-test.left) in
+    let past : length (listed (cols-at rows_of)) ≤ c.loop-i.i = omega (arith, listed-length (cols-at rows_of), c.loop-i-test.false) in
     let all_read : read_cells (from_at rows_of) (listed (cols-at rows_of)) (flags_in (from_at rows_of) (cols-at rows_of).count flags-at) 0 (drop body_at (s-at rows_of)) ≡ good (c.loop-i.inv.0.acc, drop c.loop-i.at (s-at rows_of)) = (let r = rows_of in
     read-end (from_at r) (listed (cols-at r)) _ (s-at r) body_at c.loop-i.at c.loop-i.i c.loop-i.inv.0 past) in
     let next-at : ℕ = c.in-Closed.a in
@@ -218,7 +218,7 @@ moved-more-requires c =
     let rows_of : AtRows = c in
     let flags-at : ℕ = c.in-Row.f in
     let body_at : ℕ = c.in-Row.a in
-    let past : length (listed (cols-at rows_of)) ≤ c.loop-i.i = omega (arith, listed-length (cols-at rows_of), c.loop-i-test.left) in
+    let past : length (listed (cols-at rows_of)) ≤ c.loop-i.i = omega (arith, listed-length (cols-at rows_of), c.loop-i-test.false) in
     let all_read : read_cells (from_at rows_of) (listed (cols-at rows_of)) (flags_in (from_at rows_of) (cols-at rows_of).count flags-at) 0 (drop body_at (s-at rows_of)) ≡ good (c.loop-i.inv.0.acc, drop c.loop-i.at (s-at rows_of)) = (let r = rows_of in
     read-end (from_at r) (listed (cols-at r)) _ (s-at r) body_at c.loop-i.at c.loop-i.i c.loop-i.inv.0 past) in
     let next-at : ℕ = c.in-Closed.a in
@@ -239,14 +239,14 @@ moved-more-requires c =
     let r = rows_of b in
     let l = c.loop-i in
     row_wrote (from_at r) (to_at r) (cols-at r) (flags-at b) (s-at r) (body_at b) l.at l.i l.inv.0 l.scratch l.m l.inv.1 (listed-length (cols-at r))
-    c.loop-i-test.left c.if-m-ne-NONE.left) in
+    c.loop-i-test.false c.if-m-ne-NONE.false) in
     let size-at : length row_at ≡ (rows_of begun-of).before.before.before.before.before.before.before.before.before.before.before.before.frame-size.result + (c).before.loop.m.size = (let b = begun-of in
     let r = rows_of b in
     let l = c.loop-i in
     omega (
       arith,
       row-length (from_at r) (to_at r) (cols-at r) (flags-at b) (s-at r) (body_at b) l.at l.i l.inv.0 l.scratch l.m l.inv.1 (listed-length (cols-at r))
-          c.loop-i-test.left c.if-m-ne-NONE.left,
+          c.loop-i-test.false c.if-m-ne-NONE.false,
       r.before.before.before.before.before.before.before.before.before.before.before.before.frame-size.ensures.1 l.m.nulls,
     )) in
     let row-held : Holding → List ℕ = λ h. (let b = begun-of in
@@ -281,7 +281,7 @@ rows-smaller c =
     let rows_of : AtRows = c in
     let flags-at : ℕ = c.in-Row.f in
     let body_at : ℕ = c.in-Row.a in
-    let past : length (listed (cols-at rows_of)) ≤ c.loop-i.i = omega (arith, listed-length (cols-at rows_of), c.loop-i-test.left) in
+    let past : length (listed (cols-at rows_of)) ≤ c.loop-i.i = omega (arith, listed-length (cols-at rows_of), c.loop-i-test.false) in
     let all_read : read_cells (from_at rows_of) (listed (cols-at rows_of)) (flags_in (from_at rows_of) (cols-at rows_of).count flags-at) 0 (drop body_at (s-at rows_of)) ≡ good (c.loop-i.inv.0.acc, drop c.loop-i.at (s-at rows_of)) = (let r = rows_of in
     read-end (from_at r) (listed (cols-at r)) _ (s-at r) body_at c.loop-i.at c.loop-i.i c.loop-i.inv.0 past) in
     let next-at : ℕ = c.in-Closed.a in
@@ -302,14 +302,14 @@ rows-smaller c =
     let r = rows_of b in
     let l = c.loop-i in
     row_wrote (from_at r) (to_at r) (cols-at r) (flags-at b) (s-at r) (body_at b) l.at l.i l.inv.0 l.scratch l.m l.inv.1 (listed-length (cols-at r))
-    c.loop-i-test.left c.if-m-ne-NONE.left) in
+    c.loop-i-test.false c.if-m-ne-NONE.false) in
     let size-at : length row_at ≡ (rows_of begun-of).before.before.before.before.before.before.before.before.before.before.before.before.frame-size.result + (c).before.loop.m.size = (let b = begun-of in
     let r = rows_of b in
     let l = c.loop-i in
     omega (
       arith,
       row-length (from_at r) (to_at r) (cols-at r) (flags-at b) (s-at r) (body_at b) l.at l.i l.inv.0 l.scratch l.m l.inv.1 (listed-length (cols-at r))
-          c.loop-i-test.left c.if-m-ne-NONE.left,
+          c.loop-i-test.false c.if-m-ne-NONE.false,
       r.before.before.before.before.before.before.before.before.before.before.before.before.frame-size.ensures.1 l.m.nulls,
     )) in
     let row-held : Holding → List ℕ = λ h. (let b = begun-of in
@@ -344,7 +344,7 @@ rows-preserved c =
     let rows_of : AtRows = c in
     let flags-at : ℕ = c.in-Row.f in
     let body_at : ℕ = c.in-Row.a in
-    let past : length (listed (cols-at rows_of)) ≤ c.loop-i.i = omega (arith, listed-length (cols-at rows_of), c.loop-i-test.left) in
+    let past : length (listed (cols-at rows_of)) ≤ c.loop-i.i = omega (arith, listed-length (cols-at rows_of), c.loop-i-test.false) in
     let all_read : read_cells (from_at rows_of) (listed (cols-at rows_of)) (flags_in (from_at rows_of) (cols-at rows_of).count flags-at) 0 (drop body_at (s-at rows_of)) ≡ good (c.loop-i.inv.0.acc, drop c.loop-i.at (s-at rows_of)) = (let r = rows_of in
     read-end (from_at r) (listed (cols-at r)) _ (s-at r) body_at c.loop-i.at c.loop-i.i c.loop-i.inv.0 past) in
     let next-at : ℕ = c.in-Closed.a in
@@ -365,14 +365,14 @@ rows-preserved c =
     let r = rows_of b in
     let l = c.loop-i in
     row_wrote (from_at r) (to_at r) (cols-at r) (flags-at b) (s-at r) (body_at b) l.at l.i l.inv.0 l.scratch l.m l.inv.1 (listed-length (cols-at r))
-    c.loop-i-test.left c.if-m-ne-NONE.left) in
+    c.loop-i-test.false c.if-m-ne-NONE.false) in
     let size-at : length row_at ≡ (rows_of begun-of).before.before.before.before.before.before.before.before.before.before.before.before.frame-size.result + (c).before.loop.m.size = (let b = begun-of in
     let r = rows_of b in
     let l = c.loop-i in
     omega (
       arith,
       row-length (from_at r) (to_at r) (cols-at r) (flags-at b) (s-at r) (body_at b) l.at l.i l.inv.0 l.scratch l.m l.inv.1 (listed-length (cols-at r))
-          c.loop-i-test.left c.if-m-ne-NONE.left,
+          c.loop-i-test.false c.if-m-ne-NONE.false,
       r.before.before.before.before.before.before.before.before.before.before.before.before.frame-size.ensures.1 l.m.nulls,
     )) in
     let row-held : Holding → List ℕ = λ h. (let b = begun-of in
@@ -423,7 +423,7 @@ returns-after-rows c =
     let cols-at : Columns = c.args.cols in
     let s-at : List ℕ = c.args.s.now in
     let out_at : List ℕ = c.args.out.now in
-    let are : Within (listed cols-at) = c.pre.0 in
+    let are : Within (listed cols-at) = c.requires.0 in
     let done_at : RowsDone from_at to_at (listed cols-at) s-at out_at c.rows.out c.rows.cursor.at c.rows.p.rows c.rows.p.bytes = (let m = c.moved-first in
     let n = c.start in
     let z = c.start-2 in
@@ -440,7 +440,7 @@ returns-in-Refused c =
     let cols-at : Columns = c.args.cols in
     let s-at : List ℕ = c.args.s.now in
     let out_at : List ℕ = c.args.out.now in
-    let are : Within (listed cols-at) = c.pre.0 in
+    let are : Within (listed cols-at) = c.requires.0 in
     let done_at : RowsDone from_at to_at (listed cols-at) s-at out_at c.rows.out c.rows.cursor.at c.rows.p.rows c.rows.p.bytes = (let m = c.moved-first in
     let n = c.start in
     let z = c.start-2 in
@@ -461,7 +461,7 @@ returns-in-Refused-t c =
     let cols-at : Columns = c.args.cols in
     let s-at : List ℕ = c.args.s.now in
     let out_at : List ℕ = c.args.out.now in
-    let are : Within (listed cols-at) = c.pre.0 in
+    let are : Within (listed cols-at) = c.requires.0 in
     let done_at : RowsDone from_at to_at (listed cols-at) s-at out_at c.rows.out c.rows.cursor.at c.rows.p.rows c.rows.p.bytes = (let m = c.moved-first in
     let n = c.start in
     let z = c.start-2 in
@@ -476,7 +476,7 @@ returns-in-Refused-t c =
     row-begun (from_at r) (listed (cols-at r)) (cols-at r).count (listed-length (cols-at r)) (s-at r) r.rows.cursor.at g.result g.ensures flags-at body_at
     c.in-Row.is) in
     let column-at : Column = get_or (cols-at rows_of).list c.loop-i.i no_column in
-    let next-column : drop c.loop-i.i (listed (cols-at rows_of)) ≡ column-at ∷ drop (suc c.loop-i.i) (listed (cols-at rows_of)) = listed_next (cols-at rows_of) c.loop-i.i c.loop-i-test.taken in
+    let next-column : drop c.loop-i.i (listed (cols-at rows_of)) ≡ column-at ∷ drop (suc c.loop-i.i) (listed (cols-at rows_of)) = listed_next (cols-at rows_of) c.loop-i.i c.loop-i-test.true in
     let stopped : (n k : ℕ) → read_row from_at (listed cols-at) (drop c.rows.cursor.at s-at) ≡ bad (at k n) → Finished from_at to_at (listed cols-at) s-at out_at c.rows.out (record { number = n; row = c.rows.p.rows; column = k; rows = c.rows.p.rows; bytes = c.rows.p.bytes }) c.rows.cursor.at = λ n k e. (
     read-refusal from_at to_at (listed cols-at) are s-at out_at c.rows.out c.rows.cursor.at c.rows.p.rows c.rows.p.bytes done_at left (at k n) e) in
     let l = c.loop-i in
@@ -494,7 +494,7 @@ returns-in-Refused-e c =
     let cols-at : Columns = c.args.cols in
     let s-at : List ℕ = c.args.s.now in
     let out_at : List ℕ = c.args.out.now in
-    let are : Within (listed cols-at) = c.pre.0 in
+    let are : Within (listed cols-at) = c.requires.0 in
     let done_at : RowsDone from_at to_at (listed cols-at) s-at out_at c.rows.out c.rows.cursor.at c.rows.p.rows c.rows.p.bytes = (let m = c.moved-first in
     let n = c.start in
     let z = c.start-2 in
@@ -510,7 +510,7 @@ returns-in-Refused-e c =
     c.in-Row.is) in
     let stopped : (n k : ℕ) → read_row from_at (listed cols-at) (drop c.rows.cursor.at s-at) ≡ bad (at k n) → Finished from_at to_at (listed cols-at) s-at out_at c.rows.out (record { number = n; row = c.rows.p.rows; column = k; rows = c.rows.p.rows; bytes = c.rows.p.bytes }) c.rows.cursor.at = λ n k e. (
     read-refusal from_at to_at (listed cols-at) are s-at out_at c.rows.out c.rows.cursor.at c.rows.p.rows c.rows.p.bytes done_at left (at k n) e) in
-    let past : length (listed (cols-at rows_of)) ≤ c.loop-i.i = omega (arith, listed-length (cols-at rows_of), c.loop-i-test.left) in
+    let past : length (listed (cols-at rows_of)) ≤ c.loop-i.i = omega (arith, listed-length (cols-at rows_of), c.loop-i-test.false) in
     let all_read : read_cells (from_at rows_of) (listed (cols-at rows_of)) (flags_in (from_at rows_of) (cols-at rows_of).count flags-at) 0 (drop body_at (s-at rows_of)) ≡ good (c.loop-i.inv.0.acc, drop c.loop-i.at (s-at rows_of)) = (let r = rows_of in
     read-end (from_at r) (listed (cols-at r)) _ (s-at r) body_at c.loop-i.at c.loop-i.i c.loop-i.inv.0 past) in
     let r = rows_of in
@@ -524,7 +524,7 @@ returns-then-m-ne-NONE c =
     let rows_of : AtRows = c in
     let flags-at : ℕ = c.in-Row.f in
     let body_at : ℕ = c.in-Row.a in
-    let past : length (listed (cols-at rows_of)) ≤ c.loop-i.i = omega (arith, listed-length (cols-at rows_of), c.loop-i-test.left) in
+    let past : length (listed (cols-at rows_of)) ≤ c.loop-i.i = omega (arith, listed-length (cols-at rows_of), c.loop-i-test.false) in
     let all_read : read_cells (from_at rows_of) (listed (cols-at rows_of)) (flags_in (from_at rows_of) (cols-at rows_of).count flags-at) 0 (drop body_at (s-at rows_of)) ≡ good (c.loop-i.inv.0.acc, drop c.loop-i.at (s-at rows_of)) = (let r = rows_of in
     read-end (from_at r) (listed (cols-at r)) _ (s-at r) body_at c.loop-i.at c.loop-i.i c.loop-i.inv.0 past) in
     let next-at : ℕ = c.in-Closed.a in
@@ -537,7 +537,7 @@ returns-then-m-ne-NONE c =
     let r = rows_of b in
     let l = c.loop-i in
     let q = row-cannot (from_at r) (to_at r) (cols-at r) (flags-at b) (s-at r) (body_at b) l.at l.i l.inv.0 l.scratch l.m l.inv.1 (listed-length (cols-at r))
-    c.loop-i-test.left c.if-m-ne-NONE.true in
+    c.loop-i-test.false c.if-m-ne-NONE.true in
     let d = write-refusal (from_at r) (to_at r) (listed (cols-at r)) (are r) (s-at r) (out_at r) r.rows.out r.rows.cursor.at r.rows.p.rows r.rows.p.bytes (done_at r)
     (left b)
     l.inv.0.acc _ whole _ q in record { answer_value = d.answers; place_value = d.stands; out_after = d.leaves }
@@ -547,7 +547,7 @@ returns-then-room-size c =
     let rows_of : AtRows = c in
     let flags-at : ℕ = c.in-Row.f in
     let body_at : ℕ = c.in-Row.a in
-    let past : length (listed (cols-at rows_of)) ≤ c.loop-i.i = omega (arith, listed-length (cols-at rows_of), c.loop-i-test.left) in
+    let past : length (listed (cols-at rows_of)) ≤ c.loop-i.i = omega (arith, listed-length (cols-at rows_of), c.loop-i-test.false) in
     let all_read : read_cells (from_at rows_of) (listed (cols-at rows_of)) (flags_in (from_at rows_of) (cols-at rows_of).count flags-at) 0 (drop body_at (s-at rows_of)) ≡ good (c.loop-i.inv.0.acc, drop c.loop-i.at (s-at rows_of)) = (let r = rows_of in
     read-end (from_at r) (listed (cols-at r)) _ (s-at r) body_at c.loop-i.at c.loop-i.i c.loop-i.inv.0 past) in
     let next-at : ℕ = c.in-Closed.a in
@@ -564,14 +564,14 @@ returns-then-room-size c =
     let r = rows_of b in
     let l = c.loop-i in
     row_wrote (from_at r) (to_at r) (cols-at r) (flags-at b) (s-at r) (body_at b) l.at l.i l.inv.0 l.scratch l.m l.inv.1 (listed-length (cols-at r))
-    c.loop-i-test.left c.if-m-ne-NONE.left) in
+    c.loop-i-test.false c.if-m-ne-NONE.false) in
     let size-at : length row_at ≡ (rows_of begun-of).before.before.before.before.before.before.before.before.before.before.before.before.frame-size.result + (c).before.loop.m.size = (let b = begun-of in
     let r = rows_of b in
     let l = c.loop-i in
     omega (
       arith,
       row-length (from_at r) (to_at r) (cols-at r) (flags-at b) (s-at r) (body_at b) l.at l.i l.inv.0 l.scratch l.m l.inv.1 (listed-length (cols-at r))
-          c.loop-i-test.left c.if-m-ne-NONE.left,
+          c.loop-i-test.false c.if-m-ne-NONE.false,
       r.before.before.before.before.before.before.before.before.before.before.before.before.frame-size.ensures.1 l.m.nulls,
     )) in
     let b = begun-of in

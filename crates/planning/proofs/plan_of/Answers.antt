@@ -18,7 +18,7 @@ loop-i-init c = (ap (replicate 64) c.no_step-none.ensures, omega arith)
 pub offset_bounds-cols-i : goal.offset_bounds-cols-i
 offset_bounds-cols-i c =
     let columns : Columns = c.args.cols in
-    let few : c.loop-i.i < 64 = omega (arith, c.loop-i-test.taken, c.pre.few, listed-length columns) in
+    let few : c.loop-i.i < 64 = omega (arith, c.loop-i-test.true, c.requires.few, listed-length columns) in
     record { fits = omega (arith, few) }
 
 pub step_of-requires : goal.step_of-requires
@@ -29,13 +29,13 @@ step_of-requires c =
 pub offset_bounds-list-i : goal.offset_bounds-list-i
 offset_bounds-list-i c =
     let columns : Columns = c.args.cols in
-    let few : c.loop-i.i < 64 = omega (arith, c.loop-i-test.taken, c.pre.few, listed-length columns) in
+    let few : c.loop-i.i < 64 = omega (arith, c.loop-i-test.true, c.requires.few, listed-length columns) in
     record { fits = omega (arith, few) }
 
 pub overflow_add-i : goal.overflow_add-i
 overflow_add-i c =
     let columns : Columns = c.args.cols in
-    let few : c.loop-i.i < 64 = omega (arith, c.loop-i-test.taken, c.pre.few, listed-length columns) in
+    let few : c.loop-i.i < 64 = omega (arith, c.loop-i-test.true, c.requires.few, listed-length columns) in
     record { fits = omega (arith, few) }
 
 pub loop-i-smaller : goal.loop-i-smaller
@@ -44,8 +44,8 @@ loop-i-smaller c = omega (arith, c.loop-i-test.true)
 pub loop-i-preserved : goal.loop-i-preserved
 loop-i-preserved c =
     let columns : Columns = c.args.cols in
-    let few : c.loop-i.i < 64 = omega (arith, c.loop-i-test.taken, c.pre.few, listed-length columns) in
-    let next-column : drop c.loop-i.i (listed columns) ≡ get_or columns.list c.loop-i.i no_column ∷ drop (suc c.loop-i.i) (listed columns) = listed_next columns c.loop-i.i c.loop-i-test.taken in
+    let few : c.loop-i.i < 64 = omega (arith, c.loop-i-test.true, c.requires.few, listed-length columns) in
+    let next-column : drop c.loop-i.i (listed columns) ≡ get_or columns.list c.loop-i.i no_column ∷ drop (suc c.loop-i.i) (listed columns) = listed_next columns c.loop-i.i c.loop-i-test.true in
     let l = c.loop-i in
     (ap (set l.list l.i) c.step_of.ensures ∙ steps-more (listed columns) l.i _ l.list few next-column l.invariant.0 ∙ rw add-one, omega (arith, c.loop-i-test.true))
 

@@ -53,7 +53,7 @@ rows-init c =
 pub begin_quickly-b-requires : goal.begin_quickly-b-requires
 begin_quickly-b-requires c =
     let cols-at : Columns = c.args.cols in
-    let are : Within (listed cols-at) = c.pre.0.0 in
+    let are : Within (listed cols-at) = c.requires.within.0 in
     let few : cols-at.count ≤ 64 = omega (arith, are.few, listed-length cols-at) in
     (c.rows.invariant.0.inside, omega (arith, are.some, listed-length cols-at), few)
 
@@ -69,7 +69,7 @@ loop-i-init c =
     let within : (c.rows.place ≤ body_at) × (body_at ≤ length s-at) = (
     let g = c.begin_quickly-b in
     begun-within from_at (listed cols-at) cols-at.count (listed-length cols-at) s-at c.rows.place g.result g.ensures flags-at body_at c.in-Row.is) in
-    let roomy : c.start_size-first.result ≤ length c.rows.row = omega (arith, c.start_size-first.ensures.0, c.rows.inv.2, c.pre.0.2) in
+    let roomy : c.start_size-first.result ≤ length c.rows.row = omega (arith, c.start_size-first.ensures.0, c.rows.inv.2, c.requires.within.2) in
     (read-start from_at (listed cols-at) _ s-at body_at within.1, moved-start to_at (listed cols-at) c.rows.row _ roomy, refl)
 
 pub flag_of-flagged-requires : goal.flag_of-flagged-requires
@@ -78,18 +78,18 @@ flag_of-flagged-requires t = (t.loop-i-test.true, few t)
 pub offset_bounds-plan-i : goal.offset_bounds-plan-i
 offset_bounds-plan-i c =
     let cols-at : Columns = c.args.cols in
-    let are : Within (listed cols-at) = c.pre.0.0 in
+    let are : Within (listed cols-at) = c.requires.within.0 in
     let few : cols-at.count ≤ 64 = omega (arith, are.few, listed-length cols-at) in
-    let few-turns : c.loop-i.i < 64 = omega (arith, few, c.loop-i-test.taken) in
+    let few-turns : c.loop-i.i < 64 = omega (arith, few, c.loop-i-test.true) in
     omega (arith, few-turns)
 
 -- a cell by its column's step
 pub move_planned-planned-requires : goal.move_planned-planned-requires
 move_planned-planned-requires c =
     let cols-at : Columns = c.args.cols in
-    let are : Within (listed cols-at) = c.pre.0.0 in
+    let are : Within (listed cols-at) = c.requires.within.0 in
     let column-at : Column = get_or cols-at.list c.loop-i.i no_column in
-    let next-column : drop c.loop-i.i (listed cols-at) ≡ column-at ∷ drop (suc c.loop-i.i) (listed cols-at) = listed_next cols-at c.loop-i.i c.loop-i-test.taken in
+    let next-column : drop c.loop-i.i (listed cols-at) ≡ column-at ∷ drop (suc c.loop-i.i) (listed cols-at) = listed_next cols-at c.loop-i.i c.loop-i-test.true in
     let step_is : get_or c.plan_of-plan.result.list c.loop-i.i no_step ≡ step_of column-at = (
     ap (λ (p : Plan). get_or p.list c.loop-i.i no_step) c.plan_of-plan.ensures ∙ plan-at (listed cols-at) c.loop-i.i column-at next-column) in
     let l = c.loop-i in
@@ -108,32 +108,32 @@ move_cell-requires c =
     let to_at : Rows = c.args.to in
     let cols-at : Columns = c.args.cols in
     let s-at : List ℕ = c.args.s.now in
-    let are : Within (listed cols-at) = c.pre.0.0 in
+    let are : Within (listed cols-at) = c.requires.within.0 in
     let column-at : Column = get_or cols-at.list c.loop-i.i no_column in
-    let next-column : drop c.loop-i.i (listed cols-at) ≡ column-at ∷ drop (suc c.loop-i.i) (listed cols-at) = listed_next cols-at c.loop-i.i c.loop-i-test.taken in
+    let next-column : drop c.loop-i.i (listed cols-at) ≡ column-at ∷ drop (suc c.loop-i.i) (listed cols-at) = listed_next cols-at c.loop-i.i c.loop-i-test.true in
     let step_is : get_or c.plan_of-plan.result.list c.loop-i.i no_step ≡ step_of column-at = (
     ap (λ (p : Plan). get_or p.list c.loop-i.i no_step) c.plan_of-plan.ensures ∙ plan-at (listed cols-at) c.loop-i.i column-at next-column) in
     let flag_at : Bool = c.flag_of-flagged.result in
     let planned-row : List ℕ = c.move_planned-planned.last.1.1.1.1.1.1.0 in
     let by-plan : let l = c.loop-i in MovesCell from_at to_at column-at flag_at s-at l.at l.row l.end planned-row c.move_planned-planned.result = (
-    c.move_planned-planned.ensures column-at (listed-bounded cols-at c.loop-i.i are c.loop-i-test.taken) step_is) in
+    c.move_planned-planned.ensures column-at (listed-bounded cols-at c.loop-i.i are c.loop-i-test.true) step_is) in
     let declined : Puts c.loop-i.row c.loop-i.end [] planned-row c.loop-i.end = (
     let l = c.loop-i in
     subst (MovesCell from_at to_at column-at flag_at s-at l.at l.row l.end planned-row) c.in-Careful.is by-plan) in
     let l = c.loop-i in
     (
       l.inv.0.inside,
-      listed-bound cols-at l.i are c.loop-i-test.taken,
-      omega (arith, l.inv.2, c.rows.inv.1, c.pre.0.1),
+      listed-bound cols-at l.i are c.loop-i-test.true,
+      omega (arith, l.inv.2, c.rows.inv.1, c.requires.within.1),
       omega (arith, l.inv.1.puts.room, l.inv.1.puts.long, declined.long),
     )
 
 pub add_flag-nulls-requires : goal.add_flag-nulls-requires
 add_flag-nulls-requires c =
     let cols-at : Columns = c.args.cols in
-    let are : Within (listed cols-at) = c.pre.0.0 in
+    let are : Within (listed cols-at) = c.requires.within.0 in
     let few : cols-at.count ≤ 64 = omega (arith, are.few, listed-length cols-at) in
-    let few-turns : c.loop-i.i < 64 = omega (arith, few, c.loop-i-test.taken) in
+    let few-turns : c.loop-i.i < 64 = omega (arith, few, c.loop-i-test.true) in
     few-turns
 
 pub add_flag-nulls-requires-in-Careful : goal.add_flag-nulls-requires-in-Careful
@@ -142,13 +142,13 @@ add_flag-nulls-requires-in-Careful c = few-turns (c)
 pub overflow_add-i : goal.overflow_add-i
 overflow_add-i c =
     let cols-at : Columns = c.args.cols in
-    let are : Within (listed cols-at) = c.pre.0.0 in
+    let are : Within (listed cols-at) = c.requires.within.0 in
     let few : cols-at.count ≤ 64 = omega (arith, are.few, listed-length cols-at) in
-    let few-turns : c.loop-i.i < 64 = omega (arith, few, c.loop-i-test.taken) in
+    let few-turns : c.loop-i.i < 64 = omega (arith, few, c.loop-i-test.true) in
     omega (arith, few-turns)
 
 pub loop-i-smaller : goal.loop-i-smaller
-loop-i-smaller c = omega (arith, c.loop-i-test.taken)
+loop-i-smaller c = omega (arith, c.loop-i-test.true)
 
 pub loop-i-preserved : goal.loop-i-preserved
 unfolding read_more
@@ -157,22 +157,22 @@ loop-i-preserved c =
     let to_at : Rows = c.args.to in
     let cols-at : Columns = c.args.cols in
     let s-at : List ℕ = c.args.s.now in
-    let are : Within (listed cols-at) = c.pre.0.0 in
+    let are : Within (listed cols-at) = c.requires.within.0 in
     let flags-at : ℕ = c.in-Row.f in
     let body_at : ℕ = c.in-Row.a in
     let column-at : Column = get_or cols-at.list c.loop-i.i no_column in
-    let next-column : drop c.loop-i.i (listed cols-at) ≡ column-at ∷ drop (suc c.loop-i.i) (listed cols-at) = listed_next cols-at c.loop-i.i c.loop-i-test.taken in
+    let next-column : drop c.loop-i.i (listed cols-at) ≡ column-at ∷ drop (suc c.loop-i.i) (listed cols-at) = listed_next cols-at c.loop-i.i c.loop-i-test.true in
     let step_is : get_or c.plan_of-plan.result.list c.loop-i.i no_step ≡ step_of column-at = (
     ap (λ (p : Plan). get_or p.list c.loop-i.i no_step) c.plan_of-plan.ensures ∙ plan-at (listed cols-at) c.loop-i.i column-at next-column) in
     let flag_at : Bool = c.flag_of-flagged.result in
     let planned-row : List ℕ = c.move_planned-planned.last.1.1.1.1.1.1.0 in
     let by-plan : let l = c.loop-i in MovesCell from_at to_at column-at flag_at s-at l.at l.row l.end planned-row c.move_planned-planned.result = (
-    c.move_planned-planned.ensures column-at (listed-bounded cols-at c.loop-i.i are c.loop-i-test.taken) step_is) in
+    c.move_planned-planned.ensures column-at (listed-bounded cols-at c.loop-i.i are c.loop-i-test.true) step_is) in
     let advance : (new : List ℕ) (next e : ℕ) (null : Bool) (q : ℕ) → let l = c.loop-i in CellMoved from_at to_at column-at flag_at s-at l.at l.row l.end new next e null → to_digits 2 (l.i + 1) q ≡ to_digits 2 l.i l.nulls ++ (flag_bit null ∷ []) → (k : RowRead from_at (listed cols-at) (flags_in from_at cols-at.count flags-at) s-at body_at next (l.i + 1)) × RowMoved to_at (listed cols-at) k.acc c.rows.row c.start_size-first.result new e q (l.i + 1) = λ new next e null q x w. (
     let l = c.loop-i in
     let f = c.flag_of-flagged in (
       read_more from_at (listed cols-at) _ s-at body_at l.at l.i l.inv.0 column-at next-column f.result f.ensures x.cell _
-          (omega (arith, listed-length cols-at, c.loop-i-test.taken)) x.reads x.onward x.inside,
+          (omega (arith, listed-length cols-at, c.loop-i-test.true)) x.reads x.onward x.inside,
       moved_more to_at (listed cols-at) l.inv.0.acc _ _ l.row l.end l.nulls l.i l.inv.1 column-at next-column from_at f.result s-at l.at _
           _ _ _ x q w,
     )) in
@@ -227,7 +227,7 @@ overflow_add-rows c =
     let cols-at : Columns = c.args.cols in
     let begun-of : Begun = c in
     let next-at : ℕ = c.in-Closed.next in
-    let past : length (listed cols-at) ≤ c.loop-i.i = omega (arith, listed-length cols-at, c.loop-i-test.left) in
+    let past : length (listed cols-at) ≤ c.loop-i.i = omega (arith, listed-length cols-at, c.loop-i-test.false) in
     let whole : read_row (from_at (rows_of begun-of)) (listed (cols-at (rows_of begun-of))) (drop (rows_of begun-of).rows.place (s-at (rows_of begun-of))) ≡ good (c.loop-i.inv.0.acc, drop next-at (s-at (rows_of begun-of))) = (
     let b = begun-of in
     let r = b in
@@ -248,7 +248,7 @@ rows-smaller c =
     let cols-at : Columns = c.args.cols in
     let begun-of : Begun = c in
     let next-at : ℕ = c.in-Closed.next in
-    let past : length (listed cols-at) ≤ c.loop-i.i = omega (arith, listed-length cols-at, c.loop-i-test.left) in
+    let past : length (listed cols-at) ≤ c.loop-i.i = omega (arith, listed-length cols-at, c.loop-i-test.false) in
     let whole : read_row (from_at (rows_of begun-of)) (listed (cols-at (rows_of begun-of))) (drop (rows_of begun-of).rows.place (s-at (rows_of begun-of))) ≡ good (c.loop-i.inv.0.acc, drop next-at (s-at (rows_of begun-of))) = (
     let b = begun-of in
     let r = b in
@@ -267,7 +267,7 @@ rows-preserved c =
     let cols-at : Columns = c.args.cols in
     let begun-of : Begun = c in
     let next-at : ℕ = c.in-Closed.next in
-    let past : length (listed cols-at) ≤ c.loop-i.i = omega (arith, listed-length cols-at, c.loop-i-test.left) in
+    let past : length (listed cols-at) ≤ c.loop-i.i = omega (arith, listed-length cols-at, c.loop-i-test.false) in
     let whole : read_row (from_at (rows_of begun-of)) (listed (cols-at (rows_of begun-of))) (drop (rows_of begun-of).rows.place (s-at (rows_of begun-of))) ≡ good (c.loop-i.inv.0.acc, drop next-at (s-at (rows_of begun-of))) = (
     let b = begun-of in
     let r = b in
@@ -318,9 +318,11 @@ returns-in-Refused c =
     let unbegun : LeftAt = (let g = c.begin_quickly-b in
     unread-left from_at to_at (listed cols-at) s-at c.rows.place c.rows.out c.rows.bytes _ _
     (row-unbegun from_at (listed cols-at) cols-at.count (listed-length cols-at) s-at c.rows.place g.result g.ensures _ c.in-Refused.is)) in
-    (record { moved = c.rows.invariant.0; stops =
-    let whole = unbegun }, (c.rows.invariant.1, c.rows.invariant.2)) in
-    record { moves_rows = whole.0; scratch_len_unchanged = whole.1.0; row_len_unchanged = whole.1.1 }
+    record {
+      moves_rows = record { moved = c.rows.invariant.0; stops = unbegun };
+      scratch_len_unchanged = c.rows.invariant.1;
+      row_len_unchanged = c.rows.invariant.2;
+    }
 
 pub shape_of-scratch-in_default : goal.shape_of-scratch-in_default
 shape_of-scratch-in_default c =
@@ -334,15 +336,15 @@ shape_of-row-in_default c =
     let to_at : Rows = c.args.to in
     let cols-at : Columns = c.args.cols in
     let s-at : List ℕ = c.args.s.now in
-    let are : Within (listed cols-at) = c.pre.0.0 in
+    let are : Within (listed cols-at) = c.requires.within.0 in
     let column-at : Column = get_or cols-at.list c.loop-i.i no_column in
-    let next-column : drop c.loop-i.i (listed cols-at) ≡ column-at ∷ drop (suc c.loop-i.i) (listed cols-at) = listed_next cols-at c.loop-i.i c.loop-i-test.taken in
+    let next-column : drop c.loop-i.i (listed cols-at) ≡ column-at ∷ drop (suc c.loop-i.i) (listed cols-at) = listed_next cols-at c.loop-i.i c.loop-i-test.true in
     let step_is : get_or c.plan_of-plan.result.list c.loop-i.i no_step ≡ step_of column-at = (
     ap (λ (p : Plan). get_or p.list c.loop-i.i no_step) c.plan_of-plan.ensures ∙ plan-at (listed cols-at) c.loop-i.i column-at next-column) in
     let flag_at : Bool = c.flag_of-flagged.result in
     let planned-row : List ℕ = c.move_planned-planned.last.1.1.1.1.1.1.0 in
     let by-plan : let l = c.loop-i in MovesCell from_at to_at column-at flag_at s-at l.at l.row l.end planned-row c.move_planned-planned.result = (
-    c.move_planned-planned.ensures column-at (listed-bounded cols-at c.loop-i.i are c.loop-i-test.taken) step_is) in
+    c.move_planned-planned.ensures column-at (listed-bounded cols-at c.loop-i.i are c.loop-i-test.true) step_is) in
     let declined : Puts c.loop-i.row c.loop-i.end [] planned-row c.loop-i.end = (
     let l = c.loop-i in
     subst (MovesCell from_at to_at column-at flag_at s-at l.at l.row l.end planned-row) c.in-Careful.is by-plan) in
@@ -363,15 +365,15 @@ returns-in_default c =
     let to_at : Rows = c.args.to in
     let cols-at : Columns = c.args.cols in
     let s-at : List ℕ = c.args.s.now in
-    let are : Within (listed cols-at) = c.pre.0.0 in
+    let are : Within (listed cols-at) = c.requires.within.0 in
     let column-at : Column = get_or cols-at.list c.loop-i.i no_column in
-    let next-column : drop c.loop-i.i (listed cols-at) ≡ column-at ∷ drop (suc c.loop-i.i) (listed cols-at) = listed_next cols-at c.loop-i.i c.loop-i-test.taken in
+    let next-column : drop c.loop-i.i (listed cols-at) ≡ column-at ∷ drop (suc c.loop-i.i) (listed cols-at) = listed_next cols-at c.loop-i.i c.loop-i-test.true in
     let step_is : get_or c.plan_of-plan.result.list c.loop-i.i no_step ≡ step_of column-at = (
     ap (λ (p : Plan). get_or p.list c.loop-i.i no_step) c.plan_of-plan.ensures ∙ plan-at (listed cols-at) c.loop-i.i column-at next-column) in
     let flag_at : Bool = c.flag_of-flagged.result in
     let planned-row : List ℕ = c.move_planned-planned.last.1.1.1.1.1.1.0 in
     let by-plan : let l = c.loop-i in MovesCell from_at to_at column-at flag_at s-at l.at l.row l.end planned-row c.move_planned-planned.result = (
-    c.move_planned-planned.ensures column-at (listed-bounded cols-at c.loop-i.i are c.loop-i-test.taken) step_is) in
+    c.move_planned-planned.ensures column-at (listed-bounded cols-at c.loop-i.i are c.loop-i-test.true) step_is) in
     let declined : Puts c.loop-i.row c.loop-i.end [] planned-row c.loop-i.end = (
     let l = c.loop-i in
     subst (MovesCell from_at to_at column-at flag_at s-at l.at l.row l.end planned-row) c.in-Careful.is by-plan) in
@@ -389,9 +391,11 @@ returns-in_default c =
     let f = (c).before.before.before.before.before.flag-of in
     cell-left (from_at r) (to_at r) (listed (cols-at r)) (s-at r) r.rows.place r.rows.out r.rows.bytes _ _ (body_at b) l.at l.i (begun b) l.inv.0
     r.rows.row _ l.row l.end l.nulls l.inv.1 r.before.before.start-size.ensures.0 r.rows.inv.2 (column-at t) (next-column t) f.result f.ensures _ unmoved-cell) in
-    (record { moved = (rows_of unmoved.before.before).rows.inv.0; stops =
-    let whole = uncelled }, (shape_of-scratch-in_default c, shape_of-row-in_default c)) in
-    record { moves_rows = whole.0; scratch_len_unchanged = whole.1.0; row_len_unchanged = whole.1.1 }
+    record {
+      moves_rows = record { moved = (rows_of unmoved.before.before).rows.inv.0; stops = uncelled };
+      scratch_len_unchanged = shape_of-scratch-in_default c;
+      row_len_unchanged = shape_of-row-in_default c;
+    }
 
 pub returns-in_default-end_row : goal.returns-in_default-end_row
 returns-in_default-end_row c =
@@ -404,7 +408,7 @@ returns-in_default-end_row c =
     let begun : read_row from_at (listed cols-at) (drop c.rows.place s-at) ≡ cells_end from_at (listed cols-at) (flags_in from_at cols-at.count flags-at) (drop body_at s-at) = (
     let g = c.begin_quickly-b in
     row-begun from_at (listed cols-at) cols-at.count (listed-length cols-at) s-at c.rows.place g.result g.ensures flags-at body_at c.in-Row.is) in
-    let past : length (listed cols-at) ≤ c.loop-i.i = omega (arith, listed-length cols-at, c.loop-i-test.left) in
+    let past : length (listed cols-at) ≤ c.loop-i.i = omega (arith, listed-length cols-at, c.loop-i-test.false) in
     let LeftAt : Type 0 = RowLeft from_at to_at (listed cols-at) s-at c.rows.place c.rows.out c.rows.bytes (length c.args.row.now) in
     let loop-scratch : length c.loop-i.scratch ≡ length (c).args.scratch.now = c.loop-i.inv.2 ∙ c.rows.inv.1 in
     let loop-row : length c.loop-i.row ≡ length (c).args.row.now = c.loop-i.inv.1.puts.long ∙ c.rows.inv.2 in
@@ -414,16 +418,14 @@ returns-in_default-end_row c =
     let q = read-end from_at (listed cols-at) _ s-at body_at l.at l.i l.invariant.0 past in
     unread-left from_at to_at (listed cols-at) s-at c.rows.place c.rows.out c.rows.bytes _ _
     (begun ∙ cells_open from_at (listed cols-at) _ s-at body_at _ _ q z.result z.ensures _ c.in_default-end_row.is)) in
-    (record { moved = c.rows.inv.0; stops =
-    let whole = unended }, (loop-scratch, loop-row)) in
-    record { moves_rows = whole.0; scratch_len_unchanged = whole.1.0; row_len_unchanged = whole.1.1 }
+    record { moves_rows = record { moved = c.rows.inv.0; stops = unended }; scratch_len_unchanged = loop-scratch; row_len_unchanged = loop-row }
 
 pub returns-in_default-frame_row : goal.returns-in_default-frame_row
 returns-in_default-frame_row c =
     let cols-at : Columns = c.args.cols in
     let begun-of : Begun = c in
     let next-at : ℕ = c.in-Closed.next in
-    let past : length (listed cols-at) ≤ c.loop-i.i = omega (arith, listed-length cols-at, c.loop-i-test.left) in
+    let past : length (listed cols-at) ≤ c.loop-i.i = omega (arith, listed-length cols-at, c.loop-i-test.false) in
     let whole : read_row (from_at (rows_of begun-of)) (listed (cols-at (rows_of begun-of))) (drop (rows_of begun-of).rows.place (s-at (rows_of begun-of))) ≡ good (c.loop-i.inv.0.acc, drop next-at (s-at (rows_of begun-of))) = (
     let b = begun-of in
     let r = b in
@@ -461,7 +463,7 @@ returns-then-out-bytes c =
     let cols-at : Columns = c.args.cols in
     let begun-of : Begun = c in
     let next-at : ℕ = c.in-Closed.next in
-    let past : length (listed cols-at) ≤ c.loop-i.i = omega (arith, listed-length cols-at, c.loop-i-test.left) in
+    let past : length (listed cols-at) ≤ c.loop-i.i = omega (arith, listed-length cols-at, c.loop-i-test.false) in
     let whole : read_row (from_at (rows_of begun-of)) (listed (cols-at (rows_of begun-of))) (drop (rows_of begun-of).rows.place (s-at (rows_of begun-of))) ≡ good (c.loop-i.inv.0.acc, drop next-at (s-at (rows_of begun-of))) = (
     let b = begun-of in
     let r = b in

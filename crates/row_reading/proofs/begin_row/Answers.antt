@@ -11,8 +11,7 @@ returns-in_default c =
 pub returns-in-At : goal.returns-in-At
 returns-in-At c =
     let r = c.row_begins in
-    let k = c.next-1 in
-    rw c.in-TableData.is (begun-text c.args.s.now c.args.at c.args.count r.result r.ensures k.given.0.0 k.given.1)
+    rw c.in-TableData.is (begun-text c.args.s.now c.args.at c.args.count r.result r.ensures c.in-At.next c.in-At.is)
 
 pub returns-in-Binary : goal.returns-in-Binary
 returns-in-Binary c =
@@ -21,12 +20,10 @@ returns-in-Binary c =
 pub returns-in-Are : goal.returns-in-Are
 returns-in-Are c =
     let r = c.read_flags-f in
-    let k = c.f-1 in
-    rw c.in-Binary2.is (begun-binary2 c.args.s.now c.args.at c.args.count r.result r.ensures k.given.0.0
-    k.given.0.1.0 k.given.1)
+    rw c.in-Binary2.is (begun-binary2 c.args.s.now c.args.at c.args.count r.result r.ensures c.in-Are.flags
+    c.in-Are.next c.in-Are.is)
 
 pub returns-in-Spoiled : goal.returns-in-Spoiled
 returns-in-Spoiled c =
     let r = c.read_flags-f in
-    let k = c.f-in-Spoiled-1 in
-    rw c.in-Binary2.is (unbegun-binary2 c.args.s.now c.args.at c.args.count r.result r.ensures k.given.0.0 k.given.1)
+    rw c.in-Binary2.is (unbegun-binary2 c.args.s.now c.args.at c.args.count r.result r.ensures c.in-Spoiled.n c.in-Spoiled.is)

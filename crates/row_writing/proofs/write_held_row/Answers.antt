@@ -26,7 +26,7 @@ write_start-first-requires c =
 
 pub loop-j-init : goal.loop-j-init
 loop-j-init c =
-    (write-start held_next c.args.to (listed c.args.cols) [] c.args.scratch.now _ _ (omega arith), c.pre.0.1)
+    (write-start held_next c.args.to (listed c.args.cols) [] c.args.scratch.now _ _ (omega arith), c.requires.within.1)
 
 pub offset_bounds-cols-j : goal.offset_bounds-cols-j
 offset_bounds-cols-j c =
@@ -46,13 +46,13 @@ write_held_cell-w-requires c =
     let same-room : length headed ≡ length c.args.out.now = (ap length c.write_start-first.ensures.now-is ∙ length-sets c.args.out.now c.args.at
     (start_bytes c.args.to c.args.cols.count c.args.nulls)) in
     let room-left : first + (length cells + length (write_end c.args.to)) ≤ length headed = (
-    omega (arith, same-room, c.pre.1, c.write_start-first.ensures.next-is, row-bytes-length c.args.to c.args.cols.count c.args.nulls cells)) in
+    omega (arith, same-room, c.requires.scratch_in_bounds, c.write_start-first.ensures.next-is, row-bytes-length c.args.to c.args.cols.count c.args.nulls cells)) in
     let bounds : c.loop-j.j < c.args.cols.count → HeldWithin (get_or c.args.cols.list c.loop-j.j no_column ∷ drop (suc c.loop-j.j) (listed c.args.cols)) (drop c.loop-j.w.at c.args.scratch.now) = λ t. subst (λ (cs : List Column). HeldWithin cs (drop c.loop-j.w.at c.args.scratch.now)) (listed_next c.args.cols c.loop-j.j t) c.loop-j.invariant.1 in
     let cols = c.args.cols in
     let t = c.loop-j-test.true in
     let more : c.loop-j.j < length (listed cols) = omega (arith, listed-length cols, t) in
     record {
-      len_bound = (listed-bound cols c.loop-j.j c.pre.0.0 t, (bounds t).0);
+      len_bound = (listed-bound cols c.loop-j.j c.requires.within.0 t, (bounds t).0);
       scratch_in_bounds = write-fits held_next c.args.to (listed cols) [] c.args.scratch.now headed _ c.loop-j.out c.loop-j.w c.loop-j.j c.loop-j.invariant.0
           (get_or cols.list c.loop-j.j no_column) more (listed_next cols c.loop-j.j t) false (no_flag c.loop-j.j) (omega (arith, room-left));
     }
@@ -87,7 +87,7 @@ write_end-requires c =
     let same-room : length headed ≡ length c.args.out.now = (ap length c.write_start-first.ensures.now-is ∙ length-sets c.args.out.now c.args.at
     (start_bytes c.args.to c.args.cols.count c.args.nulls)) in
     let room-left : first + (length cells + length (write_end c.args.to)) ≤ length headed = (
-    omega (arith, same-room, c.pre.1, c.write_start-first.ensures.next-is, row-bytes-length c.args.to c.args.cols.count c.args.nulls cells)) in
+    omega (arith, same-room, c.requires.scratch_in_bounds, c.write_start-first.ensures.next-is, row-bytes-length c.args.to c.args.cols.count c.args.nulls cells)) in
     let all-written : (c.loop-j.out ≡ sets headed first cells) × (c.loop-j.w.to ≡ first + length cells) = (
     let cols = c.args.cols in
     let end : length (listed cols) ≤ c.loop-j.j = omega (arith, listed-length cols, c.loop-j-test.false) in (

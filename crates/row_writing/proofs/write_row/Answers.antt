@@ -32,7 +32,7 @@ write_start-first-requires c =
 
 pub loop-j-init : goal.loop-j-init
 loop-j-init c =
-    (write-start (read_cell c.args.from) c.args.to (listed c.args.cols) (flags_in c.args.from c.args.cols.count c.args.flags) c.args.s.now _ _ c.pre.0.1, refl)
+    (write-start (read_cell c.args.from) c.args.to (listed c.args.cols) (flags_in c.args.from c.args.cols.count c.args.flags) c.args.s.now _ _ c.requires.within.1, refl)
 
 pub offset_bounds-cols-j : goal.offset_bounds-cols-j
 offset_bounds-cols-j c =
@@ -60,7 +60,7 @@ rewrite-w-requires c =
     omega (
       arith,
       same-room,
-      c.pre.1,
+      c.requires.s_in_bounds,
       c.write_start-first.ensures.next-is,
       row-bytes-length c.args.to c.args.cols.count c.args.nulls
           (read_form c.args.from c.args.to c.args.cols c.args.flags (drop c.args.body c.args.s.now)),
@@ -71,7 +71,7 @@ rewrite-w-requires c =
     let f = c.flag_of-flagged in
     let more : c.loop-j.j < length (listed cols) = omega (arith, listed-length cols, t) in
     record {
-      at_in_bounds = (c.loop-j.invariant.0.inside, listed-bound cols c.loop-j.j c.pre.0.0 t, omega (arith, c.loop-j.invariant.1, c.pre.0.2));
+      at_in_bounds = (c.loop-j.invariant.0.inside, listed-bound cols c.loop-j.j c.requires.within.0 t, omega (arith, c.loop-j.invariant.1, c.requires.within.2));
       s_in_bounds = write-fits (read_cell c.args.from) c.args.to (listed cols) fs c.args.s.now headed _ c.loop-j.out c.loop-j.w c.loop-j.j c.loop-j.invariant.0
           (get_or cols.list c.loop-j.j no_column) more (listed_next cols c.loop-j.j t) f.result f.ensures (omega (arith, room-left));
     }
@@ -108,7 +108,7 @@ write_end-requires c =
     omega (
       arith,
       same-room,
-      c.pre.1,
+      c.requires.s_in_bounds,
       c.write_start-first.ensures.next-is,
       row-bytes-length c.args.to c.args.cols.count c.args.nulls
           (read_form c.args.from c.args.to c.args.cols c.args.flags (drop c.args.body c.args.s.now)),

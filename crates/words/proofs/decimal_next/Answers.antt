@@ -25,4 +25,4 @@ pub returns-in_default : goal.returns-in_default
 returns-in_default c =
     let a = c.args in
     c.broken-in_default.ensures
-    ∙ sym (decimal-bad a.form a.count a.value a.c (digit-no a.c (λ h k. ⊎_elim (λ w. omega arith) (λ w. omega arith) c.in_default.branch)))
+    ∙ sym (decimal-bad a.form a.count a.value a.c (digit-no a.c (λ h k. grind arith)))

@@ -24,9 +24,7 @@ pub shape_of-out-then-number : goal.shape_of-out-then-number
 shape_of-out-then-number c = search rules
 
 pub returns-then-number : goal.returns-then-number
-returns-then-number c = let t =
-    let whole = c.loop-i.invariant.2 in (t.letters, stored-all _ _ _ _ _ _ _ t) in
-    record { place = whole.0; buffer = whole.1 }
+returns-then-number c = let t = c.loop-i.invariant.2 in record { place = t.letters; buffer = stored-all _ _ _ _ _ _ _ t }
 
 pub put_number-requires : goal.put_number-requires
 put_number-requires c =
@@ -57,6 +55,4 @@ pub shape_of-out : goal.shape_of-out
 shape_of-out c = search rules
 
 pub returns : goal.returns
-returns c = let t =
-    let whole = c.loop-i.invariant.2 in (t.letters, stored-all _ _ _ _ _ _ _ t) in
-    record { place = whole.0; buffer = whole.1 }
+returns c = let t = c.loop-i.invariant.2 in record { place = t.letters; buffer = stored-all _ _ _ _ _ _ _ t }
