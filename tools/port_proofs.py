@@ -197,10 +197,12 @@ def walk(f, root_names, text):
     # so does a name for what an arm of a match tells
     told = {old for old, _, _ in f.arms}
     while True:
-        for m in re.finditer(r"\blet (" + IDENT + r") = (" + IDENT + r")((?:\.before)*)\.([\w'-]+)\s+in\b[ ]?", text):
+        for m in re.finditer(r"\blet (" + IDENT + r") = (" + IDENT + r")((?:\.before)*)\.([\w'-]+)((?:\.given(?:\.\d+)*)?)\s+in\b[ ]?", text):
             if m.group(2) in roots and norm(m.group(4)) in told and m.group(1) not in roots:
                 rest = text[m.end() :]
-                name, full = m.group(1), m.group(2) + m.group(3) + "." + m.group(4)
+                name, full = m.group(1), m.group(2) + m.group(3) + "." + m.group(4) + m.group(5)
+                if re.search(r"(?<![\w'.-])" + re.escape(name) + r"(?![\w'₀-₉.-])", rest):
+                    continue
                 text = text[: m.start()] + re.sub(r"(?<![\w'.-])" + re.escape(name) + r"(?=\.)", full, rest)
                 break
         else:
@@ -410,6 +412,64 @@ class Helper:
         return f"{indent}let {self.name} : {self.type} = {lam}{body} in\n"
 
 
+def in_the_call(f, text):
+    """Answers that the call of tie.spec gives as a lambda and not by name: pairs of a goal and its text."""
+    m = re.search(r"\(tie\.spec\b", text)
+    if not m:
+        return []
+    depth, at, args, start = 1, m.end(), [], None
+    i = m.end()
+    while i < len(text) and depth:
+        ch = text[i]
+        if ch in "([{":
+            if depth == 1 and start is None:
+                start = i
+            depth += 1
+        elif ch in ")]}":
+            depth -= 1
+            if depth == 1 and start is not None and text[start] == "(":
+                args.append(text[start : i + 1])
+                start = None
+            elif depth == 0 and start is not None:
+                args.append(text[start:i].strip())
+        elif depth == 1:
+            if ch.isspace():
+                if start is not None:
+                    args.append(text[start:i])
+                    start = None
+            elif start is None:
+                start = i
+        i += 1
+    args = args[2 * len(f.v["loops"]) :]
+    needs = [new for _, new in f.v["needs"]]
+    known = {}
+    for m in re.finditer(r"(?m)^(" + IDENT + r") : tie\.Need-([\w'-]+)", text):
+        if f.need(m.group(2)):
+            known[m.group(1)] = f.need(m.group(2))
+    # by the named ones as anchors
+    place = {}
+    for k, a in enumerate(args):
+        if a in known:
+            place[k] = needs.index(known[a])
+    found = []
+    for k, a in enumerate(args):
+        if a in known or not a.startswith("(λ") or re.fullmatch(r"\(λ c(?: κs)?\. search rules\)", a):
+            continue
+        left = max([j for j in place if j < k], default=-1)
+        right = min([j for j in place if j > k], default=len(args))
+        first = place.get(left, -1)
+        last = place.get(right, len(needs))
+        if right - left == last - first:
+            m = re.match(r"\(λ (\S+?)(?: κs)?\. (.*)\)$", a, re.S)
+            if m:
+                found.append((needs[first + k - left], m.group(1), m.group(2)))
+                continue
+        if k - left <= last - first and right - left > last - first:
+            pass
+        f.warnings.append(f"an answer in the call has no goal: {a[:150]}")
+    return found
+
+
 def turn(crate, file, names):
     path = file.split("/proofs/")[1][: -len("/Proof.antt")].replace("/", ".")
     f = Function(crate, path, names)
@@ -519,6 +579,20 @@ def turn(crate, file, names):
             roots += re.findall(r"(?m)^" + re.escape(sig.group(1)) + r" (" + IDENT + r")", whole)[:1]
         whole = walk(f, roots or ["c"], whole)
         answers.append((comment, whole, None))
+
+    for goal, root, body in in_the_call(f, text):
+        body = walk(f, [root], body)
+        if root != "c":
+            body = re.sub(r"(?<![\w'.-])" + re.escape(root) + r"(?![\w'₀-₉-])", "c", body)
+        for other, its in renamed.items():
+            if other != its:
+                body = re.sub(r"(?<=[ (])" + re.escape(other) + r"(?= [a-z(])(?![\w'-])", its, body)
+        if body.strip() in ("omega arith", "refl", "(omega arith)"):
+            continue
+        fields = next((f.asked[norm(old)] for old, new in f.v["needs"] if new == goal and norm(old) in f.asked), None)
+        if fields:
+            body = as_record(fields, " " + body)
+        answers.append(([], f"pub {goal} : goal.{goal}\n{goal} c = {body.strip()}", goal))
 
     def places(t):
         def one(m):

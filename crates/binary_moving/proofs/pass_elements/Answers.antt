@@ -52,3 +52,59 @@ returns c =
           _ _ _ _ f.result
           (λ es m. binary2-writes a.column es) moved refl n some f.ensures;
     }
+
+pub shape_of-row-in_default : goal.shape_of-row-in_default
+shape_of-row-in_default c =
+    let declined : Puts c.args.row.now c.args.o [] c.pass_content.new.row c.args.o = (let x = subst (MovesContent _ _ c.args.row.now (c.args.o + c.count_size.result)
+    c.pass_content.new.row) c.in_default.is
+    c.pass_content.ensures in
+    puts_lower x (omega arith)) in
+    declined.long
+
+pub returns-in_default : goal.returns-in_default
+returns-in_default c =
+    let declined : Puts c.args.row.now c.args.o [] c.pass_content.new.row c.args.o = (let x = subst (MovesContent _ _ c.args.row.now (c.args.o + c.count_size.result)
+    c.pass_content.new.row) c.in_default.is
+    c.pass_content.ensures in
+    puts_lower x (omega arith)) in
+    record { moves_read = λ from never. declined; moves_read_2 = λ from never. declined }
+
+pub shape_of-row-then-count-eq0 : goal.shape_of-row-then-count-eq0
+shape_of-row-then-count-eq0 c =
+    let inner : ℕ = c.args.o + c.count_size.result in
+    let mid : List ℕ = c.pass_content.new.row in
+    let moved : let a = c.args in ContentMoved (InBinary (shape a.column.kind) a.n a.s.now a.at) (AsBinary (shape a.column.kind)) a.row.now inner mid c.in-Elements.count c.in-Elements.next c.in-Elements.end = (let a = c.args in
+    subst (MovesContent (InBinary (shape a.column.kind) a.n a.s.now a.at) (AsBinary (shape a.column.kind)) a.row.now inner mid) c.in-Elements.is
+    c.pass_content.ensures) in
+    let unfilled : Puts c.args.row.now c.args.o [] mid c.args.o = puts_lower moved.puts (omega arith) in
+    unfilled.long
+
+pub returns-then-count-eq0 : goal.returns-then-count-eq0
+returns-then-count-eq0 c =
+    let inner : ℕ = c.args.o + c.count_size.result in
+    let mid : List ℕ = c.pass_content.new.row in
+    let moved : let a = c.args in ContentMoved (InBinary (shape a.column.kind) a.n a.s.now a.at) (AsBinary (shape a.column.kind)) a.row.now inner mid c.in-Elements.count c.in-Elements.next c.in-Elements.end = (let a = c.args in
+    subst (MovesContent (InBinary (shape a.column.kind) a.n a.s.now a.at) (AsBinary (shape a.column.kind)) a.row.now inner mid) c.in-Elements.is
+    c.pass_content.ensures) in
+    let unfilled : Puts c.args.row.now c.args.o [] mid c.args.o = puts_lower moved.puts (omega arith) in
+    record { moves_read = λ from never. unfilled; moves_read_2 = λ from never. unfilled }
+
+pub shape_of-row-then-count-gt-MOST_ELEMENTS : goal.shape_of-row-then-count-gt-MOST_ELEMENTS
+shape_of-row-then-count-gt-MOST_ELEMENTS c =
+    let inner : ℕ = c.args.o + c.count_size.result in
+    let mid : List ℕ = c.pass_content.new.row in
+    let moved : let a = c.args in ContentMoved (InBinary (shape a.column.kind) a.n a.s.now a.at) (AsBinary (shape a.column.kind)) a.row.now inner mid c.in-Elements.count c.in-Elements.next c.in-Elements.end = (let a = c.args in
+    subst (MovesContent (InBinary (shape a.column.kind) a.n a.s.now a.at) (AsBinary (shape a.column.kind)) a.row.now inner mid) c.in-Elements.is
+    c.pass_content.ensures) in
+    let unfilled : Puts c.args.row.now c.args.o [] mid c.args.o = puts_lower moved.puts (omega arith) in
+    unfilled.long
+
+pub returns-then-count-gt-MOST_ELEMENTS : goal.returns-then-count-gt-MOST_ELEMENTS
+returns-then-count-gt-MOST_ELEMENTS c =
+    let inner : ℕ = c.args.o + c.count_size.result in
+    let mid : List ℕ = c.pass_content.new.row in
+    let moved : let a = c.args in ContentMoved (InBinary (shape a.column.kind) a.n a.s.now a.at) (AsBinary (shape a.column.kind)) a.row.now inner mid c.in-Elements.count c.in-Elements.next c.in-Elements.end = (let a = c.args in
+    subst (MovesContent (InBinary (shape a.column.kind) a.n a.s.now a.at) (AsBinary (shape a.column.kind)) a.row.now inner mid) c.in-Elements.is
+    c.pass_content.ensures) in
+    let unfilled : Puts c.args.row.now c.args.o [] mid c.args.o = puts_lower moved.puts (omega arith) in
+    record { moves_read = λ from never. unfilled; moves_read_2 = λ from never. unfilled }

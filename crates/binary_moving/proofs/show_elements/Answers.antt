@@ -48,3 +48,63 @@ returns c =
     λ from never. text-moved (InBinary (shape a.column.kind) a.n a.s.now a.at) from a.column never a.row.now a.o inner opened mid _ _ _ _ _
     c.put_open-inner.ensures moved (omega (arith, c.if-count-eq0.false))
     c.put_close-e.ensures
+
+pub shape_of-row-in_default : goal.shape_of-row-in_default
+shape_of-row-in_default c =
+    let declined : Puts c.args.row.now c.args.o [] c.show_content.new.row c.args.o = (let u = c.put_open-inner in
+    let x = subst (MovesContent _ _ u.new.row u.result c.show_content.new.row) c.in_default.is
+    c.show_content.ensures in
+    puts-before (puts_then u.ensures x)) in
+    declined.long
+
+pub returns-in_default : goal.returns-in_default
+returns-in_default c =
+    let declined : Puts c.args.row.now c.args.o [] c.show_content.new.row c.args.o = (let u = c.put_open-inner in
+    let x = subst (MovesContent _ _ u.new.row u.result c.show_content.new.row) c.in_default.is
+    c.show_content.ensures in
+    puts-before (puts_then u.ensures x)) in
+    λ from never. declined
+
+pub shape_of-row-then-count-eq0 : goal.shape_of-row-then-count-eq0
+shape_of-row-then-count-eq0 c =
+    let opened : List ℕ = c.put_open-inner.new.row in
+    let inner : ℕ = c.put_open-inner.result in
+    let mid : List ℕ = c.show_content.new.row in
+    let moved : let a = c.args in ContentMoved (InBinary (shape a.column.kind) a.n a.s.now a.at) (AsText (shape a.column.kind)) opened inner mid c.in-Elements.count c.in-Elements.next c.in-Elements.end = (let a = c.args in
+    subst (MovesContent (InBinary (shape a.column.kind) a.n a.s.now a.at) (AsText (shape a.column.kind)) opened inner mid) c.in-Elements.is
+    c.show_content.ensures) in
+    let unclosed : Puts c.args.row.now c.args.o [] mid c.args.o = puts-before (puts_then c.put_open-inner.ensures moved.puts) in
+    unclosed.long
+
+pub returns-then-count-eq0 : goal.returns-then-count-eq0
+returns-then-count-eq0 c =
+    let opened : List ℕ = c.put_open-inner.new.row in
+    let inner : ℕ = c.put_open-inner.result in
+    let mid : List ℕ = c.show_content.new.row in
+    let moved : let a = c.args in ContentMoved (InBinary (shape a.column.kind) a.n a.s.now a.at) (AsText (shape a.column.kind)) opened inner mid c.in-Elements.count c.in-Elements.next c.in-Elements.end = (let a = c.args in
+    subst (MovesContent (InBinary (shape a.column.kind) a.n a.s.now a.at) (AsText (shape a.column.kind)) opened inner mid) c.in-Elements.is
+    c.show_content.ensures) in
+    let unclosed : Puts c.args.row.now c.args.o [] mid c.args.o = puts-before (puts_then c.put_open-inner.ensures moved.puts) in
+    λ from never. unclosed
+
+pub shape_of-row-then-row-end-lt8 : goal.shape_of-row-then-row-end-lt8
+shape_of-row-then-row-end-lt8 c =
+    let opened : List ℕ = c.put_open-inner.new.row in
+    let inner : ℕ = c.put_open-inner.result in
+    let mid : List ℕ = c.show_content.new.row in
+    let moved : let a = c.args in ContentMoved (InBinary (shape a.column.kind) a.n a.s.now a.at) (AsText (shape a.column.kind)) opened inner mid c.in-Elements.count c.in-Elements.next c.in-Elements.end = (let a = c.args in
+    subst (MovesContent (InBinary (shape a.column.kind) a.n a.s.now a.at) (AsText (shape a.column.kind)) opened inner mid) c.in-Elements.is
+    c.show_content.ensures) in
+    let unclosed : Puts c.args.row.now c.args.o [] mid c.args.o = puts-before (puts_then c.put_open-inner.ensures moved.puts) in
+    unclosed.long
+
+pub returns-then-row-end-lt8 : goal.returns-then-row-end-lt8
+returns-then-row-end-lt8 c =
+    let opened : List ℕ = c.put_open-inner.new.row in
+    let inner : ℕ = c.put_open-inner.result in
+    let mid : List ℕ = c.show_content.new.row in
+    let moved : let a = c.args in ContentMoved (InBinary (shape a.column.kind) a.n a.s.now a.at) (AsText (shape a.column.kind)) opened inner mid c.in-Elements.count c.in-Elements.next c.in-Elements.end = (let a = c.args in
+    subst (MovesContent (InBinary (shape a.column.kind) a.n a.s.now a.at) (AsText (shape a.column.kind)) opened inner mid) c.in-Elements.is
+    c.show_content.ensures) in
+    let unclosed : Puts c.args.row.now c.args.o [] mid c.args.o = puts-before (puts_then c.put_open-inner.ensures moved.puts) in
+    λ from never. unclosed

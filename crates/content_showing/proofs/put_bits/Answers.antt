@@ -37,3 +37,6 @@ returns c =
     let l = c.loop-k in
     let e : l.k ≡ a.size = omega (arith, l.invariant.0, c.loop-k-test.false) in
     subst (λ (j : ℕ). Puts a.row.now a.o (bit_letters (take j (drop a.at a.s.now))) l.row (a.o + 8 * j)) e l.invariant.1
+
+pub shape_of-row : goal.shape_of-row
+shape_of-row c = c.loop-k.invariant.1.long

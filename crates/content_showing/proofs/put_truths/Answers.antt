@@ -35,3 +35,6 @@ returns c =
     let l = c.loop-k in
     let e : l.k ≡ a.n = omega (arith, l.invariant.0, c.loop-k-test.false) in
     subst (λ (j : ℕ). TruthsPut (take j (drop a.at a.s.now)) a.row.now a.o l.row (a.o + 2 * j) l.bad) e l.invariant.1
+
+pub shape_of-row : goal.shape_of-row
+shape_of-row c = c.loop-k.invariant.1.puts.long

@@ -25,3 +25,9 @@ returns c =
     let a = c.args in
     bits-moved a.s.now a.at a.n (omega (arith, c.requires.2, bit-bytes a.n))
     (sym c.is_padded.ensures ∙ c.if-not-is_padded.false) c.put_bits.ensures
+
+pub overflow_add-result : goal.overflow_add-result
+overflow_add-result c = record { fits = omega (arith, c.requires.2, bit-bytes c.args.n) }
+
+pub overflow_add-result-2 : goal.overflow_add-result-2
+overflow_add-result-2 c = record { fits = omega (arith, c.if-row-o.false, c.requires.3) }

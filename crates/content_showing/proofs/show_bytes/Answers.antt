@@ -34,3 +34,6 @@ pub returns : goal.returns
 returns c =
     let l = c.loop-k in
     bytes-moved _ _ c.args.n l.k c.requires.0 (omega (arith, l.invariant.0, c.loop-k-test.false)) l.invariant.2
+
+pub shape_of-row : goal.shape_of-row
+shape_of-row c = c.loop-k.invariant.2.puts.long

@@ -17,3 +17,9 @@ returns-then-put_truths-ne0 c = puts-before c.put_truths.ensures.puts
 pub returns : goal.returns
 returns c =
     truths-moved c.args.s.now c.args.at c.args.n c.requires.0 c.requires.2 (omega (arith, c.if-put_truths-ne0.false)) c.put_truths.ensures
+
+pub overflow_add-result-2 : goal.overflow_add-result-2
+overflow_add-result-2 c = record { fits = omega (arith, c.if-row-o.false, c.requires.3) }
+
+pub overflow_sub-result : goal.overflow_sub-result
+overflow_sub-result c = omega (arith, c.requires.0)

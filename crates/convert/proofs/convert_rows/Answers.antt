@@ -580,3 +580,114 @@ returns-then-room-size c =
     (left b)
     c.loop-i.inv.0.acc _ whole row_at written_at
     (omega (arith, size-at, c.if-room-size.true)) in record { answer_value = d.answers; place_value = d.stands; out_after = d.leaves }
+
+pub shape_of-out-after-rows : goal.shape_of-out-after-rows
+shape_of-out-after-rows c =
+    let from_at : Rows = c.args.from in
+    let to_at : Rows = c.args.to in
+    let cols-at : Columns = c.args.cols in
+    let s-at : List ℕ = c.args.s.now in
+    let out_at : List ℕ = c.args.out.now in
+    let are : Within (listed cols-at) = c.requires.0 in
+    let done_at : RowsDone from_at to_at (listed cols-at) s-at out_at c.rows.out c.rows.cursor.at c.rows.p.rows c.rows.p.bytes = (let m = c.moved-first in
+    let n = c.start in
+    let z = c.start-2 in
+    let f = rows-further m.ensures.moves_rows.moved are (omega (arith, n.ensures)) (omega (arith, n.ensures, z.ensures.0)) in
+    c.rows.inv.0.further out_at (f.further out_at (rows_start from_at to_at (listed cols-at) s-at out_at _ _ _ n.ensures z.ensures))) in
+    done_at.long
+
+pub shape_of-scratch-after-rows : goal.shape_of-scratch-after-rows
+shape_of-scratch-after-rows c =
+    let scratch-kept : length c.rows.scratch ≡ length c.args.scratch.now = c.rows.inv.2 ∙ c.moved-first.ensures.scratch_len_unchanged in
+    scratch-kept
+
+pub shape_of-row-after-rows : goal.shape_of-row-after-rows
+shape_of-row-after-rows c =
+    let row_kept : length c.rows.row ≡ length c.args.row.now = c.rows.inv.3 ∙ c.moved-first.ensures.row_len_unchanged in
+    row_kept
+
+pub shape_of-out-in-Refused : goal.shape_of-out-in-Refused
+shape_of-out-in-Refused c =
+    let from_at : Rows = c.args.from in
+    let to_at : Rows = c.args.to in
+    let cols-at : Columns = c.args.cols in
+    let s-at : List ℕ = c.args.s.now in
+    let out_at : List ℕ = c.args.out.now in
+    let are : Within (listed cols-at) = c.requires.0 in
+    let done_at : RowsDone from_at to_at (listed cols-at) s-at out_at c.rows.out c.rows.cursor.at c.rows.p.rows c.rows.p.bytes = (let m = c.moved-first in
+    let n = c.start in
+    let z = c.start-2 in
+    let f = rows-further m.ensures.moves_rows.moved are (omega (arith, n.ensures)) (omega (arith, n.ensures, z.ensures.0)) in
+    c.rows.inv.0.further out_at (f.further out_at (rows_start from_at to_at (listed cols-at) s-at out_at _ _ _ n.ensures z.ensures))) in
+    done_at.long
+
+pub shape_of-scratch-in-Refused : goal.shape_of-scratch-in-Refused
+shape_of-scratch-in-Refused c =
+    let scratch-kept : length c.rows.scratch ≡ length c.args.scratch.now = c.rows.inv.2 ∙ c.moved-first.ensures.scratch_len_unchanged in
+    scratch-kept
+
+pub shape_of-row-in-Refused : goal.shape_of-row-in-Refused
+shape_of-row-in-Refused c =
+    let row_kept : length c.rows.row ≡ length c.args.row.now = c.rows.inv.3 ∙ c.moved-first.ensures.row_len_unchanged in
+    row_kept
+
+pub shape_of-out-in-Refused-t : goal.shape_of-out-in-Refused-t
+shape_of-out-in-Refused-t c =
+    let rows_of : AtRows = c in
+    (done_at rows_of).long
+
+pub shape_of-scratch-in-Refused-t : goal.shape_of-scratch-in-Refused-t
+shape_of-scratch-in-Refused-t c =
+    let rows_of : AtRows = c in
+    let scratch-of : length c.loop-i.scratch ≡ length (begin rows_of).args.scratch.now = c.loop-i.invariant.3 ∙ scratch-kept rows_of in
+    c.measure-t.ensures.scratch_len_unchanged ∙ scratch-of
+
+pub shape_of-row-in-Refused-t : goal.shape_of-row-in-Refused-t
+shape_of-row-in-Refused-t c =
+    let rows_of : AtRows = c in
+    row_kept rows_of
+
+pub shape_of-out-in-Refused-e : goal.shape_of-out-in-Refused-e
+shape_of-out-in-Refused-e c =
+    let rows_of : AtRows = c in
+    (done_at rows_of).long
+
+pub shape_of-scratch-in-Refused-e : goal.shape_of-scratch-in-Refused-e
+shape_of-scratch-in-Refused-e c =
+    let rows_of : AtRows = c in
+    let scratch-of : length c.loop-i.scratch ≡ length (begin rows_of).args.scratch.now = c.loop-i.invariant.3 ∙ scratch-kept rows_of in
+    scratch-of
+
+pub shape_of-row-in-Refused-e : goal.shape_of-row-in-Refused-e
+shape_of-row-in-Refused-e c =
+    let rows_of : AtRows = c in
+    row_kept rows_of
+
+pub shape_of-out-then-m-ne-NONE : goal.shape_of-out-then-m-ne-NONE
+shape_of-out-then-m-ne-NONE c =
+    let begun-of : Begun = c in
+    (done_at (rows_of begun-of)).long
+
+pub shape_of-scratch-then-m-ne-NONE : goal.shape_of-scratch-then-m-ne-NONE
+shape_of-scratch-then-m-ne-NONE c =
+    let rows_of : AtRows = c in
+    let scratch-of : length c.loop-i.scratch ≡ length (begin rows_of).args.scratch.now = c.loop-i.invariant.3 ∙ scratch-kept rows_of in
+    scratch-of
+
+pub shape_of-row-then-m-ne-NONE : goal.shape_of-row-then-m-ne-NONE
+shape_of-row-then-m-ne-NONE c =
+    let begun-of : Begun = c in
+    row_kept (rows_of begun-of)
+
+pub shape_of-out-then-room-size : goal.shape_of-out-then-room-size
+shape_of-out-then-room-size c =
+    let begun-of : Begun = c in
+    (done_at (rows_of begun-of)).long
+
+pub shape_of-scratch-then-room-size : goal.shape_of-scratch-then-room-size
+shape_of-scratch-then-room-size c = scratch-of (c).before
+
+pub shape_of-row-then-room-size : goal.shape_of-row-then-room-size
+shape_of-row-then-room-size c =
+    let begun-of : Begun = c in
+    row_kept (rows_of begun-of)

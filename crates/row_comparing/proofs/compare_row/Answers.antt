@@ -50,14 +50,12 @@ returns c =
     let p = c.compare_cells in
     let g = c.begin_row in
     let h = c.begin_row-2 in
-    let begun = c.flags-1.given in
-    let behind = c.others-1.given in
     let n = listed-length c.args.cols in
     let whole = (
       row-paired c.args.one.from c.args.two.from (listed c.args.cols) _ _ c.args.first.now c.args.second.now c.args.one.at c.args.two.at
-          begun.0.1.0 behind.0.1.0 c.requires.0
-          (row-begun c.args.one.from (listed c.args.cols) _ n c.args.first.now c.args.one.at g.result g.ensures _ _ begun.1)
-          (row-begun c.args.two.from (listed c.args.cols) _ n c.args.second.now c.args.two.at h.result h.ensures _ _ behind.1)
+          c.in-Row.body c.in-Row-begin_row.behind c.requires.0
+          (row-begun c.args.one.from (listed c.args.cols) _ n c.args.first.now c.args.one.at g.result g.ensures _ _ c.in-Row.is)
+          (row-begun c.args.two.from (listed c.args.cols) _ n c.args.second.now c.args.two.at h.result h.ensures _ _ c.in-Row-begin_row.is)
           _ p.result p.ensures.pairs_row,
       p.ensures.1,
     ) in

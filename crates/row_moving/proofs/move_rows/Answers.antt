@@ -499,3 +499,53 @@ returns-then-out-bytes c =
       scratch_len_unchanged = loop-scratch;
       row_len_unchanged = g.long ∙ loop-row;
     }
+
+pub bounds-plan-i : goal.bounds-plan-i
+bounds-plan-i c =
+    let cols-at : Columns = c.args.cols in
+    let are : Within (listed cols-at) = c.requires.within.0 in
+    let few : cols-at.count ≤ 64 = omega (arith, are.few, listed-length cols-at) in
+    let few-turns : c.loop-i.i < 64 = omega (arith, few, c.loop-i-test.true) in
+    few-turns
+
+pub bounds-cols-i : goal.bounds-cols-i
+bounds-cols-i c = few-turns (c)
+
+pub shape_of-out-in-Refused : goal.shape_of-out-in-Refused
+shape_of-out-in-Refused c = wrote-long (returns-in-Refused c).0.moved.wrote
+
+pub shape_of-scratch-in-Refused : goal.shape_of-scratch-in-Refused
+shape_of-scratch-in-Refused c = (returns-in-Refused c).1.0
+
+pub shape_of-row-in-Refused : goal.shape_of-row-in-Refused
+shape_of-row-in-Refused c = (returns-in-Refused c).1.1
+
+pub shape_of-out-in_default : goal.shape_of-out-in_default
+shape_of-out-in_default c = wrote-long (returns-in_default c).0.moved.wrote
+
+pub shape_of-out-in_default-end_row : goal.shape_of-out-in_default-end_row
+shape_of-out-in_default-end_row c = wrote-long (returns-in_default-end_row c).0.moved.wrote
+
+pub shape_of-scratch-in_default-end_row : goal.shape_of-scratch-in_default-end_row
+shape_of-scratch-in_default-end_row c = (returns-in_default-end_row c).1.0
+
+pub shape_of-row-in_default-end_row : goal.shape_of-row-in_default-end_row
+shape_of-row-in_default-end_row c = (returns-in_default-end_row c).1.1
+
+pub shape_of-out-in_default-frame_row : goal.shape_of-out-in_default-frame_row
+shape_of-out-in_default-frame_row c = wrote-long (returns-in_default-frame_row c).0.moved.wrote
+
+pub shape_of-scratch-in_default-frame_row : goal.shape_of-scratch-in_default-frame_row
+shape_of-scratch-in_default-frame_row c = (returns-in_default-frame_row c).1.0
+
+pub shape_of-row-in_default-frame_row : goal.shape_of-row-in_default-frame_row
+shape_of-row-in_default-frame_row c = (returns-in_default-frame_row c).1.1
+
+pub shape_of-out-then-out-bytes : goal.shape_of-out-then-out-bytes
+shape_of-out-then-out-bytes c = wrote-long (returns-then-out-bytes c).0.moved.wrote
+
+pub shape_of-scratch-then-out-bytes : goal.shape_of-scratch-then-out-bytes
+shape_of-scratch-then-out-bytes c = (returns-then-out-bytes c).1.0
+
+pub shape_of-row-then-out-bytes : goal.shape_of-row-then-out-bytes
+shape_of-row-then-out-bytes c = (returns-then-out-bytes c).1.1

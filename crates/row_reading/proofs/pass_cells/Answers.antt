@@ -51,11 +51,10 @@ returns-in-Refused c =
     let f = c.flag_of-flagged in
     let p = c.pass_cell-n in
     let t = c.loop-i-test.true in
-    let n = c.n-1.given in
     record {
       passes_cells = cells-stopped c.args.from (listed cols) flags_of c.args.s.now c.args.body _
           (read-stop c.args.from (listed cols) flags_of c.args.s.now c.args.body c.loop-i.at c.loop-i.i c.loop-i.invariant.0
-          (get_or cols.list c.loop-i.i no_column) (listed_next cols c.loop-i.i t) f.result f.ensures _ (subst (PassesCell _ _ _) n.1 p.ensures.passes_cell));
+          (get_or cols.list c.loop-i.i no_column) (listed_next cols c.loop-i.i t) f.result f.ensures _ (subst (PassesCell _ _ _) c.in-Refused.is p.ensures.passes_cell));
       scratch_len_unchanged = p.ensures.scratch_len_unchanged ∙ c.loop-i.invariant.1;
     }
 

@@ -72,3 +72,9 @@ returns c =
     λ one q. value-moved (TextRead a.column a.s.now a.from) TableData a.to a.column kind value a.row.now a.o p.new.row (end + 5) one q
     (read one q) p.result tt
     (tested ∙ c.if-is_declared.false) (puts-as (ap (one_form a.to kind) fits) p.ensures)
+
+pub overflow_add-result : goal.overflow_add-result
+overflow_add-result c =
+    let end : ℕ = c.in-Element.end in
+    let ended : ClosesAt (c).args.s.now end = c.closes.ensures (c.if-not-closes.false) in
+    let h = ended.inside in search rules

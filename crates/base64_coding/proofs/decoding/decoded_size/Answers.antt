@@ -86,7 +86,7 @@ overflow_add-n-then-i-from c =
       omega arith,
       fours-size run _ _ (c.loop-i.invariant.3 ∙ ap (decoded_size c.loop-i.n) (white-skipped _ _ _ white)),
     )) in
-    let careful : let p = c.count-1.given.0 in Gave c.args.s.now c.fours_end-i.result p.0 p.1.0 p.1.1.0 p.1.1.1.0 p.1.1.1.1.0 = gave _ _ _ _ _ _ _ _ c.next_four.ensures c.in-Bytes.is in
+    let careful : Gave c.args.s.now c.fours_end-i.result c.in-Bytes.count c.in-Bytes.field-1 c.in-Bytes.field-2 c.in-Bytes.field-3 c.in-Bytes.next = gave _ _ _ _ _ _ _ _ c.next_four.ensures c.in-Bytes.is in
     let l = letters.2 in let far = careful.far in let end = careful.within in omega arith
 
 pub returns-then-count-lt3 : goal.returns-then-count-lt3
@@ -98,7 +98,7 @@ returns-then-count-lt3 c =
       omega arith,
       fours-size run _ _ (c.loop-i.invariant.3 ∙ ap (decoded_size c.loop-i.n) (white-skipped _ _ _ white)),
     )) in
-    let careful : let p = c.count-1.given.0 in Gave c.args.s.now c.fours_end-i.result p.0 p.1.0 p.1.1.0 p.1.1.1.0 p.1.1.1.1.0 = gave _ _ _ _ _ _ _ _ c.next_four.ensures c.in-Bytes.is in
+    let careful : Gave c.args.s.now c.fours_end-i.result c.in-Bytes.count c.in-Bytes.field-1 c.in-Bytes.field-2 c.in-Bytes.field-3 c.in-Bytes.next = gave _ _ _ _ _ _ _ _ c.next_four.ensures c.in-Bytes.is in
     let g = careful in
     sym (gave-size g _ _ letters.3 ∙ size-end _ _ (g.last c.if-count-lt3.true))
 
@@ -111,7 +111,7 @@ loop-i-smaller-else-count-lt3 c =
       omega arith,
       fours-size run _ _ (c.loop-i.invariant.3 ∙ ap (decoded_size c.loop-i.n) (white-skipped _ _ _ white)),
     )) in
-    let careful : let p = c.count-1.given.0 in Gave c.args.s.now c.fours_end-i.result p.0 p.1.0 p.1.1.0 p.1.1.1.0 p.1.1.1.1.0 = gave _ _ _ _ _ _ _ _ c.next_four.ensures c.in-Bytes.is in
+    let careful : Gave c.args.s.now c.fours_end-i.result c.in-Bytes.count c.in-Bytes.field-1 c.in-Bytes.field-2 c.in-Bytes.field-3 c.in-Bytes.next = gave _ _ _ _ _ _ _ _ c.next_four.ensures c.in-Bytes.is in
     let white = c.skip_white-from.ensures.low in let l = letters.0 in
     let far = careful.far in let end = careful.within in omega arith
 
@@ -124,7 +124,7 @@ loop-i-preserved-else-count-lt3 c =
       omega arith,
       fours-size run _ _ (c.loop-i.invariant.3 ∙ ap (decoded_size c.loop-i.n) (white-skipped _ _ _ white)),
     )) in
-    let careful : let p = c.count-1.given.0 in Gave c.args.s.now c.fours_end-i.result p.0 p.1.0 p.1.1.0 p.1.1.1.0 p.1.1.1.1.0 = gave _ _ _ _ _ _ _ _ c.next_four.ensures c.in-Bytes.is in
+    let careful : Gave c.args.s.now c.fours_end-i.result c.in-Bytes.count c.in-Bytes.field-1 c.in-Bytes.field-2 c.in-Bytes.field-3 c.in-Bytes.next = gave _ _ _ _ _ _ _ _ c.next_four.ensures c.in-Bytes.is in
     let g = careful in let far = g.far in let l = letters.2 in
     (g.within, omega arith, c.loop-i.invariant.2, gave-size g _ _ letters.3)
 

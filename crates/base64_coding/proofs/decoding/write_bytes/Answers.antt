@@ -141,7 +141,7 @@ put_some-requires c =
       fits.1,
       fours-buffer run _ _ _ _ _ w.0 c.write_fours-i.ensures.buffer w.1,
     )) in
-    let careful : let p = c.count-1.given.0 in Gave c.args.s.now c.write_fours-i.result p.0 p.1.0 p.1.1.0 p.1.1.1.0 p.1.1.1.1.0 = gave _ _ _ _ _ _ _ _ c.next_four.ensures c.in-Bytes.is in
+    let careful : Gave c.args.s.now c.write_fours-i.result c.in-Bytes.count c.in-Bytes.x c.in-Bytes.y c.in-Bytes.z c.in-Bytes.next = gave _ _ _ _ _ _ _ _ c.next_four.ensures c.in-Bytes.is in
     let g = careful in let l = letters in
     let fits = (gave_fits g _ _ l.4).0 in let same = l.2 in
     (g.few, omega arith)
@@ -161,7 +161,7 @@ overflow_add-n-then-i-from c =
       fits.1,
       fours-buffer run _ _ _ _ _ w.0 c.write_fours-i.ensures.buffer w.1,
     )) in
-    let careful : let p = c.count-1.given.0 in Gave c.args.s.now c.write_fours-i.result p.0 p.1.0 p.1.1.0 p.1.1.1.0 p.1.1.1.1.0 = gave _ _ _ _ _ _ _ _ c.next_four.ensures c.in-Bytes.is in
+    let careful : Gave c.args.s.now c.write_fours-i.result c.in-Bytes.count c.in-Bytes.x c.in-Bytes.y c.in-Bytes.z c.in-Bytes.next = gave _ _ _ _ _ _ _ _ c.next_four.ensures c.in-Bytes.is in
     let fits = (gave_fits careful _ _ letters.4).0 in omega arith
 
 pub shape_of-out-then-count-lt3 : goal.shape_of-out-then-count-lt3
@@ -196,7 +196,7 @@ returns-then-count-lt3 c =
       fits.1,
       fours-buffer run _ _ _ _ _ w.0 c.write_fours-i.ensures.buffer w.1,
     )) in
-    let careful : let p = c.count-1.given.0 in Gave c.args.s.now c.write_fours-i.result p.0 p.1.0 p.1.1.0 p.1.1.1.0 p.1.1.1.1.0 = gave _ _ _ _ _ _ _ _ c.next_four.ensures c.in-Bytes.is in
+    let careful : Gave c.args.s.now c.write_fours-i.result c.in-Bytes.count c.in-Bytes.x c.in-Bytes.y c.in-Bytes.z c.in-Bytes.next = gave _ _ _ _ _ _ _ _ c.next_four.ensures c.in-Bytes.is in
     let g = careful in let l = letters in
     sym (buffer-end _ _ _ (g.last c.if-count-lt3.true)) ∙ gave-buffer g _ _ _ _ _ l.4 c.put_some.ensures l.5
 
@@ -215,7 +215,7 @@ loop-i-smaller-else-count-lt3 c =
       fits.1,
       fours-buffer run _ _ _ _ _ w.0 c.write_fours-i.ensures.buffer w.1,
     )) in
-    let careful : let p = c.count-1.given.0 in Gave c.args.s.now c.write_fours-i.result p.0 p.1.0 p.1.1.0 p.1.1.1.0 p.1.1.1.1.0 = gave _ _ _ _ _ _ _ _ c.next_four.ensures c.in-Bytes.is in
+    let careful : Gave c.args.s.now c.write_fours-i.result c.in-Bytes.count c.in-Bytes.x c.in-Bytes.y c.in-Bytes.z c.in-Bytes.next = gave _ _ _ _ _ _ _ _ c.next_four.ensures c.in-Bytes.is in
     let skipped = c.skip_white-from.ensures.low in let l = letters.0 in
     let far = careful.far in let end = careful.within in omega arith
 
@@ -234,7 +234,7 @@ loop-i-preserved-else-count-lt3 c =
       fits.1,
       fours-buffer run _ _ _ _ _ w.0 c.write_fours-i.ensures.buffer w.1,
     )) in
-    let careful : let p = c.count-1.given.0 in Gave c.args.s.now c.write_fours-i.result p.0 p.1.0 p.1.1.0 p.1.1.1.0 p.1.1.1.1.0 = gave _ _ _ _ _ _ _ _ c.next_four.ensures c.in-Bytes.is in
+    let careful : Gave c.args.s.now c.write_fours-i.result c.in-Bytes.count c.in-Bytes.x c.in-Bytes.y c.in-Bytes.z c.in-Bytes.next = gave _ _ _ _ _ _ _ _ c.next_four.ensures c.in-Bytes.is in
     let g = careful in let l = letters in let put = c.put_some in (
       g.within,
       put.auto.out ∙ l.2,

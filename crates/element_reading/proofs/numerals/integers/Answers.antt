@@ -24,12 +24,12 @@ overflow_add-count c = let r = c.loop-z.invariant in omega (arith, r.few, r.high
 
 pub loop-z-smaller-in-Cut : goal.loop-z-smaller-in-Cut
 loop-z-smaller-in-Cut c =
-    let quick-cut : let x = c.z-1.given.0 in let a = c.args in CutAt (WordOf a.kind x.0) a.source a.s.now c.loop-z.i x.1.0 = (subst (QuickWordIs _ _ _ _) c.in-Cut.is c.quick_word.ensures).found in
+    let quick-cut : let a = c.args in CutAt (WordOf a.kind c.in-Cut.z) a.source a.s.now c.loop-z.i c.in-Cut.next = (subst (QuickWordIs _ _ _ _) c.in-Cut.is c.quick_word.ensures).found in
     let u = quick-cut in omega (arith, u.low, u.high)
 
 pub loop-z-preserved-in-Cut : goal.loop-z-preserved-in-Cut
 loop-z-preserved-in-Cut c =
-    let quick-cut : let x = c.z-1.given.0 in let a = c.args in CutAt (WordOf a.kind x.0) a.source a.s.now c.loop-z.i x.1.0 = (subst (QuickWordIs _ _ _ _) c.in-Cut.is c.quick_word.ensures).found in
+    let quick-cut : let a = c.args in CutAt (WordOf a.kind c.in-Cut.z) a.source a.s.now c.loop-z.i c.in-Cut.next = (subst (QuickWordIs _ _ _ _) c.in-Cut.is c.quick_word.ensures).found in
     let kind = c.args.kind in
     word_cut (whole kind) (integers-are kind) c.loop-z.invariant (quick-adds kind c.put.ensures (search rules)) quick-cut (sym (none-bad _))
 
@@ -41,7 +41,7 @@ shape_of-scratch-in-Last c = ap length c.put-in-Last.ensures ∙ simp length-set
 
 pub returns-in-Last : goal.returns-in-Last
 returns-in-Last c =
-    let quick-last : let x = c.z-in-Last-1.given.0 in let a = c.args in LastAt (WordOf a.kind x.0) a.source a.s.now c.loop-z.i x.1.0 = (subst (QuickWordIs _ _ _ _) c.in-Last.is c.quick_word.ensures).found in
+    let quick-last : let a = c.args in LastAt (WordOf a.kind c.in-Last.z) a.source a.s.now c.loop-z.i c.in-Last.next = (subst (QuickWordIs _ _ _ _) c.in-Last.is c.quick_word.ensures).found in
     let kind = c.args.kind in
     let number = c.loop-z.number in
     word-last (whole kind) (integers-are kind) c.loop-z.invariant (quick-adds kind c.put-in-Last.ensures (search rules)) quick-last
@@ -66,7 +66,7 @@ shape_of-scratch-in-Last-integer_piece c =
 
 pub returns-in-Last-integer_piece : goal.returns-in-Last-integer_piece
 returns-in-Last-integer_piece c =
-    let last : let x = c.word-1.given.0 in LastAt (λ w. x.0 ≡ feed fresh w) c.args.source c.args.s.now c.loop-z.i x.1.0 = (subst (NumeralIs _ _ _) c.in-Last-integer_piece.is c.integer_piece.ensures).found in
+    let last : LastAt (λ w. c.in-Last-integer_piece.word ≡ feed fresh w) c.args.source c.args.s.now c.loop-z.i c.in-Last-integer_piece.next = (subst (NumeralIs _ _ _) c.in-Last-integer_piece.is c.integer_piece.ensures).found in
     word-last _ (integers-are c.args.kind) c.loop-z.invariant c.add_integer.ensures last c.with_last.ensures
 
 pub add_integer-added-requires : goal.add_integer-added-requires
@@ -74,10 +74,10 @@ add_integer-added-requires c = let r = c.loop-z.invariant in omega (arith, r.few
 
 pub loop-z-smaller : goal.loop-z-smaller
 loop-z-smaller c =
-    let cut : let x = c.word-in-Cut-integer_piece-1.given.0 in CutAt (λ w. x.0 ≡ feed fresh w) c.args.source c.args.s.now c.loop-z.i x.1.0 = (subst (NumeralIs _ _ _) c.in-Cut-integer_piece.is c.integer_piece.ensures).found in
+    let cut : CutAt (λ w. c.in-Cut-integer_piece.word ≡ feed fresh w) c.args.source c.args.s.now c.loop-z.i c.in-Cut-integer_piece.next = (subst (NumeralIs _ _ _) c.in-Cut-integer_piece.is c.integer_piece.ensures).found in
     let u = cut in omega (arith, u.low, u.high)
 
 pub loop-z-preserved : goal.loop-z-preserved
 loop-z-preserved c =
-    let cut : let x = c.word-in-Cut-integer_piece-1.given.0 in CutAt (λ w. x.0 ≡ feed fresh w) c.args.source c.args.s.now c.loop-z.i x.1.0 = (subst (NumeralIs _ _ _) c.in-Cut-integer_piece.is c.integer_piece.ensures).found in
+    let cut : CutAt (λ w. c.in-Cut-integer_piece.word ≡ feed fresh w) c.args.source c.args.s.now c.loop-z.i c.in-Cut-integer_piece.next = (subst (NumeralIs _ _ _) c.in-Cut-integer_piece.is c.integer_piece.ensures).found in
     word_cut _ (integers-are c.args.kind) c.loop-z.invariant c.add_integer-added.ensures cut c.first_bad-number.ensures

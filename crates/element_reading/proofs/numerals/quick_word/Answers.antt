@@ -15,13 +15,13 @@ use Rattle.element_reading.proofs.numerals.quick_word.Goals as goal
 
 pub overflow_add-result : goal.overflow_add-result
 overflow_add-result c =
-    let digits : let a = c.args in let x = c.z-1.given.0 in QuickAt a.kind a.s.now a.from x.0 x.1.0 = (let a = c.args in
+    let digits : let a = c.args in QuickAt a.kind a.s.now a.from c.in-Value.z c.in-Value.end = (let a = c.args in
     quick-at a.kind a.s.now a.from c.if-s-from.false _ _ (sym c.quick_integer.ensures ∙ c.in-Value.is)) in
     let q = digits in let h = q.within in search rules
 
 pub returns-then-is_space : goal.returns-then-is_space
 returns-then-is_space c =
-    let digits : let a = c.args in let x = c.z-1.given.0 in QuickAt a.kind a.s.now a.from x.0 x.1.0 = (let a = c.args in
+    let digits : let a = c.args in QuickAt a.kind a.s.now a.from c.in-Value.z c.in-Value.end = (let a = c.args in
     quick-at a.kind a.s.now a.from c.if-s-from.false _ _ (sym c.quick_integer.ensures ∙ c.in-Value.is)) in
     let integer : let z = c.in-Value.z in z ≡ to_z w64 (of_z w64 z) = let z = c.in-Value.z in let e : to_z w64 (of_z w64 z) ≡ z = search rules in sym e in
     let a = c.args in
@@ -30,13 +30,13 @@ returns-then-is_space c =
 
 pub ends_at-requires : goal.ends_at-requires
 ends_at-requires c =
-    let digits : let a = c.args in let x = c.z-1.given.0 in QuickAt a.kind a.s.now a.from x.0 x.1.0 = (let a = c.args in
+    let digits : let a = c.args in QuickAt a.kind a.s.now a.from c.in-Value.z c.in-Value.end = (let a = c.args in
     quick-at a.kind a.s.now a.from c.if-s-from.false _ _ (sym c.quick_integer.ensures ∙ c.in-Value.is)) in
     digits.within
 
 pub returns-in-At : goal.returns-in-At
 returns-in-At c =
-    let digits : let a = c.args in let x = c.z-1.given.0 in QuickAt a.kind a.s.now a.from x.0 x.1.0 = (let a = c.args in
+    let digits : let a = c.args in QuickAt a.kind a.s.now a.from c.in-Value.z c.in-Value.end = (let a = c.args in
     quick-at a.kind a.s.now a.from c.if-s-from.false _ _ (sym c.quick_integer.ensures ∙ c.in-Value.is)) in
     let integer : let z = c.in-Value.z in z ≡ to_z w64 (of_z w64 z) = let z = c.in-Value.z in let e : to_z w64 (of_z w64 z) ≡ z = search rules in sym e in
     let a = c.args in

@@ -34,7 +34,7 @@ shape_of-scratch-in-Last c =
 
 pub returns-in-Last : goal.returns-in-Last
 returns-in-Last c =
-    let last : let x = c.word-1.given.0 in LastAt (λ w. x.0 ≡ spelling w) c.args.source c.args.s.now c.loop-word.i x.1.0 = (subst (PieceIs _ _ _) c.in-Last.is c.truth_piece.ensures).found in
+    let last : LastAt (λ w. c.in-Last.word ≡ spelling w) c.args.source c.args.s.now c.loop-word.i c.in-Last.next = (subst (PieceIs _ _ _) c.in-Last.is c.truth_piece.ensures).found in
     word-last Truths truths-are c.loop-word.invariant c.add_truth.ensures last c.with_last.ensures
 
 pub add_truth-added-requires : goal.add_truth-added-requires
@@ -42,10 +42,10 @@ add_truth-added-requires c = let r = c.loop-word.invariant in omega (arith, r.fe
 
 pub loop-word-smaller : goal.loop-word-smaller
 loop-word-smaller c =
-    let cut : let x = c.word-in-Cut-1.given.0 in CutAt (λ w. x.0 ≡ spelling w) c.args.source c.args.s.now c.loop-word.i x.1.0 = (subst (PieceIs _ _ _) c.in-Cut.is c.truth_piece.ensures).found in
+    let cut : CutAt (λ w. c.in-Cut.word ≡ spelling w) c.args.source c.args.s.now c.loop-word.i c.in-Cut.next = (subst (PieceIs _ _ _) c.in-Cut.is c.truth_piece.ensures).found in
     let u = cut in omega (arith, u.low, u.high)
 
 pub loop-word-preserved : goal.loop-word-preserved
 loop-word-preserved c =
-    let cut : let x = c.word-in-Cut-1.given.0 in CutAt (λ w. x.0 ≡ spelling w) c.args.source c.args.s.now c.loop-word.i x.1.0 = (subst (PieceIs _ _ _) c.in-Cut.is c.truth_piece.ensures).found in
+    let cut : CutAt (λ w. c.in-Cut.word ≡ spelling w) c.args.source c.args.s.now c.loop-word.i c.in-Cut.next = (subst (PieceIs _ _ _) c.in-Cut.is c.truth_piece.ensures).found in
     word_cut Truths truths-are c.loop-word.invariant c.add_truth-added.ensures cut c.first_bad-number.ensures
