@@ -242,6 +242,8 @@ def walk(f, root_names, text):
                 new = pick(f.clauses[step], "".join("." + p for p in tail[1:]))
                 if new:
                     tail = ["ensures"] + new.split(".")[1:]
+            if tail and tail[0] == "inv" and step in [l[0] for l in f.loops.values()]:
+                tail[0] = "invariant"
             if tail and tail[0] in ("taken", "left") and re.search(r"^if-|-test$", step):
                 tail[0] = "true" if tail[0] == "taken" else "false"
             return top + "." + ".".join([step] + tail)
@@ -452,6 +454,8 @@ def in_the_call(f, text):
         if a in known:
             place[k] = needs.index(known[a])
     found = []
+    helpers = set(re.findall(r"(?m)^(" + IDENT + r") : \(" + IDENT + r" : (?:tie\.[A-Z]|[A-Z]\w*\))", text)) | set(re.findall(r"(?m)^(" + IDENT + r") : (?:tie\.[A-Z][^→\n]*|[A-Z]\w*) →", text))
+    args = [f"(λ c. {a} c)" if a in helpers and a not in known else a for a in args]
     for k, a in enumerate(args):
         if a in known or not a.startswith("(λ") or re.fullmatch(r"\(λ c(?: κs)?\. search rules\)", a):
             continue

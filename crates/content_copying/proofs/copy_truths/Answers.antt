@@ -50,7 +50,7 @@ overflow_add-count c =
     let z : ℤ = c.in-Element.z in
     let read : InText Truths c.args.s.now c.loop-z.at c.in-Element.next (z ∷ []) = subst (FindsOne _) c.in-Element.is c.text_truth.ensures in
     let copied : let a = c.args in WordsTo Truths truth_text a.s.now a.from c.in-Element.next a.row.now a.first c.put_truth-o.new.row c.put_truth-o.result (c.loop-z.count + 1) = (let e : to_z w64 (of_z w64 z) ≡ z = search rules in
-    words_more truths-worded c.loop-z.inv read (puts-as (ap (λ (y : ℤ). truth_text y ++ (32 ∷ [])) e) c.put_truth-o.ensures)) in
+    words_more truths-worded c.loop-z.invariant read (puts-as (ap (λ (y : ℤ). truth_text y ++ (32 ∷ [])) e) c.put_truth-o.ensures)) in
     let r = copied in let h = words-few r in let k = r.puts.room in search rules
 
 pub bounds-s-next : goal.bounds-s-next
@@ -61,7 +61,7 @@ overflow_sub-result c =
     let z : ℤ = c.in-Element.z in
     let read : InText Truths c.args.s.now c.loop-z.at c.in-Element.next (z ∷ []) = subst (FindsOne _) c.in-Element.is c.text_truth.ensures in
     let copied : let a = c.args in WordsTo Truths truth_text a.s.now a.from c.in-Element.next a.row.now a.first c.put_truth-o.new.row c.put_truth-o.result (c.loop-z.count + 1) = (let e : to_z w64 (of_z w64 z) ≡ z = search rules in
-    words_more truths-worded c.loop-z.inv read (puts-as (ap (λ (y : ℤ). truth_text y ++ (32 ∷ [])) e) c.put_truth-o.ensures)) in
+    words_more truths-worded c.loop-z.invariant read (puts-as (ap (λ (y : ℤ). truth_text y ++ (32 ∷ [])) e) c.put_truth-o.ensures)) in
     omega (arith, words-few copied)
 
 pub shape_of-row-then-s-next-ne32 : goal.shape_of-row-then-s-next-ne32
@@ -69,7 +69,7 @@ shape_of-row-then-s-next-ne32 c =
     let z : ℤ = c.in-Element.z in
     let read : InText Truths c.args.s.now c.loop-z.at c.in-Element.next (z ∷ []) = subst (FindsOne _) c.in-Element.is c.text_truth.ensures in
     let copied : let a = c.args in WordsTo Truths truth_text a.s.now a.from c.in-Element.next a.row.now a.first c.put_truth-o.new.row c.put_truth-o.result (c.loop-z.count + 1) = (let e : to_z w64 (of_z w64 z) ≡ z = search rules in
-    words_more truths-worded c.loop-z.inv read (puts-as (ap (λ (y : ℤ). truth_text y ++ (32 ∷ [])) e) c.put_truth-o.ensures)) in
+    words_more truths-worded c.loop-z.invariant read (puts-as (ap (λ (y : ℤ). truth_text y ++ (32 ∷ [])) e) c.put_truth-o.ensures)) in
     copied.puts.long
 
 pub returns-then-s-next-ne32 : goal.returns-then-s-next-ne32
@@ -77,7 +77,7 @@ returns-then-s-next-ne32 c =
     let z : ℤ = c.in-Element.z in
     let read : InText Truths c.args.s.now c.loop-z.at c.in-Element.next (z ∷ []) = subst (FindsOne _) c.in-Element.is c.text_truth.ensures in
     let copied : let a = c.args in WordsTo Truths truth_text a.s.now a.from c.in-Element.next a.row.now a.first c.put_truth-o.new.row c.put_truth-o.result (c.loop-z.count + 1) = (let e : to_z w64 (of_z w64 z) ≡ z = search rules in
-    words_more truths-worded c.loop-z.inv read (puts-as (ap (λ (y : ℤ). truth_text y ++ (32 ∷ [])) e) c.put_truth-o.ensures)) in
+    words_more truths-worded c.loop-z.invariant read (puts-as (ap (λ (y : ℤ). truth_text y ++ (32 ∷ [])) e) c.put_truth-o.ensures)) in
     words-moved truths-worded copied (omega arith)
 
 pub overflow_add-at : goal.overflow_add-at
@@ -94,5 +94,5 @@ loop-z-preserved c =
     let z : ℤ = c.in-Element.z in
     let read : InText Truths c.args.s.now c.loop-z.at c.in-Element.next (z ∷ []) = subst (FindsOne _) c.in-Element.is c.text_truth.ensures in
     let copied : let a = c.args in WordsTo Truths truth_text a.s.now a.from c.in-Element.next a.row.now a.first c.put_truth-o.new.row c.put_truth-o.result (c.loop-z.count + 1) = (let e : to_z w64 (of_z w64 z) ≡ z = search rules in
-    words_more truths-worded c.loop-z.inv read (puts-as (ap (λ (y : ℤ). truth_text y ++ (32 ∷ [])) e) c.put_truth-o.ensures)) in
+    words_more truths-worded c.loop-z.invariant read (puts-as (ap (λ (y : ℤ). truth_text y ++ (32 ∷ [])) e) c.put_truth-o.ensures)) in
     words-between truths-worded copied (omega arith) c.if-s-next-ne32.false

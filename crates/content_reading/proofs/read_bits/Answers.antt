@@ -39,7 +39,7 @@ pub bit_byte-requires : goal.bit_byte-requires
 bit_byte-requires c =
     let s : List ℕ = c.args.s.now in
     let bytes : AreBytes s = are-bytes s (λ i. omega (arith, c.shared_slice_known-1.given i)) in
-    let inside : c.loop-at.at + 8 ≤ length s = omega (arith, c.loop-at.inv.0.spells.inside) in
+    let inside : c.loop-at.at + 8 ≤ length s = omega (arith, c.loop-at.invariant.0.spells.inside) in
     let found : Passes is_bit s c.loop-at.at c.first_of-n.result × (c.first_of-n.result ≤ 8) = passes-ahead s c.loop-at.at bytes inside c.eight_bytes-x.ensures c.no_bits.ensures c.first_of-n.ensures in
     (omega arith, found.1)
 
@@ -47,7 +47,7 @@ pub overflow_add-result : goal.overflow_add-result
 overflow_add-result c =
     let s : List ℕ = c.args.s.now in
     let bytes : AreBytes s = are-bytes s (λ i. omega (arith, c.shared_slice_known-1.given i)) in
-    let inside : c.loop-at.at + 8 ≤ length s = omega (arith, c.loop-at.inv.0.spells.inside) in
+    let inside : c.loop-at.at + 8 ≤ length s = omega (arith, c.loop-at.invariant.0.spells.inside) in
     let found : Passes is_bit s c.loop-at.at c.first_of-n.result × (c.first_of-n.result ≤ 8) = passes-ahead s c.loop-at.at bytes inside c.eight_bytes-x.ensures c.no_bits.ensures c.first_of-n.ensures in
     let turned : (n b : ℕ) → c.first_of-n.result ≡ n → (n ≡ 0 → ⊥) → BitByte c.eight_bytes-x.result n b → let l = c.loop-at in let a = c.args in BitsTo a.s.now a.from (l.at + n) a.row.now a.first (set l.row l.o b) (l.o + 1) = λ n b e some byte. (let r = c.loop-at.invariant in
     bits-more r.0 r.1 bytes inside (omega arith) c.eight_bytes-x.ensures (subst (Passes is_bit _ _) e found.0) (omega (arith, e, found.1)) some byte) in
@@ -58,7 +58,7 @@ pub overflow_sub-result : goal.overflow_sub-result
 overflow_sub-result c =
     let s : List ℕ = c.args.s.now in
     let bytes : AreBytes s = are-bytes s (λ i. omega (arith, c.shared_slice_known-1.given i)) in
-    let inside : c.loop-at.at + 8 ≤ length s = omega (arith, c.loop-at.inv.0.spells.inside) in
+    let inside : c.loop-at.at + 8 ≤ length s = omega (arith, c.loop-at.invariant.0.spells.inside) in
     let found : Passes is_bit s c.loop-at.at c.first_of-n.result × (c.first_of-n.result ≤ 8) = passes-ahead s c.loop-at.at bytes inside c.eight_bytes-x.ensures c.no_bits.ensures c.first_of-n.ensures in
     let turned : (n b : ℕ) → c.first_of-n.result ≡ n → (n ≡ 0 → ⊥) → BitByte c.eight_bytes-x.result n b → let l = c.loop-at in let a = c.args in BitsTo a.s.now a.from (l.at + n) a.row.now a.first (set l.row l.o b) (l.o + 1) = λ n b e some byte. (let r = c.loop-at.invariant in
     bits-more r.0 r.1 bytes inside (omega arith) c.eight_bytes-x.ensures (subst (Passes is_bit _ _) e found.0) (omega (arith, e, found.1)) some byte) in
@@ -69,7 +69,7 @@ pub overflow_add-result-then-n-lt8 : goal.overflow_add-result-then-n-lt8
 overflow_add-result-then-n-lt8 c =
     let s : List ℕ = c.args.s.now in
     let bytes : AreBytes s = are-bytes s (λ i. omega (arith, c.shared_slice_known-1.given i)) in
-    let inside : c.loop-at.at + 8 ≤ length s = omega (arith, c.loop-at.inv.0.spells.inside) in
+    let inside : c.loop-at.at + 8 ≤ length s = omega (arith, c.loop-at.invariant.0.spells.inside) in
     let found : Passes is_bit s c.loop-at.at c.first_of-n.result × (c.first_of-n.result ≤ 8) = passes-ahead s c.loop-at.at bytes inside c.eight_bytes-x.ensures c.no_bits.ensures c.first_of-n.ensures in
     let turned : (n b : ℕ) → c.first_of-n.result ≡ n → (n ≡ 0 → ⊥) → BitByte c.eight_bytes-x.result n b → let l = c.loop-at in let a = c.args in BitsTo a.s.now a.from (l.at + n) a.row.now a.first (set l.row l.o b) (l.o + 1) = λ n b e some byte. (let r = c.loop-at.invariant in
     bits-more r.0 r.1 bytes inside (omega arith) c.eight_bytes-x.ensures (subst (Passes is_bit _ _) e found.0) (omega (arith, e, found.1)) some byte) in
@@ -80,7 +80,7 @@ pub overflow_add-result-then-n-lt8-2 : goal.overflow_add-result-then-n-lt8-2
 overflow_add-result-then-n-lt8-2 c =
     let s : List ℕ = c.args.s.now in
     let bytes : AreBytes s = are-bytes s (λ i. omega (arith, c.shared_slice_known-1.given i)) in
-    let inside : c.loop-at.at + 8 ≤ length s = omega (arith, c.loop-at.inv.0.spells.inside) in
+    let inside : c.loop-at.at + 8 ≤ length s = omega (arith, c.loop-at.invariant.0.spells.inside) in
     let found : Passes is_bit s c.loop-at.at c.first_of-n.result × (c.first_of-n.result ≤ 8) = passes-ahead s c.loop-at.at bytes inside c.eight_bytes-x.ensures c.no_bits.ensures c.first_of-n.ensures in
     let turned : (n b : ℕ) → c.first_of-n.result ≡ n → (n ≡ 0 → ⊥) → BitByte c.eight_bytes-x.result n b → let l = c.loop-at in let a = c.args in BitsTo a.s.now a.from (l.at + n) a.row.now a.first (set l.row l.o b) (l.o + 1) = λ n b e some byte. (let r = c.loop-at.invariant in
     bits-more r.0 r.1 bytes inside (omega arith) c.eight_bytes-x.ensures (subst (Passes is_bit _ _) e found.0) (omega (arith, e, found.1)) some byte) in
@@ -91,7 +91,7 @@ pub shape_of-row-then-n-lt8 : goal.shape_of-row-then-n-lt8
 shape_of-row-then-n-lt8 c =
     let s : List ℕ = c.args.s.now in
     let bytes : AreBytes s = are-bytes s (λ i. omega (arith, c.shared_slice_known-1.given i)) in
-    let inside : c.loop-at.at + 8 ≤ length s = omega (arith, c.loop-at.inv.0.spells.inside) in
+    let inside : c.loop-at.at + 8 ≤ length s = omega (arith, c.loop-at.invariant.0.spells.inside) in
     let found : Passes is_bit s c.loop-at.at c.first_of-n.result × (c.first_of-n.result ≤ 8) = passes-ahead s c.loop-at.at bytes inside c.eight_bytes-x.ensures c.no_bits.ensures c.first_of-n.ensures in
     let turned : (n b : ℕ) → c.first_of-n.result ≡ n → (n ≡ 0 → ⊥) → BitByte c.eight_bytes-x.result n b → let l = c.loop-at in let a = c.args in BitsTo a.s.now a.from (l.at + n) a.row.now a.first (set l.row l.o b) (l.o + 1) = λ n b e some byte. (let r = c.loop-at.invariant in
     bits-more r.0 r.1 bytes inside (omega arith) c.eight_bytes-x.ensures (subst (Passes is_bit _ _) e found.0) (omega (arith, e, found.1)) some byte) in
@@ -102,7 +102,7 @@ pub returns-then-n-lt8 : goal.returns-then-n-lt8
 returns-then-n-lt8 c =
     let s : List ℕ = c.args.s.now in
     let bytes : AreBytes s = are-bytes s (λ i. omega (arith, c.shared_slice_known-1.given i)) in
-    let inside : c.loop-at.at + 8 ≤ length s = omega (arith, c.loop-at.inv.0.spells.inside) in
+    let inside : c.loop-at.at + 8 ≤ length s = omega (arith, c.loop-at.invariant.0.spells.inside) in
     let found : Passes is_bit s c.loop-at.at c.first_of-n.result × (c.first_of-n.result ≤ 8) = passes-ahead s c.loop-at.at bytes inside c.eight_bytes-x.ensures c.no_bits.ensures c.first_of-n.ensures in
     let turned : (n b : ℕ) → c.first_of-n.result ≡ n → (n ≡ 0 → ⊥) → BitByte c.eight_bytes-x.result n b → let l = c.loop-at in let a = c.args in BitsTo a.s.now a.from (l.at + n) a.row.now a.first (set l.row l.o b) (l.o + 1) = λ n b e some byte. (let r = c.loop-at.invariant in
     bits-more r.0 r.1 bytes inside (omega arith) c.eight_bytes-x.ensures (subst (Passes is_bit _ _) e found.0) (omega (arith, e, found.1)) some byte) in
@@ -113,7 +113,7 @@ pub overflow_add-o : goal.overflow_add-o
 overflow_add-o c =
     let s : List ℕ = c.args.s.now in
     let bytes : AreBytes s = are-bytes s (λ i. omega (arith, c.shared_slice_known-1.given i)) in
-    let inside : c.loop-at.at + 8 ≤ length s = omega (arith, c.loop-at.inv.0.spells.inside) in
+    let inside : c.loop-at.at + 8 ≤ length s = omega (arith, c.loop-at.invariant.0.spells.inside) in
     let found : Passes is_bit s c.loop-at.at c.first_of-n.result × (c.first_of-n.result ≤ 8) = passes-ahead s c.loop-at.at bytes inside c.eight_bytes-x.ensures c.no_bits.ensures c.first_of-n.ensures in
     let turned : (n b : ℕ) → c.first_of-n.result ≡ n → (n ≡ 0 → ⊥) → BitByte c.eight_bytes-x.result n b → let l = c.loop-at in let a = c.args in BitsTo a.s.now a.from (l.at + n) a.row.now a.first (set l.row l.o b) (l.o + 1) = λ n b e some byte. (let r = c.loop-at.invariant in
     bits-more r.0 r.1 bytes inside (omega arith) c.eight_bytes-x.ensures (subst (Passes is_bit _ _) e found.0) (omega (arith, e, found.1)) some byte) in
@@ -124,7 +124,7 @@ pub overflow_add-at : goal.overflow_add-at
 overflow_add-at c =
     let s : List ℕ = c.args.s.now in
     let bytes : AreBytes s = are-bytes s (λ i. omega (arith, c.shared_slice_known-1.given i)) in
-    let inside : c.loop-at.at + 8 ≤ length s = omega (arith, c.loop-at.inv.0.spells.inside) in
+    let inside : c.loop-at.at + 8 ≤ length s = omega (arith, c.loop-at.invariant.0.spells.inside) in
     let found : Passes is_bit s c.loop-at.at c.first_of-n.result × (c.first_of-n.result ≤ 8) = passes-ahead s c.loop-at.at bytes inside c.eight_bytes-x.ensures c.no_bits.ensures c.first_of-n.ensures in
     let turned : (n b : ℕ) → c.first_of-n.result ≡ n → (n ≡ 0 → ⊥) → BitByte c.eight_bytes-x.result n b → let l = c.loop-at in let a = c.args in BitsTo a.s.now a.from (l.at + n) a.row.now a.first (set l.row l.o b) (l.o + 1) = λ n b e some byte. (let r = c.loop-at.invariant in
     bits-more r.0 r.1 bytes inside (omega arith) c.eight_bytes-x.ensures (subst (Passes is_bit _ _) e found.0) (omega (arith, e, found.1)) some byte) in
@@ -135,7 +135,7 @@ pub loop-at-smaller : goal.loop-at-smaller
 loop-at-smaller c =
     let s : List ℕ = c.args.s.now in
     let bytes : AreBytes s = are-bytes s (λ i. omega (arith, c.shared_slice_known-1.given i)) in
-    let inside : c.loop-at.at + 8 ≤ length s = omega (arith, c.loop-at.inv.0.spells.inside) in
+    let inside : c.loop-at.at + 8 ≤ length s = omega (arith, c.loop-at.invariant.0.spells.inside) in
     let found : Passes is_bit s c.loop-at.at c.first_of-n.result × (c.first_of-n.result ≤ 8) = passes-ahead s c.loop-at.at bytes inside c.eight_bytes-x.ensures c.no_bits.ensures c.first_of-n.ensures in
     let turned : (n b : ℕ) → c.first_of-n.result ≡ n → (n ≡ 0 → ⊥) → BitByte c.eight_bytes-x.result n b → let l = c.loop-at in let a = c.args in BitsTo a.s.now a.from (l.at + n) a.row.now a.first (set l.row l.o b) (l.o + 1) = λ n b e some byte. (let r = c.loop-at.invariant in
     bits-more r.0 r.1 bytes inside (omega arith) c.eight_bytes-x.ensures (subst (Passes is_bit _ _) e found.0) (omega (arith, e, found.1)) some byte) in
@@ -146,7 +146,7 @@ pub loop-at-preserved : goal.loop-at-preserved
 loop-at-preserved c =
     let s : List ℕ = c.args.s.now in
     let bytes : AreBytes s = are-bytes s (λ i. omega (arith, c.shared_slice_known-1.given i)) in
-    let inside : c.loop-at.at + 8 ≤ length s = omega (arith, c.loop-at.inv.0.spells.inside) in
+    let inside : c.loop-at.at + 8 ≤ length s = omega (arith, c.loop-at.invariant.0.spells.inside) in
     let found : Passes is_bit s c.loop-at.at c.first_of-n.result × (c.first_of-n.result ≤ 8) = passes-ahead s c.loop-at.at bytes inside c.eight_bytes-x.ensures c.no_bits.ensures c.first_of-n.ensures in
     let turned : (n b : ℕ) → c.first_of-n.result ≡ n → (n ≡ 0 → ⊥) → BitByte c.eight_bytes-x.result n b → let l = c.loop-at in let a = c.args in BitsTo a.s.now a.from (l.at + n) a.row.now a.first (set l.row l.o b) (l.o + 1) = λ n b e some byte. (let r = c.loop-at.invariant in
     bits-more r.0 r.1 bytes inside (omega arith) c.eight_bytes-x.ensures (subst (Passes is_bit _ _) e found.0) (omega (arith, e, found.1)) some byte) in
@@ -154,16 +154,16 @@ loop-at-preserved c =
     let r = (c).loop.inv in (more, omega (arith, r.1, r.0.spells.onward))
 
 pub shape_of-row-then-at-from : goal.shape_of-row-then-at-from
-shape_of-row-then-at-from c = c.loop-at.inv.0.puts.long
+shape_of-row-then-at-from c = c.loop-at.invariant.0.puts.long
 
 pub returns-then-at-from : goal.returns-then-at-from
-returns-then-at-from c = puts-before c.loop-at.inv.0.puts
+returns-then-at-from c = puts-before c.loop-at.invariant.0.puts
 
 pub overflow_sub-result-2 : goal.overflow_sub-result-2
-overflow_sub-result-2 c = c.loop-at.inv.0.spells.onward
+overflow_sub-result-2 c = c.loop-at.invariant.0.spells.onward
 
 pub shape_of-row : goal.shape_of-row
-shape_of-row c = c.loop-at.inv.0.puts.long
+shape_of-row c = c.loop-at.invariant.0.puts.long
 
 pub returns : goal.returns
-returns c = bits-moved c.loop-at.inv.0 c.if-at-from.false
+returns c = bits-moved c.loop-at.invariant.0 c.if-at-from.false

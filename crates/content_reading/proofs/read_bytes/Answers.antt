@@ -63,19 +63,19 @@ overflow_add-count c = let r = c.loop-at.invariant in let h = r.few in let k = r
 pub overflow_add-at : goal.overflow_add-at
 overflow_add-at c =
     let digits : ℕ = c.three_at-run.result.count in
-    let room : c.loop-at.at + digits + 1 ≤ length c.args.s.now = omega (arith, c.three_at-run.ensures.1, c.loop-at.inv.spells.inside) in
+    let room : c.loop-at.at + digits + 1 ≤ length c.args.s.now = omega (arith, c.three_at-run.ensures.1, c.loop-at.invariant.spells.inside) in
     let h = room in search rules
 
 pub bounds-s-at : goal.bounds-s-at
 bounds-s-at c =
     let digits : ℕ = c.three_at-run.result.count in
-    let room : c.loop-at.at + digits + 1 ≤ length c.args.s.now = omega (arith, c.three_at-run.ensures.1, c.loop-at.inv.spells.inside) in
+    let room : c.loop-at.at + digits + 1 ≤ length c.args.s.now = omega (arith, c.three_at-run.ensures.1, c.loop-at.invariant.spells.inside) in
     omega (arith, room)
 
 pub overflow_add-result : goal.overflow_add-result
 overflow_add-result c =
     let digits : ℕ = c.three_at-run.result.count in
-    let room : c.loop-at.at + digits + 1 ≤ length c.args.s.now = omega (arith, c.three_at-run.ensures.1, c.loop-at.inv.spells.inside) in
+    let room : c.loop-at.at + digits + 1 ≤ length c.args.s.now = omega (arith, c.three_at-run.ensures.1, c.loop-at.invariant.spells.inside) in
     let h = room in search rules
 
 pub shape_of-row-then-s-at-ne32 : goal.shape_of-row-then-s-at-ne32
@@ -95,19 +95,19 @@ returns-then-s-at-ne32 c =
 pub overflow_add-at-in-loop-at : goal.overflow_add-at-in-loop-at
 overflow_add-at-in-loop-at c =
     let digits : ℕ = c.three_at-run.result.count in
-    let room : c.loop-at.at + digits + 1 ≤ length c.args.s.now = omega (arith, c.three_at-run.ensures.1, c.loop-at.inv.spells.inside) in
+    let room : c.loop-at.at + digits + 1 ≤ length c.args.s.now = omega (arith, c.three_at-run.ensures.1, c.loop-at.invariant.spells.inside) in
     let h = room in search rules
 
 pub overflow_add-at-in-loop-at-2 : goal.overflow_add-at-in-loop-at-2
 overflow_add-at-in-loop-at-2 c =
     let digits : ℕ = c.three_at-run.result.count in
-    let room : c.loop-at.at + digits + 1 ≤ length c.args.s.now = omega (arith, c.three_at-run.ensures.1, c.loop-at.inv.spells.inside) in
+    let room : c.loop-at.at + digits + 1 ≤ length c.args.s.now = omega (arith, c.three_at-run.ensures.1, c.loop-at.invariant.spells.inside) in
     let h = room in search rules
 
 pub loop-at-smaller : goal.loop-at-smaller
 loop-at-smaller c =
     let digits : ℕ = c.three_at-run.result.count in
-    let room : c.loop-at.at + digits + 1 ≤ length c.args.s.now = omega (arith, c.three_at-run.ensures.1, c.loop-at.inv.spells.inside) in
+    let room : c.loop-at.at + digits + 1 ≤ length c.args.s.now = omega (arith, c.three_at-run.ensures.1, c.loop-at.invariant.spells.inside) in
     omega (arith, room)
 
 pub loop-at-preserved : goal.loop-at-preserved
@@ -116,5 +116,5 @@ loop-at-preserved c =
     let value : ℕ = c.three_at-run.result.number in
     let found : InText (Whole false W1) c.args.s.now c.loop-at.at (c.loop-at.at + digits) (with_sign false value ∷ []) = let run = c.three_at-run.ensures in run-in-text run.0 c.if-digits-eq0.false (omega (arith, run.1)) UnsignedByte (omega arith) in
     let put : let l = c.loop-at in Puts l.row l.o (to_digits 256 1 (number (Whole false W1) (with_sign false value))) (set l.row l.o value) (l.o + 1) = byte-puts c.loop-at.row c.loop-at.o value (omega arith) (omega arith) in
-    let room : c.loop-at.at + digits + 1 ≤ length c.args.s.now = omega (arith, c.three_at-run.ensures.1, c.loop-at.inv.spells.inside) in
+    let room : c.loop-at.at + digits + 1 ≤ length c.args.s.now = omega (arith, c.three_at-run.ensures.1, c.loop-at.invariant.spells.inside) in
     words_more (whole_words false W1) c.loop-at.invariant found put (omega (arith, room)) c.if-s-at-ne32.false (omega arith)

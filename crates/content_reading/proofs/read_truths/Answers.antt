@@ -80,7 +80,7 @@ pub returns-then-s-at-ne32 : goal.returns-then-s-at-ne32
 returns-then-s-at-ne32 c =
     let letter : ℕ = get_or c.args.s.now c.loop-at.at 0 in
     let some : truth_number letter ≡ 3 → ⊥ = λ e. c.if-z-eq3.false (c.truth_number-z.ensures ∙ e) in
-    let found : InText Truths c.args.s.now c.loop-at.at (c.loop-at.at + 1) (pos (truth_number letter) ∷ []) = truth-in-text _ _ (omega (arith, c.loop-at.inv.spells.inside)) some in
+    let found : InText Truths c.args.s.now c.loop-at.at (c.loop-at.at + 1) (pos (truth_number letter) ∷ []) = truth-in-text _ _ (omega (arith, c.loop-at.invariant.spells.inside)) some in
     let put : let l = c.loop-at in Puts l.row l.o (to_digits 256 1 (number Truths (pos (truth_number letter)))) (set l.row l.o c.truth_byte.result) (l.o + 1) = (let l = c.loop-at in
     truth-puts l.row l.o (truth_number letter) c.truth_byte.result (c.truth_byte.ensures ∙ ap (λ (n : ℕ). truth_byte (pos n)) c.truth_number-z.ensures) (omega arith)) in
     words-moved truth-words c.loop-at.invariant found put truth-form
@@ -95,7 +95,7 @@ pub loop-at-preserved : goal.loop-at-preserved
 loop-at-preserved c =
     let letter : ℕ = get_or c.args.s.now c.loop-at.at 0 in
     let some : truth_number letter ≡ 3 → ⊥ = λ e. c.if-z-eq3.false (c.truth_number-z.ensures ∙ e) in
-    let found : InText Truths c.args.s.now c.loop-at.at (c.loop-at.at + 1) (pos (truth_number letter) ∷ []) = truth-in-text _ _ (omega (arith, c.loop-at.inv.spells.inside)) some in
+    let found : InText Truths c.args.s.now c.loop-at.at (c.loop-at.at + 1) (pos (truth_number letter) ∷ []) = truth-in-text _ _ (omega (arith, c.loop-at.invariant.spells.inside)) some in
     let put : let l = c.loop-at in Puts l.row l.o (to_digits 256 1 (number Truths (pos (truth_number letter)))) (set l.row l.o c.truth_byte.result) (l.o + 1) = (let l = c.loop-at in
     truth-puts l.row l.o (truth_number letter) c.truth_byte.result (c.truth_byte.ensures ∙ ap (λ (n : ℕ). truth_byte (pos n)) c.truth_number-z.ensures) (omega arith)) in
     let r = c.loop-at.invariant in

@@ -14,3 +14,6 @@ overflow_add-result-2 c =
 
 pub overflow_add-result : goal.overflow_add-result
 overflow_add-result c = record { fits = omega (arith, (overflow_add-result-2 c).fits) }
+
+pub returns : goal.returns
+returns c = letter-is c.args.b c.ranges.b.fits

@@ -58,7 +58,7 @@ begin_row-b-requires c =
     let cols-at : Columns = c.args.cols in
     let are : Within (listed cols-at) = c.requires.0 in
     let few : cols-at.count ≤ 64 = omega (arith, are.few, listed-length cols-at) in
-    (c.rows.inv.0.inside, omega (arith, are.some, listed-length cols-at), few)
+    (c.rows.invariant.0.inside, omega (arith, are.some, listed-length cols-at), few)
 
 pub loop-i-init : goal.loop-i-init
 unfolding read-start
@@ -135,7 +135,7 @@ pub overflow_add-size : goal.overflow_add-size
 overflow_add-size c =
     let rows_of : AtRows = c in
     let r = rows_of in
-    omega (arith, r.before.before.before.before.before.before.before.before.before.before.before.before.frame-size.ensures.0, c.loop-i.inv.1.short, c.loop-i.inv.0.upto, (are r).few)
+    omega (arith, r.before.before.before.before.before.before.before.before.before.before.before.before.frame-size.ensures.0, c.loop-i.invariant.1.short, c.loop-i.invariant.0.upto, (are r).few)
 
 pub overflow_sub-room : goal.overflow_sub-room
 overflow_sub-room c =
@@ -195,11 +195,11 @@ after-requires-in-rows c =
     let flags-at : ℕ = c.in-Row.f in
     let body_at : ℕ = c.in-Row.a in
     let past : length (listed (cols-at rows_of)) ≤ c.loop-i.i = omega (arith, listed-length (cols-at rows_of), c.loop-i-test.false) in
-    let all_read : read_cells (from_at rows_of) (listed (cols-at rows_of)) (flags_in (from_at rows_of) (cols-at rows_of).count flags-at) 0 (drop body_at (s-at rows_of)) ≡ good (c.loop-i.inv.0.acc, drop c.loop-i.at (s-at rows_of)) = (let r = rows_of in
-    read-end (from_at r) (listed (cols-at r)) _ (s-at r) body_at c.loop-i.at c.loop-i.i c.loop-i.inv.0 past) in
+    let all_read : read_cells (from_at rows_of) (listed (cols-at rows_of)) (flags_in (from_at rows_of) (cols-at rows_of).count flags-at) 0 (drop body_at (s-at rows_of)) ≡ good (c.loop-i.invariant.0.acc, drop c.loop-i.at (s-at rows_of)) = (let r = rows_of in
+    read-end (from_at r) (listed (cols-at r)) _ (s-at r) body_at c.loop-i.at c.loop-i.i c.loop-i.invariant.0 past) in
     let next-at : ℕ = c.in-Closed.a in
     let begun-of : Begun = c in
-    let whole : read_row (from_at (rows_of begun-of)) (listed (cols-at (rows_of begun-of))) (drop (rows_of begun-of).rows.cursor.at (s-at (rows_of begun-of))) ≡ good (c.loop-i.inv.0.acc, drop next-at (s-at (rows_of begun-of))) = (let b = begun-of in
+    let whole : read_row (from_at (rows_of begun-of)) (listed (cols-at (rows_of begun-of))) (drop (rows_of begun-of).rows.cursor.at (s-at (rows_of begun-of))) ≡ good (c.loop-i.invariant.0.acc, drop next-at (s-at (rows_of begun-of))) = (let b = begun-of in
     let r = rows_of b in
     let z = c.end_row-e in
     begun b ∙ cells-closed (from_at r) (listed (cols-at r)) _ (s-at r) (body_at b) _ _ all_read z.result z.ensures next-at c.in-Closed.is) in
@@ -219,11 +219,11 @@ moved-more-requires c =
     let flags-at : ℕ = c.in-Row.f in
     let body_at : ℕ = c.in-Row.a in
     let past : length (listed (cols-at rows_of)) ≤ c.loop-i.i = omega (arith, listed-length (cols-at rows_of), c.loop-i-test.false) in
-    let all_read : read_cells (from_at rows_of) (listed (cols-at rows_of)) (flags_in (from_at rows_of) (cols-at rows_of).count flags-at) 0 (drop body_at (s-at rows_of)) ≡ good (c.loop-i.inv.0.acc, drop c.loop-i.at (s-at rows_of)) = (let r = rows_of in
-    read-end (from_at r) (listed (cols-at r)) _ (s-at r) body_at c.loop-i.at c.loop-i.i c.loop-i.inv.0 past) in
+    let all_read : read_cells (from_at rows_of) (listed (cols-at rows_of)) (flags_in (from_at rows_of) (cols-at rows_of).count flags-at) 0 (drop body_at (s-at rows_of)) ≡ good (c.loop-i.invariant.0.acc, drop c.loop-i.at (s-at rows_of)) = (let r = rows_of in
+    read-end (from_at r) (listed (cols-at r)) _ (s-at r) body_at c.loop-i.at c.loop-i.i c.loop-i.invariant.0 past) in
     let next-at : ℕ = c.in-Closed.a in
     let begun-of : Begun = c in
-    let whole : read_row (from_at (rows_of begun-of)) (listed (cols-at (rows_of begun-of))) (drop (rows_of begun-of).rows.cursor.at (s-at (rows_of begun-of))) ≡ good (c.loop-i.inv.0.acc, drop next-at (s-at (rows_of begun-of))) = (let b = begun-of in
+    let whole : read_row (from_at (rows_of begun-of)) (listed (cols-at (rows_of begun-of))) (drop (rows_of begun-of).rows.cursor.at (s-at (rows_of begun-of))) ≡ good (c.loop-i.invariant.0.acc, drop next-at (s-at (rows_of begun-of))) = (let b = begun-of in
     let r = rows_of b in
     let z = c.end_row-e in
     begun b ∙ cells-closed (from_at r) (listed (cols-at r)) _ (s-at r) (body_at b) _ _ all_read z.result z.ensures next-at c.in-Closed.is) in
@@ -282,11 +282,11 @@ rows-smaller c =
     let flags-at : ℕ = c.in-Row.f in
     let body_at : ℕ = c.in-Row.a in
     let past : length (listed (cols-at rows_of)) ≤ c.loop-i.i = omega (arith, listed-length (cols-at rows_of), c.loop-i-test.false) in
-    let all_read : read_cells (from_at rows_of) (listed (cols-at rows_of)) (flags_in (from_at rows_of) (cols-at rows_of).count flags-at) 0 (drop body_at (s-at rows_of)) ≡ good (c.loop-i.inv.0.acc, drop c.loop-i.at (s-at rows_of)) = (let r = rows_of in
-    read-end (from_at r) (listed (cols-at r)) _ (s-at r) body_at c.loop-i.at c.loop-i.i c.loop-i.inv.0 past) in
+    let all_read : read_cells (from_at rows_of) (listed (cols-at rows_of)) (flags_in (from_at rows_of) (cols-at rows_of).count flags-at) 0 (drop body_at (s-at rows_of)) ≡ good (c.loop-i.invariant.0.acc, drop c.loop-i.at (s-at rows_of)) = (let r = rows_of in
+    read-end (from_at r) (listed (cols-at r)) _ (s-at r) body_at c.loop-i.at c.loop-i.i c.loop-i.invariant.0 past) in
     let next-at : ℕ = c.in-Closed.a in
     let begun-of : Begun = c in
-    let whole : read_row (from_at (rows_of begun-of)) (listed (cols-at (rows_of begun-of))) (drop (rows_of begun-of).rows.cursor.at (s-at (rows_of begun-of))) ≡ good (c.loop-i.inv.0.acc, drop next-at (s-at (rows_of begun-of))) = (let b = begun-of in
+    let whole : read_row (from_at (rows_of begun-of)) (listed (cols-at (rows_of begun-of))) (drop (rows_of begun-of).rows.cursor.at (s-at (rows_of begun-of))) ≡ good (c.loop-i.invariant.0.acc, drop next-at (s-at (rows_of begun-of))) = (let b = begun-of in
     let r = rows_of b in
     let z = c.end_row-e in
     begun b ∙ cells-closed (from_at r) (listed (cols-at r)) _ (s-at r) (body_at b) _ _ all_read z.result z.ensures next-at c.in-Closed.is) in
@@ -345,11 +345,11 @@ rows-preserved c =
     let flags-at : ℕ = c.in-Row.f in
     let body_at : ℕ = c.in-Row.a in
     let past : length (listed (cols-at rows_of)) ≤ c.loop-i.i = omega (arith, listed-length (cols-at rows_of), c.loop-i-test.false) in
-    let all_read : read_cells (from_at rows_of) (listed (cols-at rows_of)) (flags_in (from_at rows_of) (cols-at rows_of).count flags-at) 0 (drop body_at (s-at rows_of)) ≡ good (c.loop-i.inv.0.acc, drop c.loop-i.at (s-at rows_of)) = (let r = rows_of in
-    read-end (from_at r) (listed (cols-at r)) _ (s-at r) body_at c.loop-i.at c.loop-i.i c.loop-i.inv.0 past) in
+    let all_read : read_cells (from_at rows_of) (listed (cols-at rows_of)) (flags_in (from_at rows_of) (cols-at rows_of).count flags-at) 0 (drop body_at (s-at rows_of)) ≡ good (c.loop-i.invariant.0.acc, drop c.loop-i.at (s-at rows_of)) = (let r = rows_of in
+    read-end (from_at r) (listed (cols-at r)) _ (s-at r) body_at c.loop-i.at c.loop-i.i c.loop-i.invariant.0 past) in
     let next-at : ℕ = c.in-Closed.a in
     let begun-of : Begun = c in
-    let whole : read_row (from_at (rows_of begun-of)) (listed (cols-at (rows_of begun-of))) (drop (rows_of begun-of).rows.cursor.at (s-at (rows_of begun-of))) ≡ good (c.loop-i.inv.0.acc, drop next-at (s-at (rows_of begun-of))) = (let b = begun-of in
+    let whole : read_row (from_at (rows_of begun-of)) (listed (cols-at (rows_of begun-of))) (drop (rows_of begun-of).rows.cursor.at (s-at (rows_of begun-of))) ≡ good (c.loop-i.invariant.0.acc, drop next-at (s-at (rows_of begun-of))) = (let b = begun-of in
     let r = rows_of b in
     let z = c.end_row-e in
     begun b ∙ cells-closed (from_at r) (listed (cols-at r)) _ (s-at r) (body_at b) _ _ all_read z.result z.ensures next-at c.in-Closed.is) in
@@ -428,7 +428,7 @@ returns-after-rows c =
     let n = c.start in
     let z = c.start-2 in
     let f = rows-further m.ensures.moves_rows.moved are (omega (arith, n.ensures)) (omega (arith, n.ensures, z.ensures.0)) in
-    c.rows.inv.0.further out_at (f.further out_at (rows_start from_at to_at (listed cols-at) s-at out_at _ _ _ n.ensures z.ensures))) in
+    c.rows.invariant.0.further out_at (f.further out_at (rows_start from_at to_at (listed cols-at) s-at out_at _ _ _ n.ensures z.ensures))) in
     let d = acceptance from_at to_at (listed cols-at) are s-at out_at c.rows.out c.rows.cursor.at c.rows.p.rows c.rows.p.bytes done_at
     (sym c.at_end.ensures ∙ c.rows-test.false) in record { answer_value = rw c.rows.invariant.1 d.answers; place_value = rw c.rows.invariant.1 d.stands; out_after = d.leaves }
 
@@ -445,7 +445,7 @@ returns-in-Refused c =
     let n = c.start in
     let z = c.start-2 in
     let f = rows-further m.ensures.moves_rows.moved are (omega (arith, n.ensures)) (omega (arith, n.ensures, z.ensures.0)) in
-    c.rows.inv.0.further out_at (f.further out_at (rows_start from_at to_at (listed cols-at) s-at out_at _ _ _ n.ensures z.ensures))) in
+    c.rows.invariant.0.further out_at (f.further out_at (rows_start from_at to_at (listed cols-at) s-at out_at _ _ _ n.ensures z.ensures))) in
     let left : at_end from_at (drop c.rows.cursor.at s-at) ≡ false = sym c.at_end.ensures ∙ c.rows-test.true in
     let stopped : (n k : ℕ) → read_row from_at (listed cols-at) (drop c.rows.cursor.at s-at) ≡ bad (at k n) → Finished from_at to_at (listed cols-at) s-at out_at c.rows.out (record { number = n; row = c.rows.p.rows; column = k; rows = c.rows.p.rows; bytes = c.rows.p.bytes }) c.rows.cursor.at = λ n k e. (
     read-refusal from_at to_at (listed cols-at) are s-at out_at c.rows.out c.rows.cursor.at c.rows.p.rows c.rows.p.bytes done_at left (at k n) e) in
@@ -466,7 +466,7 @@ returns-in-Refused-t c =
     let n = c.start in
     let z = c.start-2 in
     let f = rows-further m.ensures.moves_rows.moved are (omega (arith, n.ensures)) (omega (arith, n.ensures, z.ensures.0)) in
-    c.rows.inv.0.further out_at (f.further out_at (rows_start from_at to_at (listed cols-at) s-at out_at _ _ _ n.ensures z.ensures))) in
+    c.rows.invariant.0.further out_at (f.further out_at (rows_start from_at to_at (listed cols-at) s-at out_at _ _ _ n.ensures z.ensures))) in
     let left : at_end from_at (drop c.rows.cursor.at s-at) ≡ false = sym c.at_end.ensures ∙ c.rows-test.true in
     let rows_of : AtRows = c in
     let flags-at : ℕ = c.in-Row.f in
@@ -499,7 +499,7 @@ returns-in-Refused-e c =
     let n = c.start in
     let z = c.start-2 in
     let f = rows-further m.ensures.moves_rows.moved are (omega (arith, n.ensures)) (omega (arith, n.ensures, z.ensures.0)) in
-    c.rows.inv.0.further out_at (f.further out_at (rows_start from_at to_at (listed cols-at) s-at out_at _ _ _ n.ensures z.ensures))) in
+    c.rows.invariant.0.further out_at (f.further out_at (rows_start from_at to_at (listed cols-at) s-at out_at _ _ _ n.ensures z.ensures))) in
     let left : at_end from_at (drop c.rows.cursor.at s-at) ≡ false = sym c.at_end.ensures ∙ c.rows-test.true in
     let rows_of : AtRows = c in
     let flags-at : ℕ = c.in-Row.f in
@@ -511,8 +511,8 @@ returns-in-Refused-e c =
     let stopped : (n k : ℕ) → read_row from_at (listed cols-at) (drop c.rows.cursor.at s-at) ≡ bad (at k n) → Finished from_at to_at (listed cols-at) s-at out_at c.rows.out (record { number = n; row = c.rows.p.rows; column = k; rows = c.rows.p.rows; bytes = c.rows.p.bytes }) c.rows.cursor.at = λ n k e. (
     read-refusal from_at to_at (listed cols-at) are s-at out_at c.rows.out c.rows.cursor.at c.rows.p.rows c.rows.p.bytes done_at left (at k n) e) in
     let past : length (listed (cols-at rows_of)) ≤ c.loop-i.i = omega (arith, listed-length (cols-at rows_of), c.loop-i-test.false) in
-    let all_read : read_cells (from_at rows_of) (listed (cols-at rows_of)) (flags_in (from_at rows_of) (cols-at rows_of).count flags-at) 0 (drop body_at (s-at rows_of)) ≡ good (c.loop-i.inv.0.acc, drop c.loop-i.at (s-at rows_of)) = (let r = rows_of in
-    read-end (from_at r) (listed (cols-at r)) _ (s-at r) body_at c.loop-i.at c.loop-i.i c.loop-i.inv.0 past) in
+    let all_read : read_cells (from_at rows_of) (listed (cols-at rows_of)) (flags_in (from_at rows_of) (cols-at rows_of).count flags-at) 0 (drop body_at (s-at rows_of)) ≡ good (c.loop-i.invariant.0.acc, drop c.loop-i.at (s-at rows_of)) = (let r = rows_of in
+    read-end (from_at r) (listed (cols-at r)) _ (s-at r) body_at c.loop-i.at c.loop-i.i c.loop-i.invariant.0 past) in
     let r = rows_of in
     let e = c.end_row-e in
     let q = cells_open (from_at r) (listed (cols-at r)) _ (s-at r) body_at _ _ all_read e.result e.ensures c.in-Refused-e.n c.in-Refused-e.is in
@@ -525,11 +525,11 @@ returns-then-m-ne-NONE c =
     let flags-at : ℕ = c.in-Row.f in
     let body_at : ℕ = c.in-Row.a in
     let past : length (listed (cols-at rows_of)) ≤ c.loop-i.i = omega (arith, listed-length (cols-at rows_of), c.loop-i-test.false) in
-    let all_read : read_cells (from_at rows_of) (listed (cols-at rows_of)) (flags_in (from_at rows_of) (cols-at rows_of).count flags-at) 0 (drop body_at (s-at rows_of)) ≡ good (c.loop-i.inv.0.acc, drop c.loop-i.at (s-at rows_of)) = (let r = rows_of in
-    read-end (from_at r) (listed (cols-at r)) _ (s-at r) body_at c.loop-i.at c.loop-i.i c.loop-i.inv.0 past) in
+    let all_read : read_cells (from_at rows_of) (listed (cols-at rows_of)) (flags_in (from_at rows_of) (cols-at rows_of).count flags-at) 0 (drop body_at (s-at rows_of)) ≡ good (c.loop-i.invariant.0.acc, drop c.loop-i.at (s-at rows_of)) = (let r = rows_of in
+    read-end (from_at r) (listed (cols-at r)) _ (s-at r) body_at c.loop-i.at c.loop-i.i c.loop-i.invariant.0 past) in
     let next-at : ℕ = c.in-Closed.a in
     let begun-of : Begun = c in
-    let whole : read_row (from_at (rows_of begun-of)) (listed (cols-at (rows_of begun-of))) (drop (rows_of begun-of).rows.cursor.at (s-at (rows_of begun-of))) ≡ good (c.loop-i.inv.0.acc, drop next-at (s-at (rows_of begun-of))) = (let b = begun-of in
+    let whole : read_row (from_at (rows_of begun-of)) (listed (cols-at (rows_of begun-of))) (drop (rows_of begun-of).rows.cursor.at (s-at (rows_of begun-of))) ≡ good (c.loop-i.invariant.0.acc, drop next-at (s-at (rows_of begun-of))) = (let b = begun-of in
     let r = rows_of b in
     let z = c.end_row-e in
     begun b ∙ cells-closed (from_at r) (listed (cols-at r)) _ (s-at r) (body_at b) _ _ all_read z.result z.ensures next-at c.in-Closed.is) in
@@ -548,11 +548,11 @@ returns-then-room-size c =
     let flags-at : ℕ = c.in-Row.f in
     let body_at : ℕ = c.in-Row.a in
     let past : length (listed (cols-at rows_of)) ≤ c.loop-i.i = omega (arith, listed-length (cols-at rows_of), c.loop-i-test.false) in
-    let all_read : read_cells (from_at rows_of) (listed (cols-at rows_of)) (flags_in (from_at rows_of) (cols-at rows_of).count flags-at) 0 (drop body_at (s-at rows_of)) ≡ good (c.loop-i.inv.0.acc, drop c.loop-i.at (s-at rows_of)) = (let r = rows_of in
-    read-end (from_at r) (listed (cols-at r)) _ (s-at r) body_at c.loop-i.at c.loop-i.i c.loop-i.inv.0 past) in
+    let all_read : read_cells (from_at rows_of) (listed (cols-at rows_of)) (flags_in (from_at rows_of) (cols-at rows_of).count flags-at) 0 (drop body_at (s-at rows_of)) ≡ good (c.loop-i.invariant.0.acc, drop c.loop-i.at (s-at rows_of)) = (let r = rows_of in
+    read-end (from_at r) (listed (cols-at r)) _ (s-at r) body_at c.loop-i.at c.loop-i.i c.loop-i.invariant.0 past) in
     let next-at : ℕ = c.in-Closed.a in
     let begun-of : Begun = c in
-    let whole : read_row (from_at (rows_of begun-of)) (listed (cols-at (rows_of begun-of))) (drop (rows_of begun-of).rows.cursor.at (s-at (rows_of begun-of))) ≡ good (c.loop-i.inv.0.acc, drop next-at (s-at (rows_of begun-of))) = (let b = begun-of in
+    let whole : read_row (from_at (rows_of begun-of)) (listed (cols-at (rows_of begun-of))) (drop (rows_of begun-of).rows.cursor.at (s-at (rows_of begun-of))) ≡ good (c.loop-i.invariant.0.acc, drop next-at (s-at (rows_of begun-of))) = (let b = begun-of in
     let r = rows_of b in
     let z = c.end_row-e in
     begun b ∙ cells-closed (from_at r) (listed (cols-at r)) _ (s-at r) (body_at b) _ _ all_read z.result z.ensures next-at c.in-Closed.is) in
@@ -578,7 +578,7 @@ returns-then-room-size c =
     let r = rows_of b in
     let d = room-refusal (from_at r) (to_at r) (listed (cols-at r)) (are r) (s-at r) (out_at r) r.rows.out r.rows.cursor.at r.rows.p.rows r.rows.p.bytes (done_at r)
     (left b)
-    c.loop-i.inv.0.acc _ whole row_at written_at
+    c.loop-i.invariant.0.acc _ whole row_at written_at
     (omega (arith, size-at, c.if-room-size.true)) in record { answer_value = d.answers; place_value = d.stands; out_after = d.leaves }
 
 pub shape_of-out-after-rows : goal.shape_of-out-after-rows
@@ -593,17 +593,17 @@ shape_of-out-after-rows c =
     let n = c.start in
     let z = c.start-2 in
     let f = rows-further m.ensures.moves_rows.moved are (omega (arith, n.ensures)) (omega (arith, n.ensures, z.ensures.0)) in
-    c.rows.inv.0.further out_at (f.further out_at (rows_start from_at to_at (listed cols-at) s-at out_at _ _ _ n.ensures z.ensures))) in
+    c.rows.invariant.0.further out_at (f.further out_at (rows_start from_at to_at (listed cols-at) s-at out_at _ _ _ n.ensures z.ensures))) in
     done_at.long
 
 pub shape_of-scratch-after-rows : goal.shape_of-scratch-after-rows
 shape_of-scratch-after-rows c =
-    let scratch-kept : length c.rows.scratch ≡ length c.args.scratch.now = c.rows.inv.2 ∙ c.moved-first.ensures.scratch_len_unchanged in
+    let scratch-kept : length c.rows.scratch ≡ length c.args.scratch.now = c.rows.invariant.2 ∙ c.moved-first.ensures.scratch_len_unchanged in
     scratch-kept
 
 pub shape_of-row-after-rows : goal.shape_of-row-after-rows
 shape_of-row-after-rows c =
-    let row_kept : length c.rows.row ≡ length c.args.row.now = c.rows.inv.3 ∙ c.moved-first.ensures.row_len_unchanged in
+    let row_kept : length c.rows.row ≡ length c.args.row.now = c.rows.invariant.3 ∙ c.moved-first.ensures.row_len_unchanged in
     row_kept
 
 pub shape_of-out-in-Refused : goal.shape_of-out-in-Refused
@@ -618,17 +618,17 @@ shape_of-out-in-Refused c =
     let n = c.start in
     let z = c.start-2 in
     let f = rows-further m.ensures.moves_rows.moved are (omega (arith, n.ensures)) (omega (arith, n.ensures, z.ensures.0)) in
-    c.rows.inv.0.further out_at (f.further out_at (rows_start from_at to_at (listed cols-at) s-at out_at _ _ _ n.ensures z.ensures))) in
+    c.rows.invariant.0.further out_at (f.further out_at (rows_start from_at to_at (listed cols-at) s-at out_at _ _ _ n.ensures z.ensures))) in
     done_at.long
 
 pub shape_of-scratch-in-Refused : goal.shape_of-scratch-in-Refused
 shape_of-scratch-in-Refused c =
-    let scratch-kept : length c.rows.scratch ≡ length c.args.scratch.now = c.rows.inv.2 ∙ c.moved-first.ensures.scratch_len_unchanged in
+    let scratch-kept : length c.rows.scratch ≡ length c.args.scratch.now = c.rows.invariant.2 ∙ c.moved-first.ensures.scratch_len_unchanged in
     scratch-kept
 
 pub shape_of-row-in-Refused : goal.shape_of-row-in-Refused
 shape_of-row-in-Refused c =
-    let row_kept : length c.rows.row ≡ length c.args.row.now = c.rows.inv.3 ∙ c.moved-first.ensures.row_len_unchanged in
+    let row_kept : length c.rows.row ≡ length c.args.row.now = c.rows.invariant.3 ∙ c.moved-first.ensures.row_len_unchanged in
     row_kept
 
 pub shape_of-out-in-Refused-t : goal.shape_of-out-in-Refused-t

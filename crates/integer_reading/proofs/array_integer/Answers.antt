@@ -51,7 +51,7 @@ returns c =
     subst (λ (g : Bool). AfterMinus g s a.at first.result) c.is_signed.ensures first.ensures in
     let found : FiguresAt s first.result n run.result.number = word-figures bytes (omega arith) minus eight.ensures refl run.ensures (omega arith) n ends in
     let value : to_z w64 (of_z w64 c.with_sign.result) ≡ with_sign (not (eqb first.result a.at)) run.result.number =
-    to_z-of_z (record { sfits = c.with_sign.type_inv }) ∙ c.with_sign.ensures in (
+    to_z-of_z {w = w64} (record { sfits = c.with_sign.type_inv }) ∙ c.with_sign.ensures in (
       subst (λ (z : ℤ). InText (Whole (is_signed k) (width_of k)) s a.at (a.at + run.result.count) (z ∷ [])) (sym value)
           (subst (λ (e : ℕ). InText (Whole (is_signed k) (width_of k)) s a.at e (with_sign (not (eqb first.result a.at)) run.result.number ∷ [])) ends
           (integer-in-text k minus found (λ z. omega arith) (omega (arith, run.ensures.few)) (omega (arith, c.top_of.ensures)))),

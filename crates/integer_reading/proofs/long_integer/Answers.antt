@@ -19,6 +19,5 @@ returns c =
     let z : ℤ = c.in-Element.z in
     let end : ℕ = c.in-Element.end in
     let value : to_z w64 (of_z w64 z) ≡ z = search rules in
-    let found : InText (Whole (is_signed k) (width_of k)) a.s.now a.at end (z ∷ []) =
-    subst (FindsOne _) c.in-Element.is c.text_integer.ensures in
+    let found : InText (Whole (is_signed k) (width_of k)) a.s.now a.at end (z ∷ []) = c.in-Element.ensures in
     (subst (λ (y : ℤ). InText (Whole (is_signed k) (width_of k)) a.s.now a.at end (y ∷ [])) (sym value) found, omega arith)

@@ -34,6 +34,6 @@ returns c =
     let minus : AfterMinus (is_signed k) a.s.now a.at first.result =
     subst (λ (g : Bool). AfterMinus g a.s.now a.at first.result) c.is_signed.ensures first.ensures in
     let value : to_z w64 (of_z w64 c.with_sign.result) ≡ with_sign (not (eqb first.result a.at)) run.result.number =
-    to_z-of_z (record { sfits = c.with_sign.type_inv }) ∙ c.with_sign.ensures in
+    to_z-of_z {w = w64} (record { sfits = c.with_sign.type_inv }) ∙ c.with_sign.ensures in
     subst (λ (z : ℤ). InText (Whole (is_signed k) (width_of k)) a.s.now a.at (first.result + run.result.count) (z ∷ [])) (sym value)
     (integer-in-text k minus run.ensures.0 c.if-count-eq0.false run.ensures.1 (omega (arith, c.top_of.ensures)))

@@ -53,3 +53,13 @@ pub returns : goal.returns
 returns c =
     let l = c.loop-i in
     ap planned (l.invariant.0 ∙ steps_all (listed c.args.cols) l.i (omega (arith, l.invariant.1, c.loop-i-test.false, listed-length c.args.cols)))
+
+pub bounds-cols-i : goal.bounds-cols-i
+bounds-cols-i c =
+    let columns : Columns = c.args.cols in
+    omega (arith, c.loop-i-test.true, c.requires.few, listed-length columns)
+
+pub bounds-list-i : goal.bounds-list-i
+bounds-list-i c =
+    let columns : Columns = c.args.cols in
+    omega (arith, c.loop-i-test.true, c.requires.few, listed-length columns)

@@ -64,10 +64,10 @@ compare_cell-p-requires c =
     (inv.0.inside, inv.1.inside, bounded, omega (arith, inv.3, c.requires.3), omega (arith, inv.4, c.requires.4))
 
 pub shape_of-a-in-Unread : goal.shape_of-a-in-Unread
-shape_of-a-in-Unread c = c.compare_cell-p.ensures.a_len_unchanged ∙ c.loop-i.inv.3
+shape_of-a-in-Unread c = c.compare_cell-p.ensures.a_len_unchanged ∙ c.loop-i.invariant.3
 
 pub shape_of-b-in-Unread : goal.shape_of-b-in-Unread
-shape_of-b-in-Unread c = c.compare_cell-p.ensures.b_len_unchanged ∙ c.loop-i.inv.4
+shape_of-b-in-Unread c = c.compare_cell-p.ensures.b_len_unchanged ∙ c.loop-i.invariant.4
 
 pub returns-in-Unread : goal.returns-in-Unread
 returns-in-Unread c =
@@ -76,9 +76,9 @@ returns-in-Unread c =
     let next-column : drop c.loop-i.i (listed (cols-of start)) ≡ column ∷ drop (suc c.loop-i.i) (listed (cols-of start)) = listed_next (cols-of start) c.loop-i.i c.loop-i-test.true in
     let unread : OneUnread (read_cell start.args.one.from column c.flag_of-flag.result (drop c.loop-i.at start.args.first.now)) (read_cell start.args.two.from column c.flag_of-other.result (drop c.loop-i.place start.args.second.now)) → OneUnread (cells_end start.args.one.from (listed (cols-of start)) (flags_of start) (drop start.args.one.at start.args.first.now)) (cells_end start.args.two.from (listed (cols-of start)) (others-of start) (drop start.args.two.at start.args.second.now)) = λ h. (unread-cells start.args.one.from start.args.two.from (listed (cols-of start)) (flags_of start) (others-of start) start.args.first.now start.args.second.now
     start.args.one.at start.args.two.at c.loop-i.i _ _ h
-    (λ n e. read-stop start.args.one.from (listed (cols-of start)) (flags_of start) start.args.first.now start.args.one.at c.loop-i.at c.loop-i.i c.loop-i.inv.0
+    (λ n e. read-stop start.args.one.from (listed (cols-of start)) (flags_of start) start.args.first.now start.args.one.at c.loop-i.at c.loop-i.i c.loop-i.invariant.0
     column next-column c.flag_of-flag.result c.flag_of-flag.ensures n e)
-    (λ n e. read-stop start.args.two.from (listed (cols-of start)) (others-of start) start.args.second.now start.args.two.at c.loop-i.place c.loop-i.i c.loop-i.inv.1
+    (λ n e. read-stop start.args.two.from (listed (cols-of start)) (others-of start) start.args.second.now start.args.two.at c.loop-i.place c.loop-i.i c.loop-i.invariant.1
     column next-column c.flag_of-other.result c.flag_of-other.ensures n e)) in
     let p = c.compare_cell-p in
     record {
@@ -109,7 +109,7 @@ loop-i-preserved c =
     let more : c.loop-i.i < length (listed (cols-of start)) = omega (arith, listed-length (cols-of start), c.loop-i-test.true) in
     let next-column : drop c.loop-i.i (listed (cols-of start)) ≡ column ∷ drop (suc c.loop-i.i) (listed (cols-of start)) = listed_next (cols-of start) c.loop-i.i c.loop-i-test.true in
     let a = start in
-    let inv = c.loop-i.inv in
+    let inv = c.loop-i.invariant in
     let p = c.compare_cell-p in
     let f = c.flag_of-flag in
     let g = c.flag_of-other in

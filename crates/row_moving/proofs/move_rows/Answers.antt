@@ -69,7 +69,7 @@ loop-i-init c =
     let within : (c.rows.place ≤ body_at) × (body_at ≤ length s-at) = (
     let g = c.begin_quickly-b in
     begun-within from_at (listed cols-at) cols-at.count (listed-length cols-at) s-at c.rows.place g.result g.ensures flags-at body_at c.in-Row.is) in
-    let roomy : c.start_size-first.result ≤ length c.rows.row = omega (arith, c.start_size-first.ensures.0, c.rows.inv.2, c.requires.within.2) in
+    let roomy : c.start_size-first.result ≤ length c.rows.row = omega (arith, c.start_size-first.ensures.0, c.rows.invariant.2, c.requires.within.2) in
     (read-start from_at (listed cols-at) _ s-at body_at within.1, moved-start to_at (listed cols-at) c.rows.row _ roomy, refl)
 
 pub flag_of-flagged-requires : goal.flag_of-flagged-requires
@@ -124,7 +124,7 @@ move_cell-requires c =
     (
       l.inv.0.inside,
       listed-bound cols-at l.i are c.loop-i-test.true,
-      omega (arith, l.inv.2, c.rows.inv.1, c.requires.within.1),
+      omega (arith, l.inv.2, c.rows.invariant.1, c.requires.within.1),
       omega (arith, l.inv.1.puts.room, l.inv.1.puts.long, declined.long),
     )
 
@@ -228,7 +228,7 @@ overflow_add-rows c =
     let begun-of : Begun = c in
     let next-at : ℕ = c.in-Closed.next in
     let past : length (listed cols-at) ≤ c.loop-i.i = omega (arith, listed-length cols-at, c.loop-i-test.false) in
-    let whole : read_row (from_at (rows_of begun-of)) (listed (cols-at (rows_of begun-of))) (drop (rows_of begun-of).rows.place (s-at (rows_of begun-of))) ≡ good (c.loop-i.inv.0.acc, drop next-at (s-at (rows_of begun-of))) = (
+    let whole : read_row (from_at (rows_of begun-of)) (listed (cols-at (rows_of begun-of))) (drop (rows_of begun-of).rows.place (s-at (rows_of begun-of))) ≡ good (c.loop-i.invariant.0.acc, drop next-at (s-at (rows_of begun-of))) = (
     let b = begun-of in
     let r = b in
     let l = c.loop-i in
@@ -249,7 +249,7 @@ rows-smaller c =
     let begun-of : Begun = c in
     let next-at : ℕ = c.in-Closed.next in
     let past : length (listed cols-at) ≤ c.loop-i.i = omega (arith, listed-length cols-at, c.loop-i-test.false) in
-    let whole : read_row (from_at (rows_of begun-of)) (listed (cols-at (rows_of begun-of))) (drop (rows_of begun-of).rows.place (s-at (rows_of begun-of))) ≡ good (c.loop-i.inv.0.acc, drop next-at (s-at (rows_of begun-of))) = (
+    let whole : read_row (from_at (rows_of begun-of)) (listed (cols-at (rows_of begun-of))) (drop (rows_of begun-of).rows.place (s-at (rows_of begun-of))) ≡ good (c.loop-i.invariant.0.acc, drop next-at (s-at (rows_of begun-of))) = (
     let b = begun-of in
     let r = b in
     let l = c.loop-i in
@@ -268,7 +268,7 @@ rows-preserved c =
     let begun-of : Begun = c in
     let next-at : ℕ = c.in-Closed.next in
     let past : length (listed cols-at) ≤ c.loop-i.i = omega (arith, listed-length cols-at, c.loop-i-test.false) in
-    let whole : read_row (from_at (rows_of begun-of)) (listed (cols-at (rows_of begun-of))) (drop (rows_of begun-of).rows.place (s-at (rows_of begun-of))) ≡ good (c.loop-i.inv.0.acc, drop next-at (s-at (rows_of begun-of))) = (
+    let whole : read_row (from_at (rows_of begun-of)) (listed (cols-at (rows_of begun-of))) (drop (rows_of begun-of).rows.place (s-at (rows_of begun-of))) ≡ good (c.loop-i.invariant.0.acc, drop next-at (s-at (rows_of begun-of))) = (
     let b = begun-of in
     let r = b in
     let l = c.loop-i in
@@ -284,7 +284,7 @@ rows-preserved c =
     let row-bytes : List ℕ = (let l = c.loop-i in
     let r = rows_of begun-of in
     start_bytes (to_at r) (cols-at r).count l.nulls ++ (l.inv.1.w ++ write_end (to_at r))) in
-    let written_at : write_row (to_at (rows_of begun-of)) (listed (cols-at (rows_of begun-of))) c.loop-i.inv.0.acc ≡ good row-bytes = (
+    let written_at : write_row (to_at (rows_of begun-of)) (listed (cols-at (rows_of begun-of))) c.loop-i.invariant.0.acc ≡ good row-bytes = (
     let l = c.loop-i in
     let r = rows_of begun-of in
     moved_row (to_at r) (listed (cols-at r)) l.inv.0.acc _ _ _ _ l.nulls l.i (cols-at r).count l.inv.1 past
@@ -410,15 +410,15 @@ returns-in_default-end_row c =
     row-begun from_at (listed cols-at) cols-at.count (listed-length cols-at) s-at c.rows.place g.result g.ensures flags-at body_at c.in-Row.is) in
     let past : length (listed cols-at) ≤ c.loop-i.i = omega (arith, listed-length cols-at, c.loop-i-test.false) in
     let LeftAt : Type 0 = RowLeft from_at to_at (listed cols-at) s-at c.rows.place c.rows.out c.rows.bytes (length c.args.row.now) in
-    let loop-scratch : length c.loop-i.scratch ≡ length (c).args.scratch.now = c.loop-i.inv.2 ∙ c.rows.inv.1 in
-    let loop-row : length c.loop-i.row ≡ length (c).args.row.now = c.loop-i.inv.1.puts.long ∙ c.rows.inv.2 in
+    let loop-scratch : length c.loop-i.scratch ≡ length (c).args.scratch.now = c.loop-i.invariant.2 ∙ c.rows.invariant.1 in
+    let loop-row : length c.loop-i.row ≡ length (c).args.row.now = c.loop-i.invariant.1.puts.long ∙ c.rows.invariant.2 in
     let unended : LeftAt = (
     let l = c.loop-i in
     let z = c.end_row in
     let q = read-end from_at (listed cols-at) _ s-at body_at l.at l.i l.invariant.0 past in
     unread-left from_at to_at (listed cols-at) s-at c.rows.place c.rows.out c.rows.bytes _ _
     (begun ∙ cells_open from_at (listed cols-at) _ s-at body_at _ _ q z.result z.ensures _ c.in_default-end_row.is)) in
-    record { moves_rows = record { moved = c.rows.inv.0; stops = unended }; scratch_len_unchanged = loop-scratch; row_len_unchanged = loop-row }
+    record { moves_rows = record { moved = c.rows.invariant.0; stops = unended }; scratch_len_unchanged = loop-scratch; row_len_unchanged = loop-row }
 
 pub returns-in_default-frame_row : goal.returns-in_default-frame_row
 returns-in_default-frame_row c =
@@ -426,7 +426,7 @@ returns-in_default-frame_row c =
     let begun-of : Begun = c in
     let next-at : ℕ = c.in-Closed.next in
     let past : length (listed cols-at) ≤ c.loop-i.i = omega (arith, listed-length cols-at, c.loop-i-test.false) in
-    let whole : read_row (from_at (rows_of begun-of)) (listed (cols-at (rows_of begun-of))) (drop (rows_of begun-of).rows.place (s-at (rows_of begun-of))) ≡ good (c.loop-i.inv.0.acc, drop next-at (s-at (rows_of begun-of))) = (
+    let whole : read_row (from_at (rows_of begun-of)) (listed (cols-at (rows_of begun-of))) (drop (rows_of begun-of).rows.place (s-at (rows_of begun-of))) ≡ good (c.loop-i.invariant.0.acc, drop next-at (s-at (rows_of begun-of))) = (
     let b = begun-of in
     let r = b in
     let l = c.loop-i in
@@ -436,13 +436,13 @@ returns-in_default-frame_row c =
     let row-bytes : List ℕ = (let l = c.loop-i in
     let r = rows_of begun-of in
     start_bytes (to_at r) (cols-at r).count l.nulls ++ (l.inv.1.w ++ write_end (to_at r))) in
-    let written_at : write_row (to_at (rows_of begun-of)) (listed (cols-at (rows_of begun-of))) c.loop-i.inv.0.acc ≡ good row-bytes = (
+    let written_at : write_row (to_at (rows_of begun-of)) (listed (cols-at (rows_of begun-of))) c.loop-i.invariant.0.acc ≡ good row-bytes = (
     let l = c.loop-i in
     let r = rows_of begun-of in
     moved_row (to_at r) (listed (cols-at r)) l.inv.0.acc _ _ _ _ l.nulls l.i (cols-at r).count l.inv.1 past
     (omega (arith, past, l.inv.0.upto, listed-length (cols-at r)))) in
-    let loop-scratch : length c.loop-i.scratch ≡ length (c).args.scratch.now = c.loop-i.inv.2 ∙ c.rows.inv.1 in
-    let loop-row : length c.loop-i.row ≡ length (c).args.row.now = c.loop-i.inv.1.puts.long ∙ c.rows.inv.2 in
+    let loop-scratch : length c.loop-i.scratch ≡ length (c).args.scratch.now = c.loop-i.invariant.2 ∙ c.rows.invariant.1 in
+    let loop-row : length c.loop-i.row ≡ length (c).args.row.now = c.loop-i.invariant.1.puts.long ∙ c.rows.invariant.2 in
     let too_long : LeftAt (rows_of begun-of) = (let r = rows_of begun-of in
     let l = c.loop-i in
     let g = c.frame_row.ensures in
@@ -464,7 +464,7 @@ returns-then-out-bytes c =
     let begun-of : Begun = c in
     let next-at : ℕ = c.in-Closed.next in
     let past : length (listed cols-at) ≤ c.loop-i.i = omega (arith, listed-length cols-at, c.loop-i-test.false) in
-    let whole : read_row (from_at (rows_of begun-of)) (listed (cols-at (rows_of begun-of))) (drop (rows_of begun-of).rows.place (s-at (rows_of begun-of))) ≡ good (c.loop-i.inv.0.acc, drop next-at (s-at (rows_of begun-of))) = (
+    let whole : read_row (from_at (rows_of begun-of)) (listed (cols-at (rows_of begun-of))) (drop (rows_of begun-of).rows.place (s-at (rows_of begun-of))) ≡ good (c.loop-i.invariant.0.acc, drop next-at (s-at (rows_of begun-of))) = (
     let b = begun-of in
     let r = b in
     let l = c.loop-i in
@@ -476,7 +476,7 @@ returns-then-out-bytes c =
     let row-bytes : List ℕ = (let l = c.loop-i in
     let r = rows_of begun-of in
     start_bytes (to_at r) (cols-at r).count l.nulls ++ (l.inv.1.w ++ write_end (to_at r))) in
-    let written_at : write_row (to_at (rows_of begun-of)) (listed (cols-at (rows_of begun-of))) c.loop-i.inv.0.acc ≡ good row-bytes = (
+    let written_at : write_row (to_at (rows_of begun-of)) (listed (cols-at (rows_of begun-of))) c.loop-i.invariant.0.acc ≡ good row-bytes = (
     let l = c.loop-i in
     let r = rows_of begun-of in
     moved_row (to_at r) (listed (cols-at r)) l.inv.0.acc _ _ _ _ l.nulls l.i (cols-at r).count l.inv.1 past
@@ -487,8 +487,8 @@ returns-then-out-bytes c =
     let k = subst (FramedAs (to_at r) (cols-at r).count l.nulls l.row l.end framed-row) c.in-Row-frame_row.is g in
     (k.0, k.1 l.inv.1.w (take r.before.before.start-size.result r.rows.row) l.inv.1.puts.front (length-take-le _ r.rows.row (roomy r) ∙ sym (starts r l.nulls)))) in
     let as_many : length row-bytes ≡ size-at = ap length (sym stands.1) ∙ length-take-le size-at framed-row stands.0 in
-    let loop-scratch : length c.loop-i.scratch ≡ length (c).args.scratch.now = c.loop-i.inv.2 ∙ c.rows.inv.1 in
-    let loop-row : length c.loop-i.row ≡ length (c).args.row.now = c.loop-i.inv.1.puts.long ∙ c.rows.inv.2 in
+    let loop-scratch : length c.loop-i.scratch ≡ length (c).args.scratch.now = c.loop-i.invariant.2 ∙ c.rows.invariant.1 in
+    let loop-row : length c.loop-i.row ≡ length (c).args.row.now = c.loop-i.invariant.1.puts.long ∙ c.rows.invariant.2 in
     let full : LeftAt (rows_of begun-of) = (
     let r = rows_of begun-of in
     full-left (from_at r) (to_at r) (listed (cols-at r)) (s-at r) r.rows.place r.rows.out r.rows.bytes _ _ _ row-bytes whole written_at

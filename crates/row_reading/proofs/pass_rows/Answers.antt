@@ -41,7 +41,7 @@ returns-in-Refused c =
 pub overflow_add-rows : goal.overflow_add-rows
 overflow_add-rows c =
     let h = subst (PassesRow _ _ _) c.in-At.is c.pass_row-p.ensures.passes_row in
-    omega (arith, c.loop-cols.invariant.0.fewer, h.2, h.3, c.well-formed)
+    omega (arith, c.loop-cols.invariant.0.fewer, h.2, h.3, c.well_formed)
 
 pub loop-cols-smaller : goal.loop-cols-smaller
 loop-cols-smaller c =

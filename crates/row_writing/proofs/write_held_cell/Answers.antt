@@ -22,7 +22,7 @@ held_at-held-requires c =
 pub overflow_add-first : goal.overflow_add-first
 overflow_add-first c =
     let inside : c.args.w.at < length c.args.scratch.now = held-inside c.args.column c.args.scratch.now c.args.w.at c.requires.len_bound.1 in
-    omega (arith, inside, c.well-formed)
+    omega (arith, inside, c.well_formed)
 
 pub write_cell-e-requires : goal.write_cell-e-requires
 write_cell-e-requires c =
@@ -37,7 +37,7 @@ write_cell-e-requires c =
 pub offset_bounds-scratch-first : goal.offset_bounds-scratch-first
 offset_bounds-scratch-first c =
     let inside : c.args.w.at < length c.args.scratch.now = held-inside c.args.column c.args.scratch.now c.args.w.at c.requires.len_bound.1 in
-    omega (arith, inside, c.well-formed)
+    omega (arith, inside, c.well_formed)
 
 pub slice_bounds-write_cell-count : goal.slice_bounds-write_cell-count
 slice_bounds-write_cell-count c =
@@ -68,7 +68,7 @@ overflow_add-result c =
     let counted : drop place scratch ≡ pos count ∷ drop (place + 1) scratch = subst (HeldIs scratch place) c.in-Shown.is c.held_at-held.ensures in
     let within : (count ≤ bound c.args.column.len) × (count ≤ length (drop (place + 1) scratch)) = shown-within c.args.column scratch place count counted c.requires.len_bound.1 in
     let behind : place + 1 + count ≤ length scratch = omega (arith, within.1, length-drop (place + 1) scratch, inside) in
-    omega (arith, behind, c.well-formed)
+    omega (arith, behind, c.well_formed)
 
 pub returns-in-Null : goal.returns-in-Null
 returns-in-Null c =

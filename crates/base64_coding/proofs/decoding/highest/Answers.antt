@@ -11,6 +11,7 @@ use native.Mathlib.Omega.{arith}
 use Rattle.base64_coding.specs.Clauses.{highest_from}
 use Rattle.base64_coding.proofs.High.{highest-end, highest-more}
 use Rattle.base64_coding.proofs.decoding.highest.Goals as goal
+use Rattle.base64_coding.proofs.decoding.highest.Goals.{else-most-c, then-most-c}
 
 pub loop-k-init : goal.loop-k-init
 loop-k-init c = (search rules, refl)
@@ -21,7 +22,10 @@ loop-k-preserved c =
     let most = c.loop-k.most in
     let byte = get_or s c.loop-k.k 0 in
     let step : c.if-most-c.most ≡ cond (ltb most byte) byte most =
-    ⊎_elim (λ w. w.1 ∙ rw (lt-ltb most byte w.0.taken)) (λ w. w.1 ∙ rw (le-ltb most byte w.0.left)) c.if-most-c.branch in
+        elim c.if-most-c.branch [
+          then-most-c w ↦ w.most-is ∙ rw (lt-ltb most byte w.if-most-c.true)
+        | else-most-c w ↦ w.most-is ∙ rw (le-ltb most byte w.if-most-c.false)
+        ] in
     (omega arith, c.loop-k.invariant.1 ∙ highest-more s c.loop-k.k most c.if-most-c.most (omega arith) step)
 
 pub returns : goal.returns

@@ -68,7 +68,7 @@ loop-at-preserved c =
     let comes : attribute_comes (drop c.loop-at.at text_at) ≡ true = comes-yes _ _ _ _ c.skip_white-name.ensures c.span_end-name_end.ensures c.if-name-at.false c.if-name_end-name.false in
     let value : let s = text_at in QuotedIs s c.span_end-name_end.result (assigned (drop c.span_end-name_end.result s)) (Holds c.in-Holds.start c.in-Holds.end) = subst (QuotedIs _ _ _) c.in-Holds.is c.read_value.ensures in
     let far : c.loop-at.at ≤ c.in-Holds.end = omega (arith, value.places, c.span_end-name_end.ensures.onward, c.skip_white-name.ensures.low) in
-    let q = value in let i = c.loop-at.inv in
+    let q = value in let i = c.loop-at.invariant in
     let named = attribute-at _ _ _ _ c.skip_white-name.ensures c.span_end-name_end.ensures c.if-name_end-name.false _ _ q in (
       omega (arith, i.0, far),
       omega (arith, q.places.2),
