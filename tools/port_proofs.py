@@ -267,6 +267,8 @@ def walk(f, root_names, text):
     # names for steps
     for m in list(re.finditer(r"\blet (" + IDENT + r") = (?:" + "|".join(map(re.escape, set(roots.values()))) + r")\.([\w'-]+)\s+in\b", text)):
         name, step = m.groups()
+        if step in [l[0] for l in f.loops.values()]:
+            text = re.sub(r"(?<![\w'.-])" + re.escape(name) + r"\.inv\b", name + ".invariant", text)
         if step in f.clauses:
             text = re.sub(r"(?<![\w'.-])" + re.escape(name) + r"\.ensures((?:\.\d+(?![\w']))+)", lambda q: name + ".ensures" + (pick(f.clauses[step], q.group(1)) or q.group(1)), text)
         text = re.sub(r"(?<![\w'.-])" + re.escape(name) + r"\.((?:auto|new)(?:\.\d+(?![\w']))+)", lambda q: name + "." + ".".join(by_parameter(f, step, q.group(1).split("."))), text)
@@ -538,6 +540,10 @@ def turn(crate, file, names):
                 unfolding.append(rest.pop(0))
             body = "\n".join(rest)
             roots = re.findall(r"(?m)^" + re.escape(name) + r" (" + IDENT + r")", body)
+            if len(roots) == 1 and roots[0] != "c":
+                body = re.sub(r"(?<![\w'.-])c(?![\w'₀-₉-])", "column", body)
+                body = re.sub(r"(?<![\w'.-])" + re.escape(roots[0]) + r"(?![\w'₀-₉-])", "c", body)
+                roots = ["c"]
             body = walk(f, roots or ["c"], body)
             body = re.sub(r"(?m)^" + re.escape(name) + r" (\S+) κs =", new + r" \1 =", body)
             body = re.sub(r"(?m)^" + re.escape(name) + r"(?= )", new, body)
@@ -556,7 +562,7 @@ def turn(crate, file, names):
         if lines[0].startswith("module _"):
             made_of = of_module(lines)
             if made_of and re.search(r"tie\.|" + ("|".join(map(re.escape, place_types)) or "tie"), lines[0]):
-                hs = [Helper(f, [], it, place_types) if not (re.search(r" : tie\.[A-Z]|→ tie\.[A-Z]", it[0].split(" : ", 2)[-1].split(")", 1)[-1]) ) else it for _, it in made_of]
+                hs = [Helper(f, [], it, place_types) if not re.search(r"→ (?:tie\.[A-Z][^→]*|" + "|".join(map(re.escape, place_types + ["\\0"])) + r")" + re.escape(n) + r" |→ (?:tie\.[A-Z][^→]*|" + "|".join(map(re.escape, place_types + ["\\0"])) + r")$", it[0]) else it for n, it in made_of]
                 if all(isinstance(h, list) or h.ok for h in hs):
                     for (n, it), h in zip(made_of, hs):
                         if isinstance(h, list):
@@ -658,7 +664,7 @@ def turn(crate, file, names):
             if new == text:
                 break
             text = new
-        return walk(f, ["c"], text)
+        return walk(f, ["c"], re.sub(r"\((" + IDENT + r")\)(?=\.)", r"\1", text))
 
     for h in inlined:
         h.body, h.type = flat(h.body), flat(h.type)

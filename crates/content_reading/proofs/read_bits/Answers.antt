@@ -107,7 +107,7 @@ returns-then-n-lt8 c =
     let turned : (n b : ℕ) → c.first_of-n.result ≡ n → (n ≡ 0 → ⊥) → BitByte c.eight_bytes-x.result n b → let l = c.loop-at in let a = c.args in BitsTo a.s.now a.from (l.at + n) a.row.now a.first (set l.row l.o b) (l.o + 1) = λ n b e some byte. (let r = c.loop-at.invariant in
     bits-more r.0 r.1 bytes inside (omega arith) c.eight_bytes-x.ensures (subst (Passes is_bit _ _) e found.0) (omega (arith, e, found.1)) some byte) in
     let last : let l = c.loop-at in let a = c.args in BitsTo a.s.now a.from (l.at + c.first_of-n.result) a.row.now a.first (set l.row l.o c.bit_byte.result) (l.o + 1) = turned _ _ refl c.if-n-eq0.false c.bit_byte.ensures in
-    bits-moved last (λ e. omega (arith, (c).loop.inv.0.spells.onward, e, c.if-n-eq0.false))
+    bits-moved last (λ e. omega (arith, c.loop-at.invariant.0.spells.onward, e, c.if-n-eq0.false))
 
 pub overflow_add-o : goal.overflow_add-o
 overflow_add-o c =
@@ -151,7 +151,7 @@ loop-at-preserved c =
     let turned : (n b : ℕ) → c.first_of-n.result ≡ n → (n ≡ 0 → ⊥) → BitByte c.eight_bytes-x.result n b → let l = c.loop-at in let a = c.args in BitsTo a.s.now a.from (l.at + n) a.row.now a.first (set l.row l.o b) (l.o + 1) = λ n b e some byte. (let r = c.loop-at.invariant in
     bits-more r.0 r.1 bytes inside (omega arith) c.eight_bytes-x.ensures (subst (Passes is_bit _ _) e found.0) (omega (arith, e, found.1)) some byte) in
     let more : let l = c.loop-at in let a = c.args in BitsTo a.s.now a.from (l.at + 8) a.row.now a.first (set l.row l.o c.bit_byte-in-loop-at.result) (l.o + 1) = turned 8 _ (omega (arith, found.1)) (λ e. omega arith) c.bit_byte-in-loop-at.ensures in
-    let r = (c).loop.inv in (more, omega (arith, r.1, r.0.spells.onward))
+    let r = c.loop-at.invariant in (more, omega (arith, r.1, r.0.spells.onward))
 
 pub shape_of-row-then-at-from : goal.shape_of-row-then-at-from
 shape_of-row-then-at-from c = c.loop-at.invariant.0.puts.long

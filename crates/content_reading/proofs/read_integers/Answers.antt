@@ -76,7 +76,7 @@ shape_of-row-then-s-next-ne32 c =
     let e : to_z w64 (of_z w64 z) ≡ z = search rules in
     whole-puts (is_signed k) (width_of k) z
     (subst (λ (y : ℤ). Wrote l.row l.o (to_digits 256 (size k) (pattern 8 y)) c.write_integer-o.new.out c.write_integer-o.result) e c.write_integer-o.ensures)
-    (omega (arith, l.inv.puts.room, l.inv.puts.long))) in
+    (omega (arith, l.invariant.puts.room, l.invariant.puts.long))) in
     put.long ∙ c.loop-at.invariant.puts.long
 
 pub returns-then-s-next-ne32 : goal.returns-then-s-next-ne32
@@ -89,7 +89,7 @@ returns-then-s-next-ne32 c =
     let e : to_z w64 (of_z w64 z) ≡ z = search rules in
     whole-puts (is_signed k) (width_of k) z
     (subst (λ (y : ℤ). Wrote l.row l.o (to_digits 256 (size k) (pattern 8 y)) c.write_integer-o.new.out c.write_integer-o.result) e c.write_integer-o.ensures)
-    (omega (arith, l.inv.puts.room, l.inv.puts.long))) in
+    (omega (arith, l.invariant.puts.room, l.invariant.puts.long))) in
     let k = c.args.integer in
     words-moved (whole_words _ _) c.loop-at.invariant found put (whole-form (is_signed k) (width_of k))
 
@@ -118,5 +118,5 @@ loop-at-preserved c =
     let e : to_z w64 (of_z w64 z) ≡ z = search rules in
     whole-puts (is_signed k) (width_of k) z
     (subst (λ (y : ℤ). Wrote l.row l.o (to_digits 256 (size k) (pattern 8 y)) c.write_integer-o.new.out c.write_integer-o.result) e c.write_integer-o.ensures)
-    (omega (arith, l.inv.puts.room, l.inv.puts.long))) in
+    (omega (arith, l.invariant.puts.room, l.invariant.puts.long))) in
     words_more (whole_words _ _) c.loop-at.invariant found put inside c.if-s-next-ne32.false (omega arith)

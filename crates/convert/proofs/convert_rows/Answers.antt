@@ -147,20 +147,20 @@ put_row-requires c =
     let begun-of : Begun = c in
     let row_at : List ℕ = (let b = begun-of in
     let r = rows_of b in
-    let l = (c).before.loop in
+    let l = c.loop-i in
     row_bytes (to_at r) (cols-at r).count l.m.nulls (put_form (from_at r) (to_at r) (cols-at r) (flags-at b) (drop (body_at b) (s-at r)) l.scratch (holding_of l.m.held))) in
-    let size-at : length row_at ≡ (rows_of begun-of).before.before.before.before.before.before.before.before.before.before.before.before.frame-size.result + (c).before.loop.m.size = (let b = begun-of in
+    let size-at : length row_at ≡ (rows_of begun-of).before.before.before.before.before.before.before.before.before.before.before.before.frame-size.result + c.loop-i.m.size = (let b = begun-of in
     let r = rows_of b in
     let l = c.loop-i in
     omega (
       arith,
-      row-length (from_at r) (to_at r) (cols-at r) (flags-at b) (s-at r) (body_at b) l.at l.i l.inv.0 l.scratch l.m l.inv.1 (listed-length (cols-at r))
+      row-length (from_at r) (to_at r) (cols-at r) (flags-at b) (s-at r) (body_at b) l.at l.i l.invariant.0 l.scratch l.m l.invariant.1 (listed-length (cols-at r))
           c.loop-i-test.false c.if-m-ne-NONE.false,
       r.before.before.before.before.before.before.before.before.before.before.before.before.frame-size.ensures.1 l.m.nulls,
     )) in
     let row-held : Holding → List ℕ = λ h. (let b = begun-of in
     let r = rows_of b in
-    let l = (c).before.loop in
+    let l = c.loop-i in
     row_bytes (to_at r) (cols-at r).count l.m.nulls (put_form (from_at r) (to_at r) (cols-at r) (flags-at b) (drop (body_at b) (s-at r)) l.scratch h)) in
     let b = begun-of in
     let r = rows_of b in
@@ -170,9 +170,9 @@ put_row-requires c =
       within = (
         are r,
         (within b).1,
-        omega (arith, scratch-long b _ l.inv.3),
+        omega (arith, scratch-long b _ l.invariant.3),
         subst (HeldReady (listed (cols-at r)) l.scratch) h
-            (held-ready (from_at r) (to_at r) (cols-at r) (flags-at b) (s-at r) (body_at b) l.at l.i l.inv.0 l.scratch l.m l.inv.1 (listed-length (cols-at r))
+            (held-ready (from_at r) (to_at r) (cols-at r) (flags-at b) (s-at r) (body_at b) l.at l.i l.invariant.0 l.scratch l.m l.invariant.1 (listed-length (cols-at r))
             c.loop-i-test.false),
       );
       holding_in_bounds = subst (λ (y : Holding). r.rows.p.bytes + length (row-held y) ≤ length r.rows.out) h (omega (arith, size-at, c.if-room-size.false, r.rows.inv.0.room));
@@ -233,25 +233,25 @@ moved-more-requires c =
     (row-onward (from_at r) (listed (cols-at r)) (s-at r) r.rows.cursor.at next-at _ (are r) whole w.1, w.1)) in
     let row_at : List ℕ = (let b = begun-of in
     let r = rows_of b in
-    let l = (c).before.loop in
+    let l = c.loop-i in
     row_bytes (to_at r) (cols-at r).count l.m.nulls (put_form (from_at r) (to_at r) (cols-at r) (flags-at b) (drop (body_at b) (s-at r)) l.scratch (holding_of l.m.held))) in
-    let written_at : write_row (to_at (rows_of begun-of)) (listed (cols-at (rows_of begun-of))) (c).before.loop.inv.0.acc ≡ good row_at = (let b = begun-of in
+    let written_at : write_row (to_at (rows_of begun-of)) (listed (cols-at (rows_of begun-of))) c.loop-i.invariant.0.acc ≡ good row_at = (let b = begun-of in
     let r = rows_of b in
     let l = c.loop-i in
-    row_wrote (from_at r) (to_at r) (cols-at r) (flags-at b) (s-at r) (body_at b) l.at l.i l.inv.0 l.scratch l.m l.inv.1 (listed-length (cols-at r))
+    row_wrote (from_at r) (to_at r) (cols-at r) (flags-at b) (s-at r) (body_at b) l.at l.i l.invariant.0 l.scratch l.m l.invariant.1 (listed-length (cols-at r))
     c.loop-i-test.false c.if-m-ne-NONE.false) in
-    let size-at : length row_at ≡ (rows_of begun-of).before.before.before.before.before.before.before.before.before.before.before.before.frame-size.result + (c).before.loop.m.size = (let b = begun-of in
+    let size-at : length row_at ≡ (rows_of begun-of).before.before.before.before.before.before.before.before.before.before.before.before.frame-size.result + c.loop-i.m.size = (let b = begun-of in
     let r = rows_of b in
     let l = c.loop-i in
     omega (
       arith,
-      row-length (from_at r) (to_at r) (cols-at r) (flags-at b) (s-at r) (body_at b) l.at l.i l.inv.0 l.scratch l.m l.inv.1 (listed-length (cols-at r))
+      row-length (from_at r) (to_at r) (cols-at r) (flags-at b) (s-at r) (body_at b) l.at l.i l.invariant.0 l.scratch l.m l.invariant.1 (listed-length (cols-at r))
           c.loop-i-test.false c.if-m-ne-NONE.false,
       r.before.before.before.before.before.before.before.before.before.before.before.before.frame-size.ensures.1 l.m.nulls,
     )) in
     let row-held : Holding → List ℕ = λ h. (let b = begun-of in
     let r = rows_of b in
-    let l = (c).before.loop in
+    let l = c.loop-i in
     row_bytes (to_at r) (cols-at r).count l.m.nulls (put_form (from_at r) (to_at r) (cols-at r) (flags-at b) (drop (body_at b) (s-at r)) l.scratch h)) in
     let read_at : Ended = c in
     let cursor-moves : c.after.result.at ≡ next-at read_at = omega (arith, (onward read_at).0, c.after.ensures) in
@@ -264,7 +264,7 @@ moved-more-requires c =
     let w = c.put_row.ensures in
     let h = c.holding_of-holding.ensures in
     row_done (from_at r) (to_at r) (listed (cols-at r)) (are r) (s-at r) o r.rows.out r.rows.cursor.at r.rows.p.rows r.rows.p.bytes d (left (left-of begun-of))
-    l.inv.0.acc _
+    l.invariant.0.acc _
     whole row_at written_at (omega (arith, size-at, c.if-room-size.false)) _ refl n.0 n.1 _
     (w.wrote.now-is ∙ ap (λ (y : Holding). sets r.rows.out r.rows.p.bytes (row-held y)) h) _ _ _ cursor-moves c.after-in-rows.ensures.0
     (c.after-in-rows.ensures.1 ∙ ap (λ (k : ℕ). r.rows.p.bytes + k) (sym size-at))) in
@@ -296,25 +296,25 @@ rows-smaller c =
     (row-onward (from_at r) (listed (cols-at r)) (s-at r) r.rows.cursor.at next-at _ (are r) whole w.1, w.1)) in
     let row_at : List ℕ = (let b = begun-of in
     let r = rows_of b in
-    let l = (c).before.loop in
+    let l = c.loop-i in
     row_bytes (to_at r) (cols-at r).count l.m.nulls (put_form (from_at r) (to_at r) (cols-at r) (flags-at b) (drop (body_at b) (s-at r)) l.scratch (holding_of l.m.held))) in
-    let written_at : write_row (to_at (rows_of begun-of)) (listed (cols-at (rows_of begun-of))) (c).before.loop.inv.0.acc ≡ good row_at = (let b = begun-of in
+    let written_at : write_row (to_at (rows_of begun-of)) (listed (cols-at (rows_of begun-of))) c.loop-i.invariant.0.acc ≡ good row_at = (let b = begun-of in
     let r = rows_of b in
     let l = c.loop-i in
-    row_wrote (from_at r) (to_at r) (cols-at r) (flags-at b) (s-at r) (body_at b) l.at l.i l.inv.0 l.scratch l.m l.inv.1 (listed-length (cols-at r))
+    row_wrote (from_at r) (to_at r) (cols-at r) (flags-at b) (s-at r) (body_at b) l.at l.i l.invariant.0 l.scratch l.m l.invariant.1 (listed-length (cols-at r))
     c.loop-i-test.false c.if-m-ne-NONE.false) in
-    let size-at : length row_at ≡ (rows_of begun-of).before.before.before.before.before.before.before.before.before.before.before.before.frame-size.result + (c).before.loop.m.size = (let b = begun-of in
+    let size-at : length row_at ≡ (rows_of begun-of).before.before.before.before.before.before.before.before.before.before.before.before.frame-size.result + c.loop-i.m.size = (let b = begun-of in
     let r = rows_of b in
     let l = c.loop-i in
     omega (
       arith,
-      row-length (from_at r) (to_at r) (cols-at r) (flags-at b) (s-at r) (body_at b) l.at l.i l.inv.0 l.scratch l.m l.inv.1 (listed-length (cols-at r))
+      row-length (from_at r) (to_at r) (cols-at r) (flags-at b) (s-at r) (body_at b) l.at l.i l.invariant.0 l.scratch l.m l.invariant.1 (listed-length (cols-at r))
           c.loop-i-test.false c.if-m-ne-NONE.false,
       r.before.before.before.before.before.before.before.before.before.before.before.before.frame-size.ensures.1 l.m.nulls,
     )) in
     let row-held : Holding → List ℕ = λ h. (let b = begun-of in
     let r = rows_of b in
-    let l = (c).before.loop in
+    let l = c.loop-i in
     row_bytes (to_at r) (cols-at r).count l.m.nulls (put_form (from_at r) (to_at r) (cols-at r) (flags-at b) (drop (body_at b) (s-at r)) l.scratch h)) in
     let read_at : Ended = c in
     let cursor-moves : c.after.result.at ≡ next-at read_at = omega (arith, (onward read_at).0, c.after.ensures) in
@@ -327,7 +327,7 @@ rows-smaller c =
     let w = c.put_row.ensures in
     let h = c.holding_of-holding.ensures in
     row_done (from_at r) (to_at r) (listed (cols-at r)) (are r) (s-at r) o r.rows.out r.rows.cursor.at r.rows.p.rows r.rows.p.bytes d (left (left-of begun-of))
-    l.inv.0.acc _
+    l.invariant.0.acc _
     whole row_at written_at (omega (arith, size-at, c.if-room-size.false)) _ refl n.0 n.1 _
     (w.wrote.now-is ∙ ap (λ (y : Holding). sets r.rows.out r.rows.p.bytes (row-held y)) h) _ _ _ cursor-moves c.after-in-rows.ensures.0
     (c.after-in-rows.ensures.1 ∙ ap (λ (k : ℕ). r.rows.p.bytes + k) (sym size-at))) in
@@ -359,25 +359,25 @@ rows-preserved c =
     (row-onward (from_at r) (listed (cols-at r)) (s-at r) r.rows.cursor.at next-at _ (are r) whole w.1, w.1)) in
     let row_at : List ℕ = (let b = begun-of in
     let r = rows_of b in
-    let l = (c).before.loop in
+    let l = c.loop-i in
     row_bytes (to_at r) (cols-at r).count l.m.nulls (put_form (from_at r) (to_at r) (cols-at r) (flags-at b) (drop (body_at b) (s-at r)) l.scratch (holding_of l.m.held))) in
-    let written_at : write_row (to_at (rows_of begun-of)) (listed (cols-at (rows_of begun-of))) (c).before.loop.inv.0.acc ≡ good row_at = (let b = begun-of in
+    let written_at : write_row (to_at (rows_of begun-of)) (listed (cols-at (rows_of begun-of))) c.loop-i.invariant.0.acc ≡ good row_at = (let b = begun-of in
     let r = rows_of b in
     let l = c.loop-i in
-    row_wrote (from_at r) (to_at r) (cols-at r) (flags-at b) (s-at r) (body_at b) l.at l.i l.inv.0 l.scratch l.m l.inv.1 (listed-length (cols-at r))
+    row_wrote (from_at r) (to_at r) (cols-at r) (flags-at b) (s-at r) (body_at b) l.at l.i l.invariant.0 l.scratch l.m l.invariant.1 (listed-length (cols-at r))
     c.loop-i-test.false c.if-m-ne-NONE.false) in
-    let size-at : length row_at ≡ (rows_of begun-of).before.before.before.before.before.before.before.before.before.before.before.before.frame-size.result + (c).before.loop.m.size = (let b = begun-of in
+    let size-at : length row_at ≡ (rows_of begun-of).before.before.before.before.before.before.before.before.before.before.before.before.frame-size.result + c.loop-i.m.size = (let b = begun-of in
     let r = rows_of b in
     let l = c.loop-i in
     omega (
       arith,
-      row-length (from_at r) (to_at r) (cols-at r) (flags-at b) (s-at r) (body_at b) l.at l.i l.inv.0 l.scratch l.m l.inv.1 (listed-length (cols-at r))
+      row-length (from_at r) (to_at r) (cols-at r) (flags-at b) (s-at r) (body_at b) l.at l.i l.invariant.0 l.scratch l.m l.invariant.1 (listed-length (cols-at r))
           c.loop-i-test.false c.if-m-ne-NONE.false,
       r.before.before.before.before.before.before.before.before.before.before.before.before.frame-size.ensures.1 l.m.nulls,
     )) in
     let row-held : Holding → List ℕ = λ h. (let b = begun-of in
     let r = rows_of b in
-    let l = (c).before.loop in
+    let l = c.loop-i in
     row_bytes (to_at r) (cols-at r).count l.m.nulls (put_form (from_at r) (to_at r) (cols-at r) (flags-at b) (drop (body_at b) (s-at r)) l.scratch h)) in
     let read_at : Ended = c in
     let cursor-moves : c.after.result.at ≡ next-at read_at = omega (arith, (onward read_at).0, c.after.ensures) in
@@ -390,7 +390,7 @@ rows-preserved c =
     let w = c.put_row.ensures in
     let h = c.holding_of-holding.ensures in
     row_done (from_at r) (to_at r) (listed (cols-at r)) (are r) (s-at r) o r.rows.out r.rows.cursor.at r.rows.p.rows r.rows.p.bytes d (left (left-of begun-of))
-    l.inv.0.acc _
+    l.invariant.0.acc _
     whole row_at written_at (omega (arith, size-at, c.if-room-size.false)) _ refl n.0 n.1 _
     (w.wrote.now-is ∙ ap (λ (y : Holding). sets r.rows.out r.rows.p.bytes (row-held y)) h) _ _ _ cursor-moves c.after-in-rows.ensures.0
     (c.after-in-rows.ensures.1 ∙ ap (λ (k : ℕ). r.rows.p.bytes + k) (sym size-at))) in
@@ -536,11 +536,11 @@ returns-then-m-ne-NONE c =
     let b = begun-of in
     let r = rows_of b in
     let l = c.loop-i in
-    let q = row-cannot (from_at r) (to_at r) (cols-at r) (flags-at b) (s-at r) (body_at b) l.at l.i l.inv.0 l.scratch l.m l.inv.1 (listed-length (cols-at r))
+    let q = row-cannot (from_at r) (to_at r) (cols-at r) (flags-at b) (s-at r) (body_at b) l.at l.i l.invariant.0 l.scratch l.m l.invariant.1 (listed-length (cols-at r))
     c.loop-i-test.false c.if-m-ne-NONE.true in
     let d = write-refusal (from_at r) (to_at r) (listed (cols-at r)) (are r) (s-at r) (out_at r) r.rows.out r.rows.cursor.at r.rows.p.rows r.rows.p.bytes (done_at r)
     (left b)
-    l.inv.0.acc _ whole _ q in record { answer_value = d.answers; place_value = d.stands; out_after = d.leaves }
+    l.invariant.0.acc _ whole _ q in record { answer_value = d.answers; place_value = d.stands; out_after = d.leaves }
 
 pub returns-then-room-size : goal.returns-then-room-size
 returns-then-room-size c =
@@ -558,19 +558,19 @@ returns-then-room-size c =
     begun b ∙ cells-closed (from_at r) (listed (cols-at r)) _ (s-at r) (body_at b) _ _ all_read z.result z.ensures next-at c.in-Closed.is) in
     let row_at : List ℕ = (let b = begun-of in
     let r = rows_of b in
-    let l = (c).before.loop in
+    let l = c.loop-i in
     row_bytes (to_at r) (cols-at r).count l.m.nulls (put_form (from_at r) (to_at r) (cols-at r) (flags-at b) (drop (body_at b) (s-at r)) l.scratch (holding_of l.m.held))) in
-    let written_at : write_row (to_at (rows_of begun-of)) (listed (cols-at (rows_of begun-of))) (c).before.loop.inv.0.acc ≡ good row_at = (let b = begun-of in
+    let written_at : write_row (to_at (rows_of begun-of)) (listed (cols-at (rows_of begun-of))) c.loop-i.invariant.0.acc ≡ good row_at = (let b = begun-of in
     let r = rows_of b in
     let l = c.loop-i in
-    row_wrote (from_at r) (to_at r) (cols-at r) (flags-at b) (s-at r) (body_at b) l.at l.i l.inv.0 l.scratch l.m l.inv.1 (listed-length (cols-at r))
+    row_wrote (from_at r) (to_at r) (cols-at r) (flags-at b) (s-at r) (body_at b) l.at l.i l.invariant.0 l.scratch l.m l.invariant.1 (listed-length (cols-at r))
     c.loop-i-test.false c.if-m-ne-NONE.false) in
-    let size-at : length row_at ≡ (rows_of begun-of).before.before.before.before.before.before.before.before.before.before.before.before.frame-size.result + (c).before.loop.m.size = (let b = begun-of in
+    let size-at : length row_at ≡ (rows_of begun-of).before.before.before.before.before.before.before.before.before.before.before.before.frame-size.result + c.loop-i.m.size = (let b = begun-of in
     let r = rows_of b in
     let l = c.loop-i in
     omega (
       arith,
-      row-length (from_at r) (to_at r) (cols-at r) (flags-at b) (s-at r) (body_at b) l.at l.i l.inv.0 l.scratch l.m l.inv.1 (listed-length (cols-at r))
+      row-length (from_at r) (to_at r) (cols-at r) (flags-at b) (s-at r) (body_at b) l.at l.i l.invariant.0 l.scratch l.m l.invariant.1 (listed-length (cols-at r))
           c.loop-i-test.false c.if-m-ne-NONE.false,
       r.before.before.before.before.before.before.before.before.before.before.before.before.frame-size.ensures.1 l.m.nulls,
     )) in
@@ -685,7 +685,10 @@ shape_of-out-then-room-size c =
     (done_at (rows_of begun-of)).long
 
 pub shape_of-scratch-then-room-size : goal.shape_of-scratch-then-room-size
-shape_of-scratch-then-room-size c = scratch-of (c).before
+shape_of-scratch-then-room-size c =
+    let rows_of : AtRows = c in
+    let scratch-of : length c.loop-i.scratch ≡ length (begin rows_of).args.scratch.now = c.loop-i.invariant.3 ∙ scratch-kept rows_of in
+    scratch-of
 
 pub shape_of-row-then-room-size : goal.shape_of-row-then-room-size
 shape_of-row-then-room-size c =

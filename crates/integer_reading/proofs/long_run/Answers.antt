@@ -35,7 +35,7 @@ overflow_add-result c =
     let found : Passes is_digit s (c.args.at + 16) c.first_of-m.result × (c.first_of-m.result ≤ 8) = passes-ahead s (c.args.at + 16) bytes (omega arith) c.eight_bytes.ensures c.no_digits.ensures c.first_of-m.ensures in
     let all : Passes is_digit s c.args.at (16 + c.first_of-m.result) = passes_then c.requires.1 found.0 refl refl in
     let m : ℕ = c.first_of-m.result in
-    let low : FiguresAt s ((c).args.at + m + 8) 8 c.decimal_of-low.result = (let here : (c).args.at + (m + 8) ≡ (c).args.at + m + 8 = omega arith in
+    let low : FiguresAt s (c.args.at + m + 8) 8 c.decimal_of-low.result = (let here : c.args.at + (m + 8) ≡ c.args.at + m + 8 = omega arith in
     figures-read bytes (omega arith) c.eight_bytes-2.ensures (omega arith)
     (subst (λ (k : ℕ). Passes is_digit s k 8) here (passes-part (m + 8) 8 all (omega arith))) c.leading_figures.ensures c.decimal_of-low.ensures) in
     record { fits = omega (arith, figures-lt c.two_runs-high.ensures, power_le (m + 8) 11 (omega arith), figures-lt low) }
@@ -47,7 +47,7 @@ returns c =
     let found : Passes is_digit s (c.args.at + 16) c.first_of-m.result × (c.first_of-m.result ≤ 8) = passes-ahead s (c.args.at + 16) bytes (omega arith) c.eight_bytes.ensures c.no_digits.ensures c.first_of-m.ensures in
     let all : Passes is_digit s c.args.at (16 + c.first_of-m.result) = passes_then c.requires.1 found.0 refl refl in
     let m : ℕ = c.first_of-m.result in
-    let low : FiguresAt s ((c).args.at + m + 8) 8 c.decimal_of-low.result = (let here : (c).args.at + (m + 8) ≡ (c).args.at + m + 8 = omega arith in
+    let low : FiguresAt s (c.args.at + m + 8) 8 c.decimal_of-low.result = (let here : c.args.at + (m + 8) ≡ c.args.at + m + 8 = omega arith in
     figures-read bytes (omega arith) c.eight_bytes-2.ensures (omega arith)
     (subst (λ (k : ℕ). Passes is_digit s k 8) here (passes-part (m + 8) 8 all (omega arith))) c.leading_figures.ensures c.decimal_of-low.ensures) in
     (figures-then c.two_runs-high.ensures low (omega arith) (omega arith) refl, omega arith)

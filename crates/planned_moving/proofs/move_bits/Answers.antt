@@ -26,7 +26,7 @@ returns c =
     record {
       filled = n / 8;
       count-is = whole ∙ c.four_bytes-n.ensures;
-      c = omega (arith, whole, c.if-n-eq0.false);
+      some = omega (arith, whole, c.if-n-eq0.false);
       few = c.if-most-bytes.false;
       passes = (sym c.is_text.ensures ∙ c.if-is_text.false, refl, refl, c.copy-e.ensures);
     }

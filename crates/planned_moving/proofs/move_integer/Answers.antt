@@ -17,18 +17,23 @@ use Rattle.table.specs.Shape.{Shape, Whole, shape}
 use Rattle.planned_moving.proofs.move_integer.Goals as goal
 
 pub returns-in_default : goal.returns-in_default
-returns-in_default x = λ from c one q n. puts_none x.args.row.now x.args.o (omega (arith, x.requires.1))
+returns-in_default c = λ from column one q n. puts_none c.args.row.now c.args.o (omega (arith, c.requires.1))
 
 pub returns-then-is_declared : goal.returns-then-is_declared
-returns-then-is_declared x = let a = x in λ from c one q n. puts_none a.args.row.now a.args.o (omega (arith, a.pre.1))
+returns-then-is_declared c = λ from column one q n. puts_none c.args.row.now c.args.o (omega (arith, c.requires.1))
 
 pub returns : goal.returns
-returns x =
-    let a = x.args in
-    let p = x.put_integer-e in
-    let d = x.is_declared.ensures in
-    λ from c one q n.
-    value-moved (InBinary (shape c.kind) 1 a.s.now a.at) from a.to c (kind-of x) (value x) a.row.now a.o p.new.row (next x) one q
-    (subst (λ (y : Shape). InBinary y 1 a.s.now a.at (next x) (value x ∷ [])) (sym q) (stands x)) p.result tt
-    (ap₂ is_declared n (sym (fits x)) ∙ sym d ∙ x.if-is_declared.false)
-    (puts-as (ap (one_form a.to (kind-of x)) (fits x)) p.ensures)
+returns c =
+    let kind-of : Shape = Whole (is_signed c.args.integer) (width_of c.args.integer) in
+    let value : ℤ = c.in-Element.z in
+    let next : ℕ = c.in-Element.next in
+    let stands : InBinary kind-of 1 c.args.s.now c.args.at next (value ∷ []) = subst (FindsOne (InBinary kind-of 1 c.args.s.now c.args.at)) c.in-Element.is c.binary_integer.ensures in
+    let fits : to_z w64 (of_z w64 value) ≡ value = search rules in
+    let a = c.args in
+    let p = c.put_integer-e in
+    let d = c.is_declared.ensures in
+    λ from column one q n.
+    value-moved (InBinary (shape column.kind) 1 a.s.now a.at) from a.to column kind-of value a.row.now a.o p.new.row next one q
+    (subst (λ (y : Shape). InBinary y 1 a.s.now a.at next (value ∷ [])) (sym q) stands) p.result tt
+    (ap₂ is_declared n (sym fits) ∙ sym d ∙ c.if-is_declared.false)
+    (puts-as (ap (one_form a.to kind-of) fits) p.ensures)

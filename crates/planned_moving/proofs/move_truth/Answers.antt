@@ -16,18 +16,22 @@ use Rattle.table.specs.Shape.{Shape, Truths, shape}
 use Rattle.planned_moving.proofs.move_truth.Goals as goal
 
 pub returns-in_default : goal.returns-in_default
-returns-in_default x = λ from c one q. puts_none x.args.row.now x.args.o (omega (arith, x.requires.1))
+returns-in_default c = λ from column one q. puts_none c.args.row.now c.args.o (omega (arith, c.requires.1))
 
 pub returns-then-same_integer : goal.returns-then-same_integer
-returns-then-same_integer x = let a = x in λ from c one q. puts_none a.args.row.now a.args.o (omega (arith, a.pre.1))
+returns-then-same_integer c = λ from column one q. puts_none c.args.row.now c.args.o (omega (arith, c.requires.1))
 
 pub returns : goal.returns
-returns x =
-    let a = x.args in
-    let p = x.put_truth-e in
-    let d = x.same_integer.ensures in
-    λ from c one q.
-    value-moved (InBinary (shape c.kind) 1 a.s.now a.at) from a.to c Truths (value x) a.row.now a.o p.new.row (next x) one q
-    (subst (λ (y : Shape). InBinary y 1 a.s.now a.at (next x) (value x ∷ [])) (sym q) (stands x)) p.result tt
-    (sym (ap (λ (z : ℤ). same_integer z (pos 2)) (fits x)) ∙ sym d ∙ x.if-same_integer.false)
-    (puts-as (ap (one_form a.to Truths) (fits x)) p.ensures)
+returns c =
+    let value : ℤ = c.in-Element.z in
+    let next : ℕ = c.in-Element.next in
+    let stands : InBinary Truths 1 c.args.s.now c.args.at next (value ∷ []) = subst (FindsOne (InBinary Truths 1 c.args.s.now c.args.at)) c.in-Element.is c.binary_truth.ensures in
+    let fits : to_z w64 (of_z w64 value) ≡ value = search rules in
+    let a = c.args in
+    let p = c.put_truth-e in
+    let d = c.same_integer.ensures in
+    λ from column one q.
+    value-moved (InBinary (shape column.kind) 1 a.s.now a.at) from a.to column Truths value a.row.now a.o p.new.row next one q
+    (subst (λ (y : Shape). InBinary y 1 a.s.now a.at next (value ∷ [])) (sym q) stands) p.result tt
+    (sym (ap (λ (z : ℤ). same_integer z (pos 2)) fits) ∙ sym d ∙ c.if-same_integer.false)
+    (puts-as (ap (one_form a.to Truths) fits) p.ensures)

@@ -73,7 +73,11 @@ loop-i-init c =
     (read-start from_at (listed cols-at) _ s-at body_at within.1, moved-start to_at (listed cols-at) c.rows.row _ roomy, refl)
 
 pub flag_of-flagged-requires : goal.flag_of-flagged-requires
-flag_of-flagged-requires t = (t.loop-i-test.true, few t)
+flag_of-flagged-requires c =
+    let cols-at : Columns = c.args.cols in
+    let are : Within (listed cols-at) = c.requires.within.0 in
+    let few : cols-at.count ≤ 64 = omega (arith, are.few, listed-length cols-at) in
+    (c.loop-i-test.true, few)
 
 pub offset_bounds-plan-i : goal.offset_bounds-plan-i
 offset_bounds-plan-i c =
@@ -100,7 +104,7 @@ move_planned-planned-requires c =
     )
 
 pub offset_bounds-cols-i : goal.offset_bounds-cols-i
-offset_bounds-cols-i d = omega (arith, few-turns (d))
+offset_bounds-cols-i c = omega (arith, few-turns (c))
 
 pub move_cell-requires : goal.move_cell-requires
 move_cell-requires c =
@@ -122,10 +126,10 @@ move_cell-requires c =
     subst (MovesCell from_at to_at column-at flag_at s-at l.at l.row l.end planned-row) c.in-Careful.is by-plan) in
     let l = c.loop-i in
     (
-      l.inv.0.inside,
+      l.invariant.0.inside,
       listed-bound cols-at l.i are c.loop-i-test.true,
-      omega (arith, l.inv.2, c.rows.invariant.1, c.requires.within.1),
-      omega (arith, l.inv.1.puts.room, l.inv.1.puts.long, declined.long),
+      omega (arith, l.invariant.2, c.rows.invariant.1, c.requires.within.1),
+      omega (arith, l.invariant.1.puts.room, l.invariant.1.puts.long, declined.long),
     )
 
 pub add_flag-nulls-requires : goal.add_flag-nulls-requires
@@ -171,9 +175,9 @@ loop-i-preserved c =
     let advance : (new : List ℕ) (next e : ℕ) (null : Bool) (q : ℕ) → let l = c.loop-i in CellMoved from_at to_at column-at flag_at s-at l.at l.row l.end new next e null → to_digits 2 (l.i + 1) q ≡ to_digits 2 l.i l.nulls ++ (flag_bit null ∷ []) → (k : RowRead from_at (listed cols-at) (flags_in from_at cols-at.count flags-at) s-at body_at next (l.i + 1)) × RowMoved to_at (listed cols-at) k.acc c.rows.row c.start_size-first.result new e q (l.i + 1) = λ new next e null q x w. (
     let l = c.loop-i in
     let f = c.flag_of-flagged in (
-      read_more from_at (listed cols-at) _ s-at body_at l.at l.i l.inv.0 column-at next-column f.result f.ensures x.cell _
+      read_more from_at (listed cols-at) _ s-at body_at l.at l.i l.invariant.0 column-at next-column f.result f.ensures x.cell _
           (omega (arith, listed-length cols-at, c.loop-i-test.true)) x.reads x.onward x.inside,
-      moved_more to_at (listed cols-at) l.inv.0.acc _ _ l.row l.end l.nulls l.i l.inv.1 column-at next-column from_at f.result s-at l.at _
+      moved_more to_at (listed cols-at) l.invariant.0.acc _ _ l.row l.end l.nulls l.i l.invariant.1 column-at next-column from_at f.result s-at l.at _
           _ _ _ x q w,
     )) in
     let l = c.loop-i in
@@ -181,7 +185,7 @@ loop-i-preserved c =
     (λ w.
     let x = subst (MovesCell from_at to_at column-at flag_at s-at l.at l.row l.end planned-row) w.1.given.1 by-plan in
     let a = advance planned-row _ _ _ _ x w.3.ensures in
-    rw (w.4, w.5, w.6, w.7, w.8) (a.0, a.1, l.inv.2))
+    rw (w.4, w.5, w.6, w.7, w.8) (a.0, a.1, l.invariant.2))
     (λ w.
     let d : Declined = record { before = record { before = c; match2 = w.0 }; enum_told = w.1 } in
     let m = w.5 in
@@ -189,7 +193,7 @@ loop-i-preserved c =
     let y = subst (SettlesCell from_at to_at column-at flag_at s-at l.at planned-row l.end m.last.1.1.1.1.1.1.1.0) n.1 m.ensures.0 in
     let x = settled-after from_at to_at column-at flag_at s-at l.at l.row l.end planned-row _ (Moved.Cell n.0.0 n.0.1.0 n.0.1.1.0) (declined d) y in
     let a = advance _ _ _ _ _ x w.12.ensures in
-    rw (w.13, w.14, w.15, w.16, w.17) (a.0, a.1, m.ensures.1 ∙ l.inv.2))
+    rw (w.13, w.14, w.15, w.16, w.17) (a.0, a.1, m.ensures.1 ∙ l.invariant.2))
     c.match-planned.branch
 
 pub end_row-requires : goal.end_row-requires
@@ -200,7 +204,7 @@ frame_row-requires c =
     let begun-of : Begun = c in
     let l = c.loop-i in
     let r = rows_of begun-of in
-    (few r, omega (arith, l.inv.1.puts.long, r.rows.inv.2, r.pre.0.2), omega (arith, l.inv.1.puts.room, l.inv.1.puts.long))
+    (few r, omega (arith, l.invariant.1.puts.long, r.rows.inv.2, r.pre.0.2), omega (arith, l.invariant.1.puts.room, l.invariant.1.puts.long))
 
 pub overflow_sub-out : goal.overflow_sub-out
 overflow_sub-out c =
@@ -214,12 +218,12 @@ put_row-bytes-requires c =
     let framed-row : List ℕ = c.frame_row.last.1.1.1.0 in
     let row-bytes : List ℕ = (let l = c.loop-i in
     let r = rows_of begun-of in
-    start_bytes (to_at r) (cols-at r).count l.nulls ++ (l.inv.1.w ++ write_end (to_at r))) in
-    let stands : (size-at ≤ length framed-row) × (take size-at framed-row ≡ row-bytes) = (let l = (c).before.loop in
+    start_bytes (to_at r) (cols-at r).count l.nulls ++ (l.invariant.1.w ++ write_end (to_at r))) in
+    let stands : (size-at ≤ length framed-row) × (take size-at framed-row ≡ row-bytes) = (let l = c.loop-i in
     let r = rows_of begun-of in
     let g = c.frame_row.ensures.framed in
     let k = subst (FramedAs (to_at r) (cols-at r).count l.nulls l.row l.end framed-row) c.in-Row-frame_row.is g in
-    (k.0, k.1 l.inv.1.w (take r.before.before.start-size.result r.rows.row) l.inv.1.puts.front (length-take-le _ r.rows.row (roomy r) ∙ sym (starts r l.nulls)))) in
+    (k.0, k.1 l.invariant.1.w (take r.before.before.start-size.result r.rows.row) l.invariant.1.puts.front (length-take-le _ r.rows.row (roomy r) ∙ sym (starts r l.nulls)))) in
     (stands.0, omega (arith, c.if-out-bytes.false, (rows_of begun-of).rows.inv.0.room))
 
 pub overflow_add-rows : goal.overflow_add-rows
@@ -233,7 +237,7 @@ overflow_add-rows c =
     let r = b in
     let l = c.loop-i in
     let z = c.end_row in
-    let q = read-end (from_at r) (listed (cols-at r)) _ (s-at r) (body_at b) l.at l.i l.inv.0 past in
+    let q = read-end (from_at r) (listed (cols-at r)) _ (s-at r) (body_at b) l.at l.i l.invariant.0 past in
     begun b ∙ cells-closed (from_at r) (listed (cols-at r)) _ (s-at r) (body_at b) _ _ q z.result z.ensures next-at c.in-Closed.is) in
     let onward : ((rows_of begun-of).rows.place < next-at) × (next-at ≤ length (s-at (rows_of begun-of))) = (let r = rows_of begun-of in
     let z = c.end_row in
@@ -254,7 +258,7 @@ rows-smaller c =
     let r = b in
     let l = c.loop-i in
     let z = c.end_row in
-    let q = read-end (from_at r) (listed (cols-at r)) _ (s-at r) (body_at b) l.at l.i l.inv.0 past in
+    let q = read-end (from_at r) (listed (cols-at r)) _ (s-at r) (body_at b) l.at l.i l.invariant.0 past in
     begun b ∙ cells-closed (from_at r) (listed (cols-at r)) _ (s-at r) (body_at b) _ _ q z.result z.ensures next-at c.in-Closed.is) in
     let onward : ((rows_of begun-of).rows.place < next-at) × (next-at ≤ length (s-at (rows_of begun-of))) = (let r = rows_of begun-of in
     let z = c.end_row in
@@ -273,7 +277,7 @@ rows-preserved c =
     let r = b in
     let l = c.loop-i in
     let z = c.end_row in
-    let q = read-end (from_at r) (listed (cols-at r)) _ (s-at r) (body_at b) l.at l.i l.inv.0 past in
+    let q = read-end (from_at r) (listed (cols-at r)) _ (s-at r) (body_at b) l.at l.i l.invariant.0 past in
     begun b ∙ cells-closed (from_at r) (listed (cols-at r)) _ (s-at r) (body_at b) _ _ q z.result z.ensures next-at c.in-Closed.is) in
     let onward : ((rows_of begun-of).rows.place < next-at) × (next-at ≤ length (s-at (rows_of begun-of))) = (let r = rows_of begun-of in
     let z = c.end_row in
@@ -283,17 +287,17 @@ rows-preserved c =
     let framed-row : List ℕ = c.frame_row.last.1.1.1.0 in
     let row-bytes : List ℕ = (let l = c.loop-i in
     let r = rows_of begun-of in
-    start_bytes (to_at r) (cols-at r).count l.nulls ++ (l.inv.1.w ++ write_end (to_at r))) in
+    start_bytes (to_at r) (cols-at r).count l.nulls ++ (l.invariant.1.w ++ write_end (to_at r))) in
     let written_at : write_row (to_at (rows_of begun-of)) (listed (cols-at (rows_of begun-of))) c.loop-i.invariant.0.acc ≡ good row-bytes = (
     let l = c.loop-i in
     let r = rows_of begun-of in
-    moved_row (to_at r) (listed (cols-at r)) l.inv.0.acc _ _ _ _ l.nulls l.i (cols-at r).count l.inv.1 past
-    (omega (arith, past, l.inv.0.upto, listed-length (cols-at r)))) in
-    let stands : (size-at ≤ length framed-row) × (take size-at framed-row ≡ row-bytes) = (let l = (c).before.loop in
+    moved_row (to_at r) (listed (cols-at r)) l.invariant.0.acc _ _ _ _ l.nulls l.i (cols-at r).count l.invariant.1 past
+    (omega (arith, past, l.invariant.0.upto, listed-length (cols-at r)))) in
+    let stands : (size-at ≤ length framed-row) × (take size-at framed-row ≡ row-bytes) = (let l = c.loop-i in
     let r = rows_of begun-of in
     let g = c.frame_row.ensures.framed in
     let k = subst (FramedAs (to_at r) (cols-at r).count l.nulls l.row l.end framed-row) c.in-Row-frame_row.is g in
-    (k.0, k.1 l.inv.1.w (take r.before.before.start-size.result r.rows.row) l.inv.1.puts.front (length-take-le _ r.rows.row (roomy r) ∙ sym (starts r l.nulls)))) in
+    (k.0, k.1 l.invariant.1.w (take r.before.before.start-size.result r.rows.row) l.invariant.1.puts.front (length-take-le _ r.rows.row (roomy r) ∙ sym (starts r l.nulls)))) in
     let as_many : length row-bytes ≡ size-at = ap length (sym stands.1) ∙ length-take-le size-at framed-row stands.0 in
     let b = begun-of in
     let r = b in
@@ -303,9 +307,9 @@ rows-preserved c =
     let fits = c.if-out-bytes.false in
     let g = c.frame_row.ensures in (
       rows_more (from_at r) (to_at r) (listed (cols-at r)) (s-at r) _ _ _ _ r.rows.out r.rows.place r.rows.rows r.rows.bytes i
-          l.inv.0.acc next-at whole onward.1 row-bytes written_at (omega (arith, as_many, fits, i.room)) _ _ p,
-      l.inv.2 ∙ r.rows.inv.1,
-      g.long ∙ l.inv.1.puts.long ∙ r.rows.inv.2,
+          l.invariant.0.acc next-at whole onward.1 row-bytes written_at (omega (arith, as_many, fits, i.room)) _ _ p,
+      l.invariant.2 ∙ r.rows.inv.1,
+      g.long ∙ l.invariant.1.puts.long ∙ r.rows.inv.2,
     )
 
 pub returns-in-Refused : goal.returns-in-Refused
@@ -388,7 +392,7 @@ returns-in_default c =
     let l = t.before.loop in
     let b = t.before.before in
     let r = b in
-    let f = (c).before.before.before.before.before.flag-of in
+    let f = c.flag_of-flagged in
     cell-left (from_at r) (to_at r) (listed (cols-at r)) (s-at r) r.rows.place r.rows.out r.rows.bytes _ _ (body_at b) l.at l.i (begun b) l.inv.0
     r.rows.row _ l.row l.end l.nulls l.inv.1 r.before.before.start-size.ensures.0 r.rows.inv.2 (column-at t) (next-column t) f.result f.ensures _ unmoved-cell) in
     record {
@@ -410,8 +414,8 @@ returns-in_default-end_row c =
     row-begun from_at (listed cols-at) cols-at.count (listed-length cols-at) s-at c.rows.place g.result g.ensures flags-at body_at c.in-Row.is) in
     let past : length (listed cols-at) ≤ c.loop-i.i = omega (arith, listed-length cols-at, c.loop-i-test.false) in
     let LeftAt : Type 0 = RowLeft from_at to_at (listed cols-at) s-at c.rows.place c.rows.out c.rows.bytes (length c.args.row.now) in
-    let loop-scratch : length c.loop-i.scratch ≡ length (c).args.scratch.now = c.loop-i.invariant.2 ∙ c.rows.invariant.1 in
-    let loop-row : length c.loop-i.row ≡ length (c).args.row.now = c.loop-i.invariant.1.puts.long ∙ c.rows.invariant.2 in
+    let loop-scratch : length c.loop-i.scratch ≡ length c.args.scratch.now = c.loop-i.invariant.2 ∙ c.rows.invariant.1 in
+    let loop-row : length c.loop-i.row ≡ length c.args.row.now = c.loop-i.invariant.1.puts.long ∙ c.rows.invariant.2 in
     let unended : LeftAt = (
     let l = c.loop-i in
     let z = c.end_row in
@@ -431,26 +435,26 @@ returns-in_default-frame_row c =
     let r = b in
     let l = c.loop-i in
     let z = c.end_row in
-    let q = read-end (from_at r) (listed (cols-at r)) _ (s-at r) (body_at b) l.at l.i l.inv.0 past in
+    let q = read-end (from_at r) (listed (cols-at r)) _ (s-at r) (body_at b) l.at l.i l.invariant.0 past in
     begun b ∙ cells-closed (from_at r) (listed (cols-at r)) _ (s-at r) (body_at b) _ _ q z.result z.ensures next-at c.in-Closed.is) in
     let row-bytes : List ℕ = (let l = c.loop-i in
     let r = rows_of begun-of in
-    start_bytes (to_at r) (cols-at r).count l.nulls ++ (l.inv.1.w ++ write_end (to_at r))) in
+    start_bytes (to_at r) (cols-at r).count l.nulls ++ (l.invariant.1.w ++ write_end (to_at r))) in
     let written_at : write_row (to_at (rows_of begun-of)) (listed (cols-at (rows_of begun-of))) c.loop-i.invariant.0.acc ≡ good row-bytes = (
     let l = c.loop-i in
     let r = rows_of begun-of in
-    moved_row (to_at r) (listed (cols-at r)) l.inv.0.acc _ _ _ _ l.nulls l.i (cols-at r).count l.inv.1 past
-    (omega (arith, past, l.inv.0.upto, listed-length (cols-at r)))) in
-    let loop-scratch : length c.loop-i.scratch ≡ length (c).args.scratch.now = c.loop-i.invariant.2 ∙ c.rows.invariant.1 in
-    let loop-row : length c.loop-i.row ≡ length (c).args.row.now = c.loop-i.invariant.1.puts.long ∙ c.rows.invariant.2 in
+    moved_row (to_at r) (listed (cols-at r)) l.invariant.0.acc _ _ _ _ l.nulls l.i (cols-at r).count l.invariant.1 past
+    (omega (arith, past, l.invariant.0.upto, listed-length (cols-at r)))) in
+    let loop-scratch : length c.loop-i.scratch ≡ length c.args.scratch.now = c.loop-i.invariant.2 ∙ c.rows.invariant.1 in
+    let loop-row : length c.loop-i.row ≡ length c.args.row.now = c.loop-i.invariant.1.puts.long ∙ c.rows.invariant.2 in
     let too_long : LeftAt (rows_of begun-of) = (let r = rows_of begun-of in
     let l = c.loop-i in
     let g = c.frame_row.ensures in
     let k = subst (FramedAs (to_at r) (cols-at r).count l.nulls l.row l.end _) c.in_default-frame_row.is g.framed in
     let start = start_bytes (to_at r) (cols-at r).count l.nulls in
-    let cells = l.inv.1.w in
+    let cells = l.invariant.1.w in
     long-left (from_at r) (to_at r) (listed (cols-at r)) (s-at r) r.rows.place r.rows.out r.rows.bytes _ _ _ row-bytes whole written_at
-    (omega (arith, k, g.long, loop-row, l.inv.1.puts.next-is, starts r l.nulls, length-append start (cells ++ write_end (to_at r)), length-append cells (write_end (to_at r))))) in
+    (omega (arith, k, g.long, loop-row, l.invariant.1.puts.next-is, starts r l.nulls, length-append start (cells ++ write_end (to_at r)), length-append cells (write_end (to_at r))))) in
     let g = c.frame_row.ensures in
     record {
       moves_rows = record { moved = (rows_of begun-of).rows.inv.0; stops = too_long };
@@ -469,26 +473,26 @@ returns-then-out-bytes c =
     let r = b in
     let l = c.loop-i in
     let z = c.end_row in
-    let q = read-end (from_at r) (listed (cols-at r)) _ (s-at r) (body_at b) l.at l.i l.inv.0 past in
+    let q = read-end (from_at r) (listed (cols-at r)) _ (s-at r) (body_at b) l.at l.i l.invariant.0 past in
     begun b ∙ cells-closed (from_at r) (listed (cols-at r)) _ (s-at r) (body_at b) _ _ q z.result z.ensures next-at c.in-Closed.is) in
     let size-at : ℕ = c.in-Row-frame_row.size in
     let framed-row : List ℕ = c.frame_row.last.1.1.1.0 in
     let row-bytes : List ℕ = (let l = c.loop-i in
     let r = rows_of begun-of in
-    start_bytes (to_at r) (cols-at r).count l.nulls ++ (l.inv.1.w ++ write_end (to_at r))) in
+    start_bytes (to_at r) (cols-at r).count l.nulls ++ (l.invariant.1.w ++ write_end (to_at r))) in
     let written_at : write_row (to_at (rows_of begun-of)) (listed (cols-at (rows_of begun-of))) c.loop-i.invariant.0.acc ≡ good row-bytes = (
     let l = c.loop-i in
     let r = rows_of begun-of in
-    moved_row (to_at r) (listed (cols-at r)) l.inv.0.acc _ _ _ _ l.nulls l.i (cols-at r).count l.inv.1 past
-    (omega (arith, past, l.inv.0.upto, listed-length (cols-at r)))) in
-    let stands : (size-at ≤ length framed-row) × (take size-at framed-row ≡ row-bytes) = (let l = (c).before.loop in
+    moved_row (to_at r) (listed (cols-at r)) l.invariant.0.acc _ _ _ _ l.nulls l.i (cols-at r).count l.invariant.1 past
+    (omega (arith, past, l.invariant.0.upto, listed-length (cols-at r)))) in
+    let stands : (size-at ≤ length framed-row) × (take size-at framed-row ≡ row-bytes) = (let l = c.loop-i in
     let r = rows_of begun-of in
     let g = c.frame_row.ensures.framed in
     let k = subst (FramedAs (to_at r) (cols-at r).count l.nulls l.row l.end framed-row) c.in-Row-frame_row.is g in
-    (k.0, k.1 l.inv.1.w (take r.before.before.start-size.result r.rows.row) l.inv.1.puts.front (length-take-le _ r.rows.row (roomy r) ∙ sym (starts r l.nulls)))) in
+    (k.0, k.1 l.invariant.1.w (take r.before.before.start-size.result r.rows.row) l.invariant.1.puts.front (length-take-le _ r.rows.row (roomy r) ∙ sym (starts r l.nulls)))) in
     let as_many : length row-bytes ≡ size-at = ap length (sym stands.1) ∙ length-take-le size-at framed-row stands.0 in
-    let loop-scratch : length c.loop-i.scratch ≡ length (c).args.scratch.now = c.loop-i.invariant.2 ∙ c.rows.invariant.1 in
-    let loop-row : length c.loop-i.row ≡ length (c).args.row.now = c.loop-i.invariant.1.puts.long ∙ c.rows.invariant.2 in
+    let loop-scratch : length c.loop-i.scratch ≡ length c.args.scratch.now = c.loop-i.invariant.2 ∙ c.rows.invariant.1 in
+    let loop-row : length c.loop-i.row ≡ length c.args.row.now = c.loop-i.invariant.1.puts.long ∙ c.rows.invariant.2 in
     let full : LeftAt (rows_of begun-of) = (
     let r = rows_of begun-of in
     full-left (from_at r) (to_at r) (listed (cols-at r)) (s-at r) r.rows.place r.rows.out r.rows.bytes _ _ _ row-bytes whole written_at

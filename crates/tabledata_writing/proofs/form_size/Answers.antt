@@ -32,8 +32,7 @@ returns-in_default-3 c = (size-no _ (text-not _ (λ e. omega arith) (λ e. omega
 pub returns-in-32-to-127 : goal.returns-in-32-to-127
 unfolding form_of is_text between escaped form_size
 returns-in-32-to-127 c =
-    let is : c.args.c ≡ 127 = grind arith in
-    (ap (λ (n : ℕ). size_of (form_of (pos n))) is, lit≤ tt)
+    (ap (λ (n : ℕ). size_of (form_of (pos n))) c.in-32-to-127.in-32-to-127-own.keys4, lit≤ tt)
 
 pub returns-in-32-to-127-2 : goal.returns-in-32-to-127-2
 returns-in-32-to-127-2 c =

@@ -38,7 +38,7 @@ returns-then-not-closes c = λ one q. puts_none _ _ (omega (arith, c.requires.2)
 pub overflow_add-end : goal.overflow_add-end
 overflow_add-end c =
     let end : ℕ = c.in-Element.end in
-    let ended : ClosesAt (c).args.s.now end = c.closes.ensures (c.if-not-closes.false) in
+    let ended : ClosesAt c.args.s.now end = c.closes.ensures (c.if-not-closes.false) in
     let h = ended.inside in search rules
 
 pub returns-then-is_declared : goal.returns-then-is_declared
@@ -48,9 +48,9 @@ returns-then-is_declared c =
     let kind : Shape = Whole (is_signed c.args.integer) (width_of c.args.integer) in
     let stands : let a = c.args in InText kind a.s.now a.from end (value ∷ []) = subst (FindsOne _) c.in-Element.is c.text_integer.ensures in
     let fits : to_z w64 (of_z w64 value) ≡ value = search rules in
-    let ended : ClosesAt (c).args.s.now end = c.closes.ensures (c.if-not-closes.false) in
-    let read : let a = (c).args in is_scalar a.column ≡ true → shape a.column.kind ≡ kind → TextRead a.column a.s.now a.from (end + 5) (value ∷ []) = λ one q. let a = (c).args in one-read a.column kind a.s.now a.from end value one q stands ended in
-    let tested : is_declared (c).args.column.null value ≡ c.is_declared.result = sym (ap (is_declared (c).args.column.null) fits) ∙ sym c.is_declared.ensures in
+    let ended : ClosesAt c.args.s.now end = c.closes.ensures (c.if-not-closes.false) in
+    let read : let a = c.args in is_scalar a.column ≡ true → shape a.column.kind ≡ kind → TextRead a.column a.s.now a.from (end + 5) (value ∷ []) = λ one q. let a = c.args in one-read a.column kind a.s.now a.from end value one q stands ended in
+    let tested : is_declared c.args.column.null value ≡ c.is_declared.result = sym (ap (is_declared c.args.column.null) fits) ∙ sym c.is_declared.ensures in
     let a = c.args in
     let p = c.put_null in
     λ one q. null-moved (TextRead a.column a.s.now a.from) TableData a.to a.column kind value a.row.now a.o p.new.row (end + 5) one q
@@ -64,9 +64,9 @@ returns c =
     let kind : Shape = Whole (is_signed c.args.integer) (width_of c.args.integer) in
     let stands : let a = c.args in InText kind a.s.now a.from end (value ∷ []) = subst (FindsOne _) c.in-Element.is c.text_integer.ensures in
     let fits : to_z w64 (of_z w64 value) ≡ value = search rules in
-    let ended : ClosesAt (c).args.s.now end = c.closes.ensures (c.if-not-closes.false) in
-    let read : let a = (c).args in is_scalar a.column ≡ true → shape a.column.kind ≡ kind → TextRead a.column a.s.now a.from (end + 5) (value ∷ []) = λ one q. let a = (c).args in one-read a.column kind a.s.now a.from end value one q stands ended in
-    let tested : is_declared (c).args.column.null value ≡ c.is_declared.result = sym (ap (is_declared (c).args.column.null) fits) ∙ sym c.is_declared.ensures in
+    let ended : ClosesAt c.args.s.now end = c.closes.ensures (c.if-not-closes.false) in
+    let read : let a = c.args in is_scalar a.column ≡ true → shape a.column.kind ≡ kind → TextRead a.column a.s.now a.from (end + 5) (value ∷ []) = λ one q. let a = c.args in one-read a.column kind a.s.now a.from end value one q stands ended in
+    let tested : is_declared c.args.column.null value ≡ c.is_declared.result = sym (ap (is_declared c.args.column.null) fits) ∙ sym c.is_declared.ensures in
     let a = c.args in
     let p = c.put_integer-e in
     λ one q. value-moved (TextRead a.column a.s.now a.from) TableData a.to a.column kind value a.row.now a.o p.new.row (end + 5) one q
@@ -76,5 +76,5 @@ returns c =
 pub overflow_add-result : goal.overflow_add-result
 overflow_add-result c =
     let end : ℕ = c.in-Element.end in
-    let ended : ClosesAt (c).args.s.now end = c.closes.ensures (c.if-not-closes.false) in
+    let ended : ClosesAt c.args.s.now end = c.closes.ensures (c.if-not-closes.false) in
     let h = ended.inside in search rules

@@ -36,7 +36,7 @@ returns-then-not-closes c = λ one q. puts_none _ _ (omega (arith, c.requires.2)
 pub overflow_add-end : goal.overflow_add-end
 overflow_add-end c =
     let end : ℕ = c.in-Element.end in
-    let ended : ClosesAt (c).args.s.now end = c.closes.ensures (c.if-not-closes.false) in
+    let ended : ClosesAt c.args.s.now end = c.closes.ensures (c.if-not-closes.false) in
     let h = ended.inside in search rules
 
 pub returns-then-same_integer : goal.returns-then-same_integer
@@ -45,8 +45,8 @@ returns-then-same_integer c =
     let end : ℕ = c.in-Element.end in
     let stands : let a = c.args in InText Truths a.s.now a.from end (value ∷ []) = subst (FindsOne _) c.in-Element.is c.text_truth.ensures in
     let fits : to_z w64 (of_z w64 value) ≡ value = search rules in
-    let ended : ClosesAt (c).args.s.now end = c.closes.ensures (c.if-not-closes.false) in
-    let read : let a = (c).args in is_scalar a.column ≡ true → shape a.column.kind ≡ Truths → TextRead a.column a.s.now a.from (end + 5) (value ∷ []) = λ one q. let a = (c).args in one-read a.column Truths a.s.now a.from end value one q stands ended in
+    let ended : ClosesAt c.args.s.now end = c.closes.ensures (c.if-not-closes.false) in
+    let read : let a = c.args in is_scalar a.column ≡ true → shape a.column.kind ≡ Truths → TextRead a.column a.s.now a.from (end + 5) (value ∷ []) = λ one q. let a = c.args in one-read a.column Truths a.s.now a.from end value one q stands ended in
     let tested : same_integer value (pos 2) ≡ c.same_integer.result = sym (ap (λ (z : ℤ). same_integer z (pos 2)) fits) ∙ sym c.same_integer.ensures in
     let a = c.args in
     let p = c.put_null in
@@ -60,8 +60,8 @@ returns c =
     let end : ℕ = c.in-Element.end in
     let stands : let a = c.args in InText Truths a.s.now a.from end (value ∷ []) = subst (FindsOne _) c.in-Element.is c.text_truth.ensures in
     let fits : to_z w64 (of_z w64 value) ≡ value = search rules in
-    let ended : ClosesAt (c).args.s.now end = c.closes.ensures (c.if-not-closes.false) in
-    let read : let a = (c).args in is_scalar a.column ≡ true → shape a.column.kind ≡ Truths → TextRead a.column a.s.now a.from (end + 5) (value ∷ []) = λ one q. let a = (c).args in one-read a.column Truths a.s.now a.from end value one q stands ended in
+    let ended : ClosesAt c.args.s.now end = c.closes.ensures (c.if-not-closes.false) in
+    let read : let a = c.args in is_scalar a.column ≡ true → shape a.column.kind ≡ Truths → TextRead a.column a.s.now a.from (end + 5) (value ∷ []) = λ one q. let a = c.args in one-read a.column Truths a.s.now a.from end value one q stands ended in
     let tested : same_integer value (pos 2) ≡ c.same_integer.result = sym (ap (λ (z : ℤ). same_integer z (pos 2)) fits) ∙ sym c.same_integer.ensures in
     let a = c.args in
     let p = c.put_truth-e in
@@ -72,5 +72,5 @@ returns c =
 pub overflow_add-result : goal.overflow_add-result
 overflow_add-result c =
     let end : ℕ = c.in-Element.end in
-    let ended : ClosesAt (c).args.s.now end = c.closes.ensures (c.if-not-closes.false) in
+    let ended : ClosesAt c.args.s.now end = c.closes.ensures (c.if-not-closes.false) in
     let h = ended.inside in search rules

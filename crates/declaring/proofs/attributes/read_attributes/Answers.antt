@@ -53,7 +53,7 @@ pub overflow_add-at : goal.overflow_add-at
 overflow_add-at c =
     let text_at : List ℕ = c.args.s.now in
     let value : let s = text_at in QuotedIs s c.span_end-name_end.result (assigned (drop c.span_end-name_end.result s)) (Holds c.in-Holds.start c.in-Holds.end) = subst (QuotedIs _ _ _) c.in-Holds.is c.read_value.ensures in
-    omega (arith, value.places.2, c.good)
+    omega (arith, value.places.2)
 
 pub loop-at-smaller : goal.loop-at-smaller
 loop-at-smaller c =

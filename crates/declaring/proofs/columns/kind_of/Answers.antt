@@ -2,7 +2,7 @@
 use Prim.Native.Nat.{ℕ}
 use Rattle.fields.specs.Fields.{kind_of, kinds}
 use Rattle.table.specs.Bytes.{same}
-use Rattle.table.specs.Result.{good}
+use Rattle.table.specs.Result.{bad, good}
 use Rattle.table.specs.declared.Kind.{Kind}
 use borrow.Author.Rules.{rules}
 use lib.ListN.{drop}
@@ -78,8 +78,13 @@ returns-then-same_bytes-7 c =
     let passed-6 : Passed 6 c.args.t.now = passed-5 ∙ not-met _ _ _ _ c.same_bytes-6.ensures c.if-same_bytes-6.false in
     passed-6 ∙ met _ _ _ _ c.same_bytes-7.ensures c.if-same_bytes-7.true
 
-pub returns : goal.returns
+-- behind the last name there is none
+none-left : (t : List ℕ) → kind_of (drop 7 kinds) t ≡ bad 2
 unfolding kind_of kinds
+none-left t = refl
+
+pub returns : goal.returns
+unfolding kinds
 returns c =
     let passed-1 : Passed 1 c.args.t.now = not-met _ _ _ _ c.same_bytes.ensures c.if-same_bytes.false in
     let passed-2 : Passed 2 c.args.t.now = passed-1 ∙ not-met _ _ _ _ c.same_bytes-2.ensures c.if-same_bytes-2.false in
@@ -88,4 +93,4 @@ returns c =
     let passed-5 : Passed 5 c.args.t.now = passed-4 ∙ not-met _ _ _ _ c.same_bytes-5.ensures c.if-same_bytes-5.false in
     let passed-6 : Passed 6 c.args.t.now = passed-5 ∙ not-met _ _ _ _ c.same_bytes-6.ensures c.if-same_bytes-6.false in
     let passed-7 : Passed 7 c.args.t.now = passed-6 ∙ not-met _ _ _ _ c.same_bytes-7.ensures c.if-same_bytes-7.false in
-    passed-7
+    passed-7 ∙ none-left c.args.t.now
