@@ -71,14 +71,16 @@ shape_of-b-in-Unread c = c.compare_cell-p.ensures.b_len_unchanged ∙ c.loop-i.i
 
 pub returns-in-Unread : goal.returns-in-Unread
 returns-in-Unread c =
-    let start : Start = c in
-    let column : Column = get_or (cols-of start).list c.loop-i.i no_column in
-    let next-column : drop c.loop-i.i (listed (cols-of start)) ≡ column ∷ drop (suc c.loop-i.i) (listed (cols-of start)) = listed_next (cols-of start) c.loop-i.i c.loop-i-test.true in
-    let unread : OneUnread (read_cell start.args.one.from column c.flag_of-flag.result (drop c.loop-i.at start.args.first.now)) (read_cell start.args.two.from column c.flag_of-other.result (drop c.loop-i.place start.args.second.now)) → OneUnread (cells_end start.args.one.from (listed (cols-of start)) (flags_of start) (drop start.args.one.at start.args.first.now)) (cells_end start.args.two.from (listed (cols-of start)) (others-of start) (drop start.args.two.at start.args.second.now)) = λ h. (unread-cells start.args.one.from start.args.two.from (listed (cols-of start)) (flags_of start) (others-of start) start.args.first.now start.args.second.now
-    start.args.one.at start.args.two.at c.loop-i.i _ _ h
-    (λ n e. read-stop start.args.one.from (listed (cols-of start)) (flags_of start) start.args.first.now start.args.one.at c.loop-i.at c.loop-i.i c.loop-i.invariant.0
+    let cols-of : Columns = c.args.cols in
+    let flags_of : List Bool = flags_in c.args.one.from cols-of.count c.args.flags in
+    let others-of : List Bool = flags_in c.args.two.from cols-of.count c.args.others in
+    let column : Column = get_or cols-of.list c.loop-i.i no_column in
+    let next-column : drop c.loop-i.i (listed cols-of) ≡ column ∷ drop (suc c.loop-i.i) (listed cols-of) = listed_next cols-of c.loop-i.i c.loop-i-test.true in
+    let unread : OneUnread (read_cell c.args.one.from column c.flag_of-flag.result (drop c.loop-i.at c.args.first.now)) (read_cell c.args.two.from column c.flag_of-other.result (drop c.loop-i.place c.args.second.now)) → OneUnread (cells_end c.args.one.from (listed cols-of) flags_of (drop c.args.one.at c.args.first.now)) (cells_end c.args.two.from (listed cols-of) others-of (drop c.args.two.at c.args.second.now)) = λ h. (unread-cells c.args.one.from c.args.two.from (listed cols-of) flags_of others-of c.args.first.now c.args.second.now
+    c.args.one.at c.args.two.at c.loop-i.i _ _ h
+    (λ n e. read-stop c.args.one.from (listed cols-of) flags_of c.args.first.now c.args.one.at c.loop-i.at c.loop-i.i c.loop-i.invariant.0
     column next-column c.flag_of-flag.result c.flag_of-flag.ensures n e)
-    (λ n e. read-stop start.args.two.from (listed (cols-of start)) (others-of start) start.args.second.now start.args.two.at c.loop-i.place c.loop-i.i c.loop-i.invariant.1
+    (λ n e. read-stop c.args.two.from (listed cols-of) others-of c.args.second.now c.args.two.at c.loop-i.place c.loop-i.i c.loop-i.invariant.1
     column next-column c.flag_of-other.result c.flag_of-other.ensures n e)) in
     let p = c.compare_cell-p in
     record {
@@ -89,13 +91,15 @@ returns-in-Unread c =
 
 pub add_flag-differing-requires : goal.add_flag-differing-requires
 add_flag-differing-requires c =
-    let start : Start = c in
-    omega (arith, few start, c.loop-i-test.true)
+    let cols-of : Columns = c.args.cols in
+    let few : cols-of.count ≤ 64 = omega (arith, c.requires.0.few, listed-length cols-of) in
+    omega (arith, few, c.loop-i-test.true)
 
 pub overflow_add-i : goal.overflow_add-i
 overflow_add-i c =
-    let start : Start = c in
-    omega (arith, few start, c.loop-i-test.true)
+    let cols-of : Columns = c.args.cols in
+    let few : cols-of.count ≤ 64 = omega (arith, c.requires.0.few, listed-length cols-of) in
+    omega (arith, few, c.loop-i-test.true)
 
 pub loop-i-smaller : goal.loop-i-smaller
 loop-i-smaller c =
@@ -104,19 +108,20 @@ loop-i-smaller c =
 pub loop-i-preserved : goal.loop-i-preserved
 unfolding read_more
 loop-i-preserved c =
-    let start : Start = c in
-    let column : Column = get_or (cols-of start).list c.loop-i.i no_column in
-    let more : c.loop-i.i < length (listed (cols-of start)) = omega (arith, listed-length (cols-of start), c.loop-i-test.true) in
-    let next-column : drop c.loop-i.i (listed (cols-of start)) ≡ column ∷ drop (suc c.loop-i.i) (listed (cols-of start)) = listed_next (cols-of start) c.loop-i.i c.loop-i-test.true in
-    let a = start in
+    let cols-of : Columns = c.args.cols in
+    let flags_of : List Bool = flags_in c.args.one.from cols-of.count c.args.flags in
+    let others-of : List Bool = flags_in c.args.two.from cols-of.count c.args.others in
+    let column : Column = get_or cols-of.list c.loop-i.i no_column in
+    let more : c.loop-i.i < length (listed cols-of) = omega (arith, listed-length cols-of, c.loop-i-test.true) in
+    let next-column : drop c.loop-i.i (listed cols-of) ≡ column ∷ drop (suc c.loop-i.i) (listed cols-of) = listed_next cols-of c.loop-i.i c.loop-i-test.true in
     let inv = c.loop-i.invariant in
     let p = c.compare_cell-p in
     let f = c.flag_of-flag in
     let g = c.flag_of-other in
     let x = subst (PairsCell _ _ _ _ _ _) c.in-Read.is p.ensures.pairs_cell in (
-      read_more a.args.one.from (listed (cols-of a)) (flags_of a) a.args.first.now a.args.one.at c.loop-i.at c.loop-i.i inv.0 column next-column f.result
+      read_more c.args.one.from (listed cols-of) flags_of c.args.first.now c.args.one.at c.loop-i.at c.loop-i.i inv.0 column next-column f.result
           f.ensures x.x _ more x.found x.within.0 x.within.1,
-      read_more a.args.two.from (listed (cols-of a)) (others-of a) a.args.second.now a.args.two.at c.loop-i.place c.loop-i.i inv.1 column next-column g.result
+      read_more c.args.two.from (listed cols-of) others-of c.args.second.now c.args.two.at c.loop-i.place c.loop-i.i inv.1 column next-column g.result
           g.ensures x.y _ more x.found-other x.within-other.0 x.within-other.1,
       differing-more inv.0.acc inv.1.acc c.loop-i.i c.loop-i.differing inv.2 x.x x.y _ _ x.shows c.add_flag-differing.ensures,
       p.ensures.a_len_unchanged ∙ inv.3,

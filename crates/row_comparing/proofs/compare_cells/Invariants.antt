@@ -21,8 +21,8 @@ use Rattle.row_comparing.proofs.compare_cells.Given as goal
 abbrev pub invariant-loop-i : goal.invariant-loop-i
 invariant-loop-i l =
     (k : RowRead l.from (listed l.cols) (flags_in l.from l.count l.flags) l.first l.initial.at l.at l.i)
-    × (l : RowRead l.kind (listed l.cols) (flags_in l.kind l.count l.others) l.second l.initial.place l.place l.i)
-    × Differing k.acc l.acc l.i l.differing
+    × (m : RowRead l.kind (listed l.cols) (flags_in l.kind l.count l.others) l.second l.initial.place l.place l.i)
+    × Differing k.acc m.acc l.i l.differing
     × (length l.a ≡ length l.initial.a)
     × (length l.b ≡ length l.initial.b)
 

@@ -51,12 +51,13 @@ returns c =
     let g = c.begin_row in
     let h = c.begin_row-2 in
     let n = listed-length c.args.cols in
-    let whole = (
-      row-paired c.args.one.from c.args.two.from (listed c.args.cols) _ _ c.args.first.now c.args.second.now c.args.one.at c.args.two.at
-          c.in-Row.body c.in-Row-begin_row.behind c.requires.0
-          (row-begun c.args.one.from (listed c.args.cols) _ n c.args.first.now c.args.one.at g.result g.ensures _ _ c.in-Row.is)
-          (row-begun c.args.two.from (listed c.args.cols) _ n c.args.second.now c.args.two.at h.result h.ensures _ _ c.in-Row-begin_row.is)
-          _ p.result p.ensures.pairs_row,
-      p.ensures.1,
-    ) in
-    record { pairs_row = whole.0; a_len_unchanged = whole.1.0; b_len_unchanged = whole.1.1 }
+    record {
+      pairs_row =
+        row-paired c.args.one.from c.args.two.from (listed c.args.cols) _ _ c.args.first.now c.args.second.now c.args.one.at c.args.two.at
+            c.in-Row.body c.in-Row-begin_row.behind c.requires.0
+            (row-begun c.args.one.from (listed c.args.cols) _ n c.args.first.now c.args.one.at g.result g.ensures _ _ c.in-Row.is)
+            (row-begun c.args.two.from (listed c.args.cols) _ n c.args.second.now c.args.two.at h.result h.ensures _ _ c.in-Row-begin_row.is)
+            _ p.result p.ensures.pairs_row;
+      a_len_unchanged = p.ensures.a_len_unchanged;
+      b_len_unchanged = p.ensures.b_len_unchanged;
+    }
