@@ -9,14 +9,16 @@ const PAGES: [&str; 2] = ["docs/CONTRACTS.md", "docs/CHANGING.md"];
 
 /// What the pages quote from the rules and what they say of the language: no names of ours.
 const NO_NAMES: &str = "=|>|/>|<|-_:.|n|n*|*|1|datatype|arraysize|T t 1|F f 0|b|T|F|?|<TD/>|</TD|&#|&#x|T t 1 F f 0 ?|0|+|-|0x|\
-    &amp;|&lt;|&gt;|&#xD;|0xffff|specs/|must-fail|requires|match|stdin|stdout|rt dev";
+    &amp;|&lt;|&gt;|&#xD;|0xffff|specs/|must-fail|requires|match|stdin|stdout|rt check";
 
-/// Every file below a folder.
+/// Every file below a folder, but for what rt makes.
 fn files(folder: &Path, found: &mut Vec<PathBuf>) {
     for entry in fs::read_dir(folder).expect("a folder") {
         let place = entry.expect("an entry").path();
         if place.is_dir() {
-            files(&place, found);
+            if !place.ends_with("out") {
+                files(&place, found);
+            }
         } else {
             found.push(place);
         }
@@ -106,7 +108,7 @@ fn every_name_is_declared() {
 #[test]
 fn a_name_that_is_made_up_is_found() {
     let names = declared();
-    let page = "`declare` `Word::next` `rows` `demands/specs/Demands.antt` `sailmortar_convert` `Fixed` `bufferOf` `n*` `answer`\n";
+    let page = "`declare` `Word::next` `rows` `demands/specs/Demands.antt` `sailmortar_convert` `Fixed` `buffer_of` `n*` `answer`\n";
     assert_eq!(unknown(page, &names), Vec::<String>::new());
     let page = "`declares-nothing` `Word::missing`\n```\n`fenced`\n```\n`rows/specs/None.antt` and `conv ert`\n    `code`\n";
     assert_eq!(unknown(page, &names), ["declares-nothing", "Word::missing", "rows/specs/None.antt", "conv ert"]);

@@ -3,6 +3,7 @@
 
 use std::fs::{self, File};
 use std::io::Read;
+use std::ops::Deref;
 use std::os::unix::fs::{MetadataExt, PermissionsExt};
 use std::path::{Path, PathBuf};
 use std::process::{Command, Output};
@@ -10,14 +11,33 @@ use std::process::{Command, Output};
 const ROOT: &str = env!("CARGO_MANIFEST_DIR");
 const VERSION: &str = env!("CARGO_PKG_VERSION");
 
+/// A scratch folder, which goes with its test: `rt ci` refuses a link wherever it stands, and an install has one.
+struct Scratch(PathBuf);
+
+impl Deref for Scratch {
+    type Target = Path;
+
+    fn deref(&self) -> &Path {
+        &self.0
+    }
+}
+
+impl Drop for Scratch {
+    fn drop(&mut self) {
+        if !std::thread::panicking() {
+            let _ = fs::remove_dir_all(&self.0);
+        }
+    }
+}
+
 /// A scratch folder with nothing in it.
-fn scratch(name: &str) -> PathBuf {
+fn scratch(name: &str) -> Scratch {
     let folder = Path::new(env!("CARGO_TARGET_TMPDIR")).join("install").join(name);
     if folder.exists() {
         fs::remove_dir_all(&folder).expect("an old scratch folder goes");
     }
     fs::create_dir_all(&folder).expect("a scratch folder");
-    folder
+    Scratch(folder)
 }
 
 fn text(bytes: &[u8]) -> String {
@@ -39,7 +59,7 @@ fn install(words: &[&str]) -> Command {
 }
 
 /// Installs into a fresh prefix; the name has a space, as the name of a folder may have one.
-fn installed(name: &str) -> PathBuf {
+fn installed(name: &str) -> Scratch {
     let prefix = scratch(&format!("a prefix for {name}"));
     said(&mut install(&[path(&prefix)]));
     prefix
@@ -148,14 +168,16 @@ fn dynamic_lines(file: &Path, tag: &str) -> String {
 #[test]
 fn the_shared_library_has_its_soname() {
     if is_here("readelf") {
-        let shared = installed("the soname").join("lib/libsailmortar.so");
+        let prefix = installed("the soname");
+        let shared = prefix.join("lib/libsailmortar.so");
         assert!(dynamic_lines(&shared, "(SONAME)").contains("[libsailmortar.so.0]"), "{}", dynamic_lines(&shared, ""));
     }
 }
 
 #[test]
 fn the_file_of_pkg_config_has_the_version_of_the_package() {
-    let file = installed("the version").join("lib/pkgconfig/sailmortar.pc");
+    let prefix = installed("the version");
+    let file = prefix.join("lib/pkgconfig/sailmortar.pc");
     let file = fs::read_to_string(file).expect("the file of pkg-config");
     assert!(file.lines().any(|line| line == format!("Version: {VERSION}")), "{file}");
     assert!(!file.contains('@'), "{file}");
@@ -208,7 +230,7 @@ fn a_second_install_moves_new_files_over_those_of_the_first() {
 #[test]
 fn destdir_stands_before_every_place_and_not_in_the_files() {
     let stage = scratch("stage");
-    let said = said(install(&["/opt/sailmortar/"]).env("DESTDIR", &stage));
+    let said = said(install(&["/opt/sailmortar/"]).env("DESTDIR", &*stage));
     assert_eq!(places(&said, &stage.join("opt/sailmortar")), files(&stage));
     assert_eq!(said.lines().count(), files(&stage).len(), "{said}");
     let file = fs::read_to_string(stage.join("opt/sailmortar/lib/pkgconfig/sailmortar.pc")).expect("the file of pkg-config");
@@ -218,7 +240,7 @@ fn destdir_stands_before_every_place_and_not_in_the_files() {
 #[test]
 fn a_relative_prefix_is_made_absolute() {
     let folder = scratch("relative");
-    let said = said(install(&["elsewhere/../here"]).current_dir(&folder));
+    let said = said(install(&["elsewhere/../here"]).current_dir(&*folder));
     let prefix = folder.join("here");
     assert_eq!(places(&said, &prefix), files(&folder));
     let file = fs::read_to_string(prefix.join("lib/pkgconfig/sailmortar.pc")).expect("the file of pkg-config");
@@ -279,9 +301,12 @@ fn a_second_build_runs_nothing() {
 fn the_library_is_dated_no_later_than_its_newest_source() {
     let root = Path::new(ROOT);
     let date = |place: &PathBuf| fs::metadata(place).and_then(|data| data.modified()).expect("a date");
-    let mut sources = files(&root.join("crates"));
-    sources.extend(files(&root.join("tool/aarch64")));
-    sources.extend(["crates.txt", "include/sailmortar.h", "tool/build.rs", "tool/version.c"].map(|source| root.join(source)));
+    let mut sources = ["crates.txt", "include/sailmortar.h", "tool/build.rs", "tool/version.c"].map(|source| root.join(source)).to_vec();
+    for entry in fs::read_dir(root.join("crates")).expect("the crates") {
+        let folder = entry.expect("a crate").path();
+        let parts = ["src", "specs", "proofs"].map(|part| folder.join(part));
+        sources.extend(parts.iter().filter(|part| part.is_dir()).flat_map(|part| files(part)));
+    }
     let newest = sources.iter().map(date).max().expect("a source");
     for product in ["libsailmortar.a", "libsailmortar.so.0", "libsailmortar.so"] {
         assert!(date(&root.join("target/library").join(product)) <= newest, "{product}");

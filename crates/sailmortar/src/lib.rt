@@ -1,5 +1,5 @@
-// The public face: the functions for C, Rust and Python, numbers and slices only. `answer` gets the number, the row, the column, the rows done
-// and the bytes written.
+// The public face: the functions for C (exported by sailmortar_c), Rust and Python, numbers and slices only. `answer` gets the number, the row, the
+// column, the rows done and the bytes written.
 #![tactic(auto)]
 
 ghost use Rattle.std.specs.Prelude.{◌≡◌};
@@ -15,8 +15,7 @@ const NO_SUCH_KIND_OF_PIECE: [u64; 6] = [255, 0, 0, 0, 0, 0];
 const NO_SUCH_KIND_TO_COMPARE: [u64; 8] = [255, 0, 0, 0, 0, 0, 0, 0];
 
 // Rows of one kind to rows of another. A number that names no kind is answered 255, before anything else is judged.
-#[unsafe(no_mangle)]
-pub extern "C" fn sailmortar_convert(
+pub fn sailmortar_convert(
     decls: &[u8],
     from: u32,
     to: u32,
@@ -39,8 +38,7 @@ pub extern "C" fn sailmortar_convert(
 }
 
 // The same for a piece of a table: sixth, `answer` gets the place in the input where the rows done end, so that the caller can go on from there.
-#[unsafe(no_mangle)]
-pub extern "C" fn sailmortar_convert_piece(
+pub fn sailmortar_convert_piece(
     decls: &[u8],
     from: u32,
     to: u32,
@@ -64,8 +62,7 @@ pub extern "C" fn sailmortar_convert_piece(
 }
 
 // An index of a stream: `index` gets the start of row 64k at place k, and `answer` the number, the row, the column, the rows and 0.
-#[unsafe(no_mangle)]
-pub extern "C" fn sailmortar_index(
+pub fn sailmortar_index(
     decls: &[u8],
     from: u32,
     input: &[u8],
@@ -83,8 +80,7 @@ pub extern "C" fn sailmortar_index(
 }
 
 // One row by an index and the count of rows that came with it, as its TABLEDATA line.
-#[unsafe(no_mangle)]
-pub extern "C" fn sailmortar_fetch(
+pub fn sailmortar_fetch(
     decls: &[u8],
     from: u32,
     input: &[u8],
@@ -109,8 +105,7 @@ pub extern "C" fn sailmortar_fetch(
 
 // Two inputs, each of its own kind: `places` gets the rows and columns of the first cells that differ, and `answer` the number, the row, the column and
 // the input of a refusal, the cells that differ, the rows that the first has beyond the second and the second beyond the first, and the places filled.
-#[unsafe(no_mangle)]
-pub extern "C" fn sailmortar_compare(
+pub fn sailmortar_compare(
     decls: &[u8],
     from: u32,
     first: &[u8],
@@ -136,8 +131,7 @@ pub extern "C" fn sailmortar_compare(
 
 // Parts of an input of this length, each converted by itself, joined in the room of the whole: `joined` has at entry how far it has come, all 0 at
 // first, and gets how far with these parts, nine numbers each: start, length, room, and the six that its call answered.
-#[unsafe(no_mangle)]
-pub extern "C" fn sailmortar_join(length: u64, room: u64, parts: &[u64], joined: &mut [u64; 8])
+pub fn sailmortar_join(length: u64, room: u64, parts: &[u64], joined: &mut [u64; 8])
     ensures { joined.new ≡ join_face length room parts.now joined.old }
 {
     let so_far = numbering::joined_of(joined);
@@ -145,8 +139,7 @@ pub extern "C" fn sailmortar_join(length: u64, room: u64, parts: &[u64], joined:
 }
 
 // Base64 to bytes.
-#[unsafe(no_mangle)]
-pub extern "C" fn sailmortar_base64_decode(input: &[u8], out: &mut [u8], answer: &mut [u64; 5])
+pub fn sailmortar_base64_decode(input: &[u8], out: &mut [u8], answer: &mut [u64; 5])
     ensures numbers { answer.new ≡ (decode_face input.now out.old).numbers }
     ensures buffer { out.new ≡ (decode_face input.now out.old).buffer }
 {
@@ -154,8 +147,7 @@ pub extern "C" fn sailmortar_base64_decode(input: &[u8], out: &mut [u8], answer:
 }
 
 // Bytes to base64, without line breaks.
-#[unsafe(no_mangle)]
-pub extern "C" fn sailmortar_base64_encode(input: &[u8], out: &mut [u8], answer: &mut [u64; 5])
+pub fn sailmortar_base64_encode(input: &[u8], out: &mut [u8], answer: &mut [u64; 5])
     ensures numbers { answer.new ≡ (encode_face input.now out.old).numbers }
     ensures buffer { out.new ≡ (encode_face input.now out.old).buffer }
 {
@@ -163,8 +155,7 @@ pub extern "C" fn sailmortar_base64_encode(input: &[u8], out: &mut [u8], answer:
 }
 
 // Declarations alone: `answer` gets the number, 0, the place, how many columns are declared, and 0.
-#[unsafe(no_mangle)]
-pub extern "C" fn sailmortar_declare(decls: &[u8], answer: &mut [u64; 5])
+pub fn sailmortar_declare(decls: &[u8], answer: &mut [u64; 5])
     ensures { answer.new ≡ declare_face decls.now }
 {
     let d = declaring::declare(decls);

@@ -7,5 +7,9 @@ use Rattle.comparing.proofs.count_differing.Goals as goal
 pub returns : goal.returns
 returns c =
     let stepped = c.step_rows in
-    let whole = (counts_all c.args.from (listed c.args.cols) c.args.first.now c.args.kind c.args.second.now c.requires.1 _ _ stepped.result stepped.ensures.steps, stepped.ensures.1) in
-    record { counts = whole.0; a_len_unchanged = whole.1.0; b_len_unchanged = whole.1.1 }
+    record {
+      counts = counts_all c.args.from (listed c.args.cols) c.args.first.now c.args.kind c.args.second.now c.requires.1 _ _ stepped.result
+          stepped.ensures.steps;
+      a_len_unchanged = stepped.ensures.a_len_unchanged;
+      b_len_unchanged = stepped.ensures.b_len_unchanged;
+    }

@@ -48,7 +48,7 @@ put_truth-o-requires c = omega (arith, c.if-row-o-lt2.false)
 pub overflow_add-count : goal.overflow_add-count
 overflow_add-count c =
     let z : ℤ = c.in-Element.z in
-    let read : InText Truths c.args.s.now c.loop-z.at c.in-Element.next (z ∷ []) = subst (FindsOne _) c.in-Element.is c.text_truth.ensures in
+    let read : InText Truths c.args.s.now c.loop-z.at c.in-Element.next (z ∷ []) = c.in-Element.ensures in
     let copied : let a = c.args in WordsTo Truths truth_text a.s.now a.from c.in-Element.next a.row.now a.first c.put_truth-o.new.row c.put_truth-o.result (c.loop-z.count + 1) = (let e : to_z w64 (of_z w64 z) ≡ z = search rules in
     words_more truths-worded c.loop-z.invariant read (puts-as (ap (λ (y : ℤ). truth_text y ++ (32 ∷ [])) e) c.put_truth-o.ensures)) in
     let r = copied in let h = words-few r in let k = r.puts.room in search rules
@@ -59,7 +59,7 @@ bounds-s-next c = omega arith
 pub overflow_sub-result : goal.overflow_sub-result
 overflow_sub-result c =
     let z : ℤ = c.in-Element.z in
-    let read : InText Truths c.args.s.now c.loop-z.at c.in-Element.next (z ∷ []) = subst (FindsOne _) c.in-Element.is c.text_truth.ensures in
+    let read : InText Truths c.args.s.now c.loop-z.at c.in-Element.next (z ∷ []) = c.in-Element.ensures in
     let copied : let a = c.args in WordsTo Truths truth_text a.s.now a.from c.in-Element.next a.row.now a.first c.put_truth-o.new.row c.put_truth-o.result (c.loop-z.count + 1) = (let e : to_z w64 (of_z w64 z) ≡ z = search rules in
     words_more truths-worded c.loop-z.invariant read (puts-as (ap (λ (y : ℤ). truth_text y ++ (32 ∷ [])) e) c.put_truth-o.ensures)) in
     omega (arith, words-few copied)
@@ -67,7 +67,7 @@ overflow_sub-result c =
 pub shape_of-row-then-s-next-ne32 : goal.shape_of-row-then-s-next-ne32
 shape_of-row-then-s-next-ne32 c =
     let z : ℤ = c.in-Element.z in
-    let read : InText Truths c.args.s.now c.loop-z.at c.in-Element.next (z ∷ []) = subst (FindsOne _) c.in-Element.is c.text_truth.ensures in
+    let read : InText Truths c.args.s.now c.loop-z.at c.in-Element.next (z ∷ []) = c.in-Element.ensures in
     let copied : let a = c.args in WordsTo Truths truth_text a.s.now a.from c.in-Element.next a.row.now a.first c.put_truth-o.new.row c.put_truth-o.result (c.loop-z.count + 1) = (let e : to_z w64 (of_z w64 z) ≡ z = search rules in
     words_more truths-worded c.loop-z.invariant read (puts-as (ap (λ (y : ℤ). truth_text y ++ (32 ∷ [])) e) c.put_truth-o.ensures)) in
     copied.puts.long
@@ -75,7 +75,7 @@ shape_of-row-then-s-next-ne32 c =
 pub returns-then-s-next-ne32 : goal.returns-then-s-next-ne32
 returns-then-s-next-ne32 c =
     let z : ℤ = c.in-Element.z in
-    let read : InText Truths c.args.s.now c.loop-z.at c.in-Element.next (z ∷ []) = subst (FindsOne _) c.in-Element.is c.text_truth.ensures in
+    let read : InText Truths c.args.s.now c.loop-z.at c.in-Element.next (z ∷ []) = c.in-Element.ensures in
     let copied : let a = c.args in WordsTo Truths truth_text a.s.now a.from c.in-Element.next a.row.now a.first c.put_truth-o.new.row c.put_truth-o.result (c.loop-z.count + 1) = (let e : to_z w64 (of_z w64 z) ≡ z = search rules in
     words_more truths-worded c.loop-z.invariant read (puts-as (ap (λ (y : ℤ). truth_text y ++ (32 ∷ [])) e) c.put_truth-o.ensures)) in
     words-moved truths-worded copied (omega arith)
@@ -86,13 +86,13 @@ overflow_add-at c = search rules
 pub loop-z-smaller : goal.loop-z-smaller
 loop-z-smaller c =
     let z : ℤ = c.in-Element.z in
-    let read : InText Truths c.args.s.now c.loop-z.at c.in-Element.next (z ∷ []) = subst (FindsOne _) c.in-Element.is c.text_truth.ensures in
+    let read : InText Truths c.args.s.now c.loop-z.at c.in-Element.next (z ∷ []) = c.in-Element.ensures in
     omega (arith, read.spells.onward)
 
 pub loop-z-preserved : goal.loop-z-preserved
 loop-z-preserved c =
     let z : ℤ = c.in-Element.z in
-    let read : InText Truths c.args.s.now c.loop-z.at c.in-Element.next (z ∷ []) = subst (FindsOne _) c.in-Element.is c.text_truth.ensures in
+    let read : InText Truths c.args.s.now c.loop-z.at c.in-Element.next (z ∷ []) = c.in-Element.ensures in
     let copied : let a = c.args in WordsTo Truths truth_text a.s.now a.from c.in-Element.next a.row.now a.first c.put_truth-o.new.row c.put_truth-o.result (c.loop-z.count + 1) = (let e : to_z w64 (of_z w64 z) ≡ z = search rules in
     words_more truths-worded c.loop-z.invariant read (puts-as (ap (λ (y : ℤ). truth_text y ++ (32 ∷ [])) e) c.put_truth-o.ensures)) in
     words-between truths-worded copied (omega arith) c.if-s-next-ne32.false

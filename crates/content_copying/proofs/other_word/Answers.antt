@@ -23,6 +23,6 @@ returns c =
     let e : to_z w64 (of_z w64 z) ≡ z = search rules in
     record {
       z = c.in-Element.z;
-      reads = subst (FindsOne _) c.in-Element.is c.text_integer.ensures;
+      reads = c.in-Element.ensures;
       puts = puts-as (ap (λ (y : ℤ). shortest y ++ (32 ∷ [])) e) c.put_word-e.ensures;
     }

@@ -65,7 +65,7 @@ overflow_add-count c =
 pub bounds-s-next : goal.bounds-s-next
 bounds-s-next c =
     let next : ℕ = c.in-Element.next in
-    let inside : next < length c.args.s.now = subst (EndsBefore _) c.in-Element.is c.array_integer.ensures.1 in
+    let inside : next < length c.args.s.now = c.in-Element.ensures.1 in
     let h = inside in search rules
 
 pub shape_of-row-then-s-next-ne32 : goal.shape_of-row-then-s-next-ne32
@@ -84,7 +84,7 @@ returns-then-s-next-ne32 c =
     let z : ℤ = c.in-Element.z in
     let next : ℕ = c.in-Element.next in
     let k : Integer = c.args.integer in
-    let found : InText (Whole (is_signed k) (width_of k)) c.args.s.now c.loop-at.at next (z ∷ []) = subst (FindsOne _) c.in-Element.is c.array_integer.ensures.0 in
+    let found : InText (Whole (is_signed k) (width_of k)) c.args.s.now c.loop-at.at next (z ∷ []) = c.in-Element.ensures.0 in
     let put : Puts c.loop-at.row c.loop-at.o (to_digits 256 (size k) (number (Whole (is_signed k) (width_of k)) z)) c.write_integer-o.new.out c.write_integer-o.result = (let l = c.loop-at in
     let e : to_z w64 (of_z w64 z) ≡ z = search rules in
     whole-puts (is_signed k) (width_of k) z
@@ -96,7 +96,7 @@ returns-then-s-next-ne32 c =
 pub overflow_add-at : goal.overflow_add-at
 overflow_add-at c =
     let next : ℕ = c.in-Element.next in
-    let inside : next < length c.args.s.now = subst (EndsBefore _) c.in-Element.is c.array_integer.ensures.1 in
+    let inside : next < length c.args.s.now = c.in-Element.ensures.1 in
     let h = inside in search rules
 
 pub loop-at-smaller : goal.loop-at-smaller
@@ -104,7 +104,7 @@ loop-at-smaller c =
     let z : ℤ = c.in-Element.z in
     let next : ℕ = c.in-Element.next in
     let k : Integer = c.args.integer in
-    let found : InText (Whole (is_signed k) (width_of k)) c.args.s.now c.loop-at.at next (z ∷ []) = subst (FindsOne _) c.in-Element.is c.array_integer.ensures.0 in
+    let found : InText (Whole (is_signed k) (width_of k)) c.args.s.now c.loop-at.at next (z ∷ []) = c.in-Element.ensures.0 in
     omega (arith, found.spells.onward)
 
 pub loop-at-preserved : goal.loop-at-preserved
@@ -112,8 +112,8 @@ loop-at-preserved c =
     let z : ℤ = c.in-Element.z in
     let next : ℕ = c.in-Element.next in
     let k : Integer = c.args.integer in
-    let found : InText (Whole (is_signed k) (width_of k)) c.args.s.now c.loop-at.at next (z ∷ []) = subst (FindsOne _) c.in-Element.is c.array_integer.ensures.0 in
-    let inside : next < length c.args.s.now = subst (EndsBefore _) c.in-Element.is c.array_integer.ensures.1 in
+    let found : InText (Whole (is_signed k) (width_of k)) c.args.s.now c.loop-at.at next (z ∷ []) = c.in-Element.ensures.0 in
+    let inside : next < length c.args.s.now = c.in-Element.ensures.1 in
     let put : Puts c.loop-at.row c.loop-at.o (to_digits 256 (size k) (number (Whole (is_signed k) (width_of k)) z)) c.write_integer-o.new.out c.write_integer-o.result = (let l = c.loop-at in
     let e : to_z w64 (of_z w64 z) ≡ z = search rules in
     whole-puts (is_signed k) (width_of k) z

@@ -10,13 +10,13 @@ use Rattle.fetching.proofs.fetch_row.Goals as goal
 
 pub slice_bounds-convert_columns-count : goal.slice_bounds-convert_columns-count
 slice_bounds-convert_columns-count c =
-    let f = subst (Finds _ _ _ _) c.in-Row.is c.find_row-w.ensures in
+    let f = c.in-Row.ensures in
     omega (arith, f.1)
 
 pub returns-in-Refused : goal.returns-in-Refused
 unfolding answer_of buffer_of written at
 returns-in-Refused c =
-    let f = subst (Finds _ _ _ _) c.in-Refused.is c.find_row-w.ensures (length c.args.out.now) in
+    let f = c.in-Refused.ensures (length c.args.out.now) in
     let whole = rw f (c.asked_for.ensures, refl) in
     record { value = whole.0; out_after = whole.1 }
 

@@ -10,18 +10,24 @@ use Rattle.indexing.proofs.enter.Goals as goal
 
 pub returns-then-row-ne0 : goal.returns-then-row-ne0
 returns-then-row-ne0 c =
-    let whole = rw (ne_eqb (c.args.row % 64) 0 (λ z. omega (arith, z))) (refl, refl) in
-    record { value = whole.0; index_after = whole.1 }
+    record {
+      value = rw (ne_eqb (c.args.row % 64) 0 (λ z. omega (arith, z)));
+      index_after = rw (ne_eqb (c.args.row % 64) 0 (λ z. omega (arith, z)));
+    }
 
 pub returns-then-index-place : goal.returns-then-index-place
 returns-then-index-place c =
     let index = c.args.index.now in
-    let whole = rw (eq-eqb (c.args.row % 64) 0 (omega arith), le-ltb (c.args.row / 64) (length index) (omega arith))
-    (refl, sym (set_out index (c.args.row / 64) c.args.start (omega arith))) in
-    record { value = whole.0; index_after = whole.1 }
+    record {
+      value = rw (eq-eqb (c.args.row % 64) 0 (omega arith), le-ltb (c.args.row / 64) (length index) (omega arith));
+      index_after = rw (eq-eqb (c.args.row % 64) 0 (omega arith))
+          (sym (set_out index (c.args.row / 64) c.args.start (omega arith)));
+    }
 
 pub returns : goal.returns
 returns c =
     let index = c.args.index.now in
-    let whole = rw (eq-eqb (c.args.row % 64) 0 (omega arith), lt-ltb (c.args.row / 64) (length index) (omega arith)) (refl, refl) in
-    record { value = whole.0; index_after = whole.1 }
+    record {
+      value = rw (eq-eqb (c.args.row % 64) 0 (omega arith), lt-ltb (c.args.row / 64) (length index) (omega arith));
+      index_after = rw (eq-eqb (c.args.row % 64) 0 (omega arith));
+    }

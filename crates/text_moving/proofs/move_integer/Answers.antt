@@ -29,7 +29,7 @@ closes-requires c =
     let value : ℤ = c.in-Element.z in
     let end : ℕ = c.in-Element.end in
     let kind : Shape = Whole (is_signed c.args.integer) (width_of c.args.integer) in
-    let stands : let a = c.args in InText kind a.s.now a.from end (value ∷ []) = subst (FindsOne _) c.in-Element.is c.text_integer.ensures in
+    let stands : let a = c.args in InText kind a.s.now a.from end (value ∷ []) = c.in-Element.ensures in
     stands.spells.inside
 
 pub returns-then-not-closes : goal.returns-then-not-closes
@@ -46,7 +46,7 @@ returns-then-is_declared c =
     let value : ℤ = c.in-Element.z in
     let end : ℕ = c.in-Element.end in
     let kind : Shape = Whole (is_signed c.args.integer) (width_of c.args.integer) in
-    let stands : let a = c.args in InText kind a.s.now a.from end (value ∷ []) = subst (FindsOne _) c.in-Element.is c.text_integer.ensures in
+    let stands : let a = c.args in InText kind a.s.now a.from end (value ∷ []) = c.in-Element.ensures in
     let fits : to_z w64 (of_z w64 value) ≡ value = search rules in
     let ended : ClosesAt c.args.s.now end = c.closes.ensures (c.if-not-closes.false) in
     let read : let a = c.args in is_scalar a.column ≡ true → shape a.column.kind ≡ kind → TextRead a.column a.s.now a.from (end + 5) (value ∷ []) = λ one q. let a = c.args in one-read a.column kind a.s.now a.from end value one q stands ended in
@@ -62,7 +62,7 @@ returns c =
     let value : ℤ = c.in-Element.z in
     let end : ℕ = c.in-Element.end in
     let kind : Shape = Whole (is_signed c.args.integer) (width_of c.args.integer) in
-    let stands : let a = c.args in InText kind a.s.now a.from end (value ∷ []) = subst (FindsOne _) c.in-Element.is c.text_integer.ensures in
+    let stands : let a = c.args in InText kind a.s.now a.from end (value ∷ []) = c.in-Element.ensures in
     let fits : to_z w64 (of_z w64 value) ≡ value = search rules in
     let ended : ClosesAt c.args.s.now end = c.closes.ensures (c.if-not-closes.false) in
     let read : let a = c.args in is_scalar a.column ≡ true → shape a.column.kind ≡ kind → TextRead a.column a.s.now a.from (end + 5) (value ∷ []) = λ one q. let a = c.args in one-read a.column kind a.s.now a.from end value one q stands ended in

@@ -13,7 +13,7 @@ returns-then-row-o-lt-ROOM c = λ flagged. puts_none _ _ c.requires.2
 
 pub move_content-requires : goal.move_content-requires
 move_content-requires c =
-    let opened : let a = c.args in OpensAs a.s.now a.at (Opening.Content c.in-Content.from) = subst (OpensAs _ _) c.in-Content.is c.open_cell.ensures in
+    let opened : let a = c.args in OpensAs a.s.now a.at (Opening.Content c.in-Content.from) = c.in-Content.ensures in
     (opened.2, c.requires.1, omega (arith, c.if-row-o-lt-ROOM.false, c.requires.2))
 
 pub returns-in-Careful : goal.returns-in-Careful
@@ -24,11 +24,11 @@ returns-in-Empty c =
     let a = c.args in
     let put = c.put_null in
     λ flagged. empty-moved a.column a.s.now a.at a.to flagged a.row.now a.o put.new.row put.result c.in-Empty.next
-    (subst (OpensAs _ _) c.in-Empty.is c.open_cell.ensures) put.ensures
+    (c.in-Empty.ensures) put.ensures
 
 pub returns-in-Content : goal.returns-in-Content
 returns-in-Content c =
-    let opened : let a = c.args in OpensAs a.s.now a.at (Opening.Content c.in-Content.from) = subst (OpensAs _ _) c.in-Content.is c.open_cell.ensures in
+    let opened : let a = c.args in OpensAs a.s.now a.at (Opening.Content c.in-Content.from) = c.in-Content.ensures in
     let a = c.args in
     let move = c.move_content in
     λ flagged. text-moved a.column a.s.now a.at a.to flagged a.row.now a.o move.new.row move.result

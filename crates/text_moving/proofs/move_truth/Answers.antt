@@ -27,7 +27,7 @@ pub closes-requires : goal.closes-requires
 closes-requires c =
     let value : ℤ = c.in-Element.z in
     let end : ℕ = c.in-Element.end in
-    let stands : let a = c.args in InText Truths a.s.now a.from end (value ∷ []) = subst (FindsOne _) c.in-Element.is c.text_truth.ensures in
+    let stands : let a = c.args in InText Truths a.s.now a.from end (value ∷ []) = c.in-Element.ensures in
     stands.spells.inside
 
 pub returns-then-not-closes : goal.returns-then-not-closes
@@ -43,7 +43,7 @@ pub returns-then-same_integer : goal.returns-then-same_integer
 returns-then-same_integer c =
     let value : ℤ = c.in-Element.z in
     let end : ℕ = c.in-Element.end in
-    let stands : let a = c.args in InText Truths a.s.now a.from end (value ∷ []) = subst (FindsOne _) c.in-Element.is c.text_truth.ensures in
+    let stands : let a = c.args in InText Truths a.s.now a.from end (value ∷ []) = c.in-Element.ensures in
     let fits : to_z w64 (of_z w64 value) ≡ value = search rules in
     let ended : ClosesAt c.args.s.now end = c.closes.ensures (c.if-not-closes.false) in
     let read : let a = c.args in is_scalar a.column ≡ true → shape a.column.kind ≡ Truths → TextRead a.column a.s.now a.from (end + 5) (value ∷ []) = λ one q. let a = c.args in one-read a.column Truths a.s.now a.from end value one q stands ended in
@@ -58,7 +58,7 @@ pub returns : goal.returns
 returns c =
     let value : ℤ = c.in-Element.z in
     let end : ℕ = c.in-Element.end in
-    let stands : let a = c.args in InText Truths a.s.now a.from end (value ∷ []) = subst (FindsOne _) c.in-Element.is c.text_truth.ensures in
+    let stands : let a = c.args in InText Truths a.s.now a.from end (value ∷ []) = c.in-Element.ensures in
     let fits : to_z w64 (of_z w64 value) ≡ value = search rules in
     let ended : ClosesAt c.args.s.now end = c.closes.ensures (c.if-not-closes.false) in
     let read : let a = c.args in is_scalar a.column ≡ true → shape a.column.kind ≡ Truths → TextRead a.column a.s.now a.from (end + 5) (value ∷ []) = λ one q. let a = c.args in one-read a.column Truths a.s.now a.from end value one q stands ended in

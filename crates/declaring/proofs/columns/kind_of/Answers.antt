@@ -8,7 +8,7 @@ use borrow.Author.Rules.{rules}
 use lib.ListN.{drop}
 use mathlib.Core.Bool.{Bool, false, true}
 use mathlib.Core.List.{List, ◌∷◌}
-use mathlib.Core.Path.{◌∙◌, ◌≡◌, sym}
+use mathlib.Core.Path.{◌∙◌, ◌≡◌, sym, refl}
 use Rattle.declaring.proofs.columns.kind_of.Goals as goal
 
 module _ (k : List ℕ × Kind) (ks : List (List ℕ × Kind)) (t : List ℕ) (is : Bool) (e : is ≡ same k.0 t) where
