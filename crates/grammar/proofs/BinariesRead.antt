@@ -12,7 +12,8 @@ use lib.Seq.{drop_at, take_at}
 use borrow.Author.Tests.{eqb-false, eqb-true, le-ltb, lt-ltb, ltb-false, ltb-true, ne_eqb}
 use Rattle.binary.proofs.Digits.{every-bits}
 use Rattle.binary.proofs.Laws.{all_zero-zeros, first_back, first-splits}
-use Rattle.binary.specs.Binary.{all_zero, at_most, before_nul, bit_bytes, bits_of, content, content_bytes, count_in, counted, element, numbers, numbers_in, read_binary, read_binary2, shows, truth, unpack}
+use Rattle.binary.specs.Binary.{all_zero, at_most, before_nul, bit_bytes, bits_of, content, content_bytes, count_in, counted, element, numbers, numbers_in, read_binary}
+use Rattle.binary.specs.Binary.{read_binary2, shows, truth, unpack}
 use Rattle.grammar.proofs.Fronts.{Front}
 use Rattle.grammar.proofs.ShownRead.{shows-is, shows-read}
 use Rattle.grammar.proofs.WordsRead.{letters-false, letters-true, stands-is, stands_read, three-bytes}

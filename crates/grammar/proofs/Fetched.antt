@@ -18,7 +18,8 @@ use Rattle.demands.proofs.Demand2.{declared-columns}
 use Rattle.demands.proofs.Indexed.{row-there}
 use Rattle.demands.proofs.Writing.{Behind, from-here, past_row}
 use Rattle.demands.specs.Demands.{NoRows, SameOutput, output}
-use Rattle.demands.specs.OneRow.{FetchEnded, FetchSized, FetchStands, FetchesAlike, IndexEnded, IndexSized, IndexStands, LooksTo, RowsRead, SameEntry, SameThere, as_row, none_read, own_bytes, row_read, start_of, to-its-end, to_the_end}
+use Rattle.demands.specs.OneRow.{FetchEnded, FetchSized, FetchStands, FetchesAlike, IndexEnded, IndexSized, IndexStands, LooksTo, RowsRead, SameEntry, SameThere, as_row, none_read}
+use Rattle.demands.specs.OneRow.{own_bytes, row_read, start_of, to-its-end, to_the_end}
 use Rattle.demands.specs.Tables.{count, only, row_at}
 use Rattle.grammar.proofs.Pieces.{behind-first, behind-place}
 use Rattle.grammar.proofs.Streams.{first-row}

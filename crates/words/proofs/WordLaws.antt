@@ -237,7 +237,8 @@ hexadecimal-parts : (signed : Bool) (w : ℕ) (s : List ℕ)
 unfolding hexadecimal sized
 hexadecimal-parts signed w s = by (between 1 (2 * w) (length s))
   where
-    by : (t : Bool) → (cond t (numeral hexadigit 16 0 s) (bad Unwritten) >>= λ n. good (of_pattern signed w n)) ≡ cond t (numeral hexadigit 16 0 s >>= λ n. good (of_pattern signed w n)) (bad Unwritten)
+    by : (t : Bool) → (cond t (numeral hexadigit 16 0 s) (bad Unwritten) >>= λ n. good (of_pattern signed w n)) ≡ cond t (numeral hexadigit 16 0 s >>= λ n. good (of_pattern signed w n))
+        (bad Unwritten)
     by true = refl
     by false = refl
 

@@ -27,7 +27,8 @@ pub fill_up-requires : goal.fill_up-requires
 fill_up-requires c =
     let inner : ℕ = c.args.o + c.count_size.result in
     let mid : List ℕ = c.pass_content.new.row in
-    let moved : let a = c.args in ContentMoved (InBinary (shape a.column.kind) a.n a.s.now a.at) (AsBinary (shape a.column.kind)) a.row.now inner mid c.in-Elements.count c.in-Elements.next c.in-Elements.end = (let a = c.args in
+    let moved : let a = c.args in ContentMoved (InBinary (shape a.column.kind) a.n a.s.now a.at)
+        (AsBinary (shape a.column.kind)) a.row.now inner mid c.in-Elements.count c.in-Elements.next c.in-Elements.end = (let a = c.args in
     subst (MovesContent (InBinary (shape a.column.kind) a.n a.s.now a.at) (AsBinary (shape a.column.kind)) a.row.now inner mid) c.in-Elements.is
     c.pass_content.ensures) in
     let x = moved.puts in
@@ -37,7 +38,8 @@ pub returns : goal.returns
 returns c =
     let inner : ℕ = c.args.o + c.count_size.result in
     let mid : List ℕ = c.pass_content.new.row in
-    let moved : let a = c.args in ContentMoved (InBinary (shape a.column.kind) a.n a.s.now a.at) (AsBinary (shape a.column.kind)) a.row.now inner mid c.in-Elements.count c.in-Elements.next c.in-Elements.end = (let a = c.args in
+    let moved : let a = c.args in ContentMoved (InBinary (shape a.column.kind) a.n a.s.now a.at)
+        (AsBinary (shape a.column.kind)) a.row.now inner mid c.in-Elements.count c.in-Elements.next c.in-Elements.end = (let a = c.args in
     subst (MovesContent (InBinary (shape a.column.kind) a.n a.s.now a.at) (AsBinary (shape a.column.kind)) a.row.now inner mid) c.in-Elements.is
     c.pass_content.ensures) in
     let a = c.args in
@@ -73,7 +75,8 @@ pub shape_of-row-then-count-eq0 : goal.shape_of-row-then-count-eq0
 shape_of-row-then-count-eq0 c =
     let inner : ℕ = c.args.o + c.count_size.result in
     let mid : List ℕ = c.pass_content.new.row in
-    let moved : let a = c.args in ContentMoved (InBinary (shape a.column.kind) a.n a.s.now a.at) (AsBinary (shape a.column.kind)) a.row.now inner mid c.in-Elements.count c.in-Elements.next c.in-Elements.end = (let a = c.args in
+    let moved : let a = c.args in ContentMoved (InBinary (shape a.column.kind) a.n a.s.now a.at)
+        (AsBinary (shape a.column.kind)) a.row.now inner mid c.in-Elements.count c.in-Elements.next c.in-Elements.end = (let a = c.args in
     subst (MovesContent (InBinary (shape a.column.kind) a.n a.s.now a.at) (AsBinary (shape a.column.kind)) a.row.now inner mid) c.in-Elements.is
     c.pass_content.ensures) in
     let unfilled : Puts c.args.row.now c.args.o [] mid c.args.o = puts_lower moved.puts (omega arith) in
@@ -83,7 +86,8 @@ pub returns-then-count-eq0 : goal.returns-then-count-eq0
 returns-then-count-eq0 c =
     let inner : ℕ = c.args.o + c.count_size.result in
     let mid : List ℕ = c.pass_content.new.row in
-    let moved : let a = c.args in ContentMoved (InBinary (shape a.column.kind) a.n a.s.now a.at) (AsBinary (shape a.column.kind)) a.row.now inner mid c.in-Elements.count c.in-Elements.next c.in-Elements.end = (let a = c.args in
+    let moved : let a = c.args in ContentMoved (InBinary (shape a.column.kind) a.n a.s.now a.at)
+        (AsBinary (shape a.column.kind)) a.row.now inner mid c.in-Elements.count c.in-Elements.next c.in-Elements.end = (let a = c.args in
     subst (MovesContent (InBinary (shape a.column.kind) a.n a.s.now a.at) (AsBinary (shape a.column.kind)) a.row.now inner mid) c.in-Elements.is
     c.pass_content.ensures) in
     let unfilled : Puts c.args.row.now c.args.o [] mid c.args.o = puts_lower moved.puts (omega arith) in
@@ -93,7 +97,8 @@ pub shape_of-row-then-count-gt-MOST_ELEMENTS : goal.shape_of-row-then-count-gt-M
 shape_of-row-then-count-gt-MOST_ELEMENTS c =
     let inner : ℕ = c.args.o + c.count_size.result in
     let mid : List ℕ = c.pass_content.new.row in
-    let moved : let a = c.args in ContentMoved (InBinary (shape a.column.kind) a.n a.s.now a.at) (AsBinary (shape a.column.kind)) a.row.now inner mid c.in-Elements.count c.in-Elements.next c.in-Elements.end = (let a = c.args in
+    let moved : let a = c.args in ContentMoved (InBinary (shape a.column.kind) a.n a.s.now a.at)
+        (AsBinary (shape a.column.kind)) a.row.now inner mid c.in-Elements.count c.in-Elements.next c.in-Elements.end = (let a = c.args in
     subst (MovesContent (InBinary (shape a.column.kind) a.n a.s.now a.at) (AsBinary (shape a.column.kind)) a.row.now inner mid) c.in-Elements.is
     c.pass_content.ensures) in
     let unfilled : Puts c.args.row.now c.args.o [] mid c.args.o = puts_lower moved.puts (omega arith) in
@@ -103,7 +108,8 @@ pub returns-then-count-gt-MOST_ELEMENTS : goal.returns-then-count-gt-MOST_ELEMEN
 returns-then-count-gt-MOST_ELEMENTS c =
     let inner : ℕ = c.args.o + c.count_size.result in
     let mid : List ℕ = c.pass_content.new.row in
-    let moved : let a = c.args in ContentMoved (InBinary (shape a.column.kind) a.n a.s.now a.at) (AsBinary (shape a.column.kind)) a.row.now inner mid c.in-Elements.count c.in-Elements.next c.in-Elements.end = (let a = c.args in
+    let moved : let a = c.args in ContentMoved (InBinary (shape a.column.kind) a.n a.s.now a.at)
+        (AsBinary (shape a.column.kind)) a.row.now inner mid c.in-Elements.count c.in-Elements.next c.in-Elements.end = (let a = c.args in
     subst (MovesContent (InBinary (shape a.column.kind) a.n a.s.now a.at) (AsBinary (shape a.column.kind)) a.row.now inner mid) c.in-Elements.is
     c.pass_content.ensures) in
     let unfilled : Puts c.args.row.now c.args.o [] mid c.args.o = puts_lower moved.puts (omega arith) in

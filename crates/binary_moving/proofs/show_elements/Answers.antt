@@ -21,7 +21,8 @@ overflow_sub-row c =
     let opened : List ℕ = c.put_open-inner.new.row in
     let inner : ℕ = c.put_open-inner.result in
     let mid : List ℕ = c.show_content.new.row in
-    let moved : let a = c.args in ContentMoved (InBinary (shape a.column.kind) a.n a.s.now a.at) (AsText (shape a.column.kind)) opened inner mid c.in-Elements.count c.in-Elements.next c.in-Elements.end = (let a = c.args in
+    let moved : let a = c.args in ContentMoved (InBinary (shape a.column.kind) a.n a.s.now a.at)
+        (AsText (shape a.column.kind)) opened inner mid c.in-Elements.count c.in-Elements.next c.in-Elements.end = (let a = c.args in
     subst (MovesContent (InBinary (shape a.column.kind) a.n a.s.now a.at) (AsText (shape a.column.kind)) opened inner mid) c.in-Elements.is
     c.show_content.ensures) in
     let x = moved.puts in omega (arith, x.long, x.room)
@@ -31,7 +32,8 @@ put_close-e-requires c =
     let opened : List ℕ = c.put_open-inner.new.row in
     let inner : ℕ = c.put_open-inner.result in
     let mid : List ℕ = c.show_content.new.row in
-    let moved : let a = c.args in ContentMoved (InBinary (shape a.column.kind) a.n a.s.now a.at) (AsText (shape a.column.kind)) opened inner mid c.in-Elements.count c.in-Elements.next c.in-Elements.end = (let a = c.args in
+    let moved : let a = c.args in ContentMoved (InBinary (shape a.column.kind) a.n a.s.now a.at)
+        (AsText (shape a.column.kind)) opened inner mid c.in-Elements.count c.in-Elements.next c.in-Elements.end = (let a = c.args in
     subst (MovesContent (InBinary (shape a.column.kind) a.n a.s.now a.at) (AsText (shape a.column.kind)) opened inner mid) c.in-Elements.is
     c.show_content.ensures) in
     let x = moved.puts in omega (arith, c.if-row-end-lt8.false, x.long, x.room)
@@ -41,7 +43,8 @@ returns c =
     let opened : List ℕ = c.put_open-inner.new.row in
     let inner : ℕ = c.put_open-inner.result in
     let mid : List ℕ = c.show_content.new.row in
-    let moved : let a = c.args in ContentMoved (InBinary (shape a.column.kind) a.n a.s.now a.at) (AsText (shape a.column.kind)) opened inner mid c.in-Elements.count c.in-Elements.next c.in-Elements.end = (let a = c.args in
+    let moved : let a = c.args in ContentMoved (InBinary (shape a.column.kind) a.n a.s.now a.at)
+        (AsText (shape a.column.kind)) opened inner mid c.in-Elements.count c.in-Elements.next c.in-Elements.end = (let a = c.args in
     subst (MovesContent (InBinary (shape a.column.kind) a.n a.s.now a.at) (AsText (shape a.column.kind)) opened inner mid) c.in-Elements.is
     c.show_content.ensures) in
     let a = c.args in
@@ -70,7 +73,8 @@ shape_of-row-then-count-eq0 c =
     let opened : List ℕ = c.put_open-inner.new.row in
     let inner : ℕ = c.put_open-inner.result in
     let mid : List ℕ = c.show_content.new.row in
-    let moved : let a = c.args in ContentMoved (InBinary (shape a.column.kind) a.n a.s.now a.at) (AsText (shape a.column.kind)) opened inner mid c.in-Elements.count c.in-Elements.next c.in-Elements.end = (let a = c.args in
+    let moved : let a = c.args in ContentMoved (InBinary (shape a.column.kind) a.n a.s.now a.at)
+        (AsText (shape a.column.kind)) opened inner mid c.in-Elements.count c.in-Elements.next c.in-Elements.end = (let a = c.args in
     subst (MovesContent (InBinary (shape a.column.kind) a.n a.s.now a.at) (AsText (shape a.column.kind)) opened inner mid) c.in-Elements.is
     c.show_content.ensures) in
     let unclosed : Puts c.args.row.now c.args.o [] mid c.args.o = puts-before (puts_then c.put_open-inner.ensures moved.puts) in
@@ -81,7 +85,8 @@ returns-then-count-eq0 c =
     let opened : List ℕ = c.put_open-inner.new.row in
     let inner : ℕ = c.put_open-inner.result in
     let mid : List ℕ = c.show_content.new.row in
-    let moved : let a = c.args in ContentMoved (InBinary (shape a.column.kind) a.n a.s.now a.at) (AsText (shape a.column.kind)) opened inner mid c.in-Elements.count c.in-Elements.next c.in-Elements.end = (let a = c.args in
+    let moved : let a = c.args in ContentMoved (InBinary (shape a.column.kind) a.n a.s.now a.at)
+        (AsText (shape a.column.kind)) opened inner mid c.in-Elements.count c.in-Elements.next c.in-Elements.end = (let a = c.args in
     subst (MovesContent (InBinary (shape a.column.kind) a.n a.s.now a.at) (AsText (shape a.column.kind)) opened inner mid) c.in-Elements.is
     c.show_content.ensures) in
     let unclosed : Puts c.args.row.now c.args.o [] mid c.args.o = puts-before (puts_then c.put_open-inner.ensures moved.puts) in
@@ -92,7 +97,8 @@ shape_of-row-then-row-end-lt8 c =
     let opened : List ℕ = c.put_open-inner.new.row in
     let inner : ℕ = c.put_open-inner.result in
     let mid : List ℕ = c.show_content.new.row in
-    let moved : let a = c.args in ContentMoved (InBinary (shape a.column.kind) a.n a.s.now a.at) (AsText (shape a.column.kind)) opened inner mid c.in-Elements.count c.in-Elements.next c.in-Elements.end = (let a = c.args in
+    let moved : let a = c.args in ContentMoved (InBinary (shape a.column.kind) a.n a.s.now a.at)
+        (AsText (shape a.column.kind)) opened inner mid c.in-Elements.count c.in-Elements.next c.in-Elements.end = (let a = c.args in
     subst (MovesContent (InBinary (shape a.column.kind) a.n a.s.now a.at) (AsText (shape a.column.kind)) opened inner mid) c.in-Elements.is
     c.show_content.ensures) in
     let unclosed : Puts c.args.row.now c.args.o [] mid c.args.o = puts-before (puts_then c.put_open-inner.ensures moved.puts) in
@@ -103,7 +109,8 @@ returns-then-row-end-lt8 c =
     let opened : List ℕ = c.put_open-inner.new.row in
     let inner : ℕ = c.put_open-inner.result in
     let mid : List ℕ = c.show_content.new.row in
-    let moved : let a = c.args in ContentMoved (InBinary (shape a.column.kind) a.n a.s.now a.at) (AsText (shape a.column.kind)) opened inner mid c.in-Elements.count c.in-Elements.next c.in-Elements.end = (let a = c.args in
+    let moved : let a = c.args in ContentMoved (InBinary (shape a.column.kind) a.n a.s.now a.at)
+        (AsText (shape a.column.kind)) opened inner mid c.in-Elements.count c.in-Elements.next c.in-Elements.end = (let a = c.args in
     subst (MovesContent (InBinary (shape a.column.kind) a.n a.s.now a.at) (AsText (shape a.column.kind)) opened inner mid) c.in-Elements.is
     c.show_content.ensures) in
     let unclosed : Puts c.args.row.now c.args.o [] mid c.args.o = puts-before (puts_then c.put_open-inner.ensures moved.puts) in

@@ -49,7 +49,8 @@ pub overflow_add-count : goal.overflow_add-count
 overflow_add-count c =
     let z : ℤ = c.in-Element.z in
     let read : InText Truths c.args.s.now c.loop-z.at c.in-Element.next (z ∷ []) = c.in-Element.ensures in
-    let copied : let a = c.args in WordsTo Truths truth_text a.s.now a.from c.in-Element.next a.row.now a.first c.put_truth-o.new.row c.put_truth-o.result (c.loop-z.count + 1) = (let e : to_z w64 (of_z w64 z) ≡ z = search rules in
+    let copied : let a = c.args in WordsTo Truths truth_text a.s.now a.from c.in-Element.next a.row.now a.first c.put_truth-o.new.row c.put_truth-o.result (c.loop-z.count + 1) =
+        (let e : to_z w64 (of_z w64 z) ≡ z = search rules in
     words_more truths-worded c.loop-z.invariant read (puts-as (ap (λ (y : ℤ). truth_text y ++ (32 ∷ [])) e) c.put_truth-o.ensures)) in
     let r = copied in let h = words-few r in let k = r.puts.room in search rules
 
@@ -60,7 +61,8 @@ pub overflow_sub-result : goal.overflow_sub-result
 overflow_sub-result c =
     let z : ℤ = c.in-Element.z in
     let read : InText Truths c.args.s.now c.loop-z.at c.in-Element.next (z ∷ []) = c.in-Element.ensures in
-    let copied : let a = c.args in WordsTo Truths truth_text a.s.now a.from c.in-Element.next a.row.now a.first c.put_truth-o.new.row c.put_truth-o.result (c.loop-z.count + 1) = (let e : to_z w64 (of_z w64 z) ≡ z = search rules in
+    let copied : let a = c.args in WordsTo Truths truth_text a.s.now a.from c.in-Element.next a.row.now a.first c.put_truth-o.new.row c.put_truth-o.result (c.loop-z.count + 1) =
+        (let e : to_z w64 (of_z w64 z) ≡ z = search rules in
     words_more truths-worded c.loop-z.invariant read (puts-as (ap (λ (y : ℤ). truth_text y ++ (32 ∷ [])) e) c.put_truth-o.ensures)) in
     omega (arith, words-few copied)
 
@@ -68,7 +70,8 @@ pub shape_of-row-then-s-next-ne32 : goal.shape_of-row-then-s-next-ne32
 shape_of-row-then-s-next-ne32 c =
     let z : ℤ = c.in-Element.z in
     let read : InText Truths c.args.s.now c.loop-z.at c.in-Element.next (z ∷ []) = c.in-Element.ensures in
-    let copied : let a = c.args in WordsTo Truths truth_text a.s.now a.from c.in-Element.next a.row.now a.first c.put_truth-o.new.row c.put_truth-o.result (c.loop-z.count + 1) = (let e : to_z w64 (of_z w64 z) ≡ z = search rules in
+    let copied : let a = c.args in WordsTo Truths truth_text a.s.now a.from c.in-Element.next a.row.now a.first c.put_truth-o.new.row c.put_truth-o.result (c.loop-z.count + 1) =
+        (let e : to_z w64 (of_z w64 z) ≡ z = search rules in
     words_more truths-worded c.loop-z.invariant read (puts-as (ap (λ (y : ℤ). truth_text y ++ (32 ∷ [])) e) c.put_truth-o.ensures)) in
     copied.puts.long
 
@@ -76,7 +79,8 @@ pub returns-then-s-next-ne32 : goal.returns-then-s-next-ne32
 returns-then-s-next-ne32 c =
     let z : ℤ = c.in-Element.z in
     let read : InText Truths c.args.s.now c.loop-z.at c.in-Element.next (z ∷ []) = c.in-Element.ensures in
-    let copied : let a = c.args in WordsTo Truths truth_text a.s.now a.from c.in-Element.next a.row.now a.first c.put_truth-o.new.row c.put_truth-o.result (c.loop-z.count + 1) = (let e : to_z w64 (of_z w64 z) ≡ z = search rules in
+    let copied : let a = c.args in WordsTo Truths truth_text a.s.now a.from c.in-Element.next a.row.now a.first c.put_truth-o.new.row c.put_truth-o.result (c.loop-z.count + 1) =
+        (let e : to_z w64 (of_z w64 z) ≡ z = search rules in
     words_more truths-worded c.loop-z.invariant read (puts-as (ap (λ (y : ℤ). truth_text y ++ (32 ∷ [])) e) c.put_truth-o.ensures)) in
     words-moved truths-worded copied (omega arith)
 
@@ -93,6 +97,7 @@ pub loop-z-preserved : goal.loop-z-preserved
 loop-z-preserved c =
     let z : ℤ = c.in-Element.z in
     let read : InText Truths c.args.s.now c.loop-z.at c.in-Element.next (z ∷ []) = c.in-Element.ensures in
-    let copied : let a = c.args in WordsTo Truths truth_text a.s.now a.from c.in-Element.next a.row.now a.first c.put_truth-o.new.row c.put_truth-o.result (c.loop-z.count + 1) = (let e : to_z w64 (of_z w64 z) ≡ z = search rules in
+    let copied : let a = c.args in WordsTo Truths truth_text a.s.now a.from c.in-Element.next a.row.now a.first c.put_truth-o.new.row c.put_truth-o.result (c.loop-z.count + 1) =
+        (let e : to_z w64 (of_z w64 z) ≡ z = search rules in
     words_more truths-worded c.loop-z.invariant read (puts-as (ap (λ (y : ℤ). truth_text y ++ (32 ∷ [])) e) c.put_truth-o.ensures)) in
     words-between truths-worded copied (omega arith) c.if-s-next-ne32.false

@@ -19,12 +19,14 @@ digits_ahead-n-requires c = omega (arith, c.loop-at.invariant.high)
 
 pub overflow_add-result : goal.overflow_add-result
 overflow_add-result c =
-    let more : PassTo is_digit c.args.s.now c.args.from (c.loop-at.at + c.digits_ahead-n.result) = (pass-more c.loop-at.invariant _ (omega (arith, c.loop-at.invariant.high)) c.digits_ahead-n.ensures).0 in
+    let more : PassTo is_digit c.args.s.now c.args.from (c.loop-at.at + c.digits_ahead-n.result) =
+        (pass-more c.loop-at.invariant _ (omega (arith, c.loop-at.invariant.high)) c.digits_ahead-n.ensures).0 in
     let h = more.high in search rules
 
 pub returns-then-n-lt8 : goal.returns-then-n-lt8
 returns-then-n-lt8 c =
-    let more : PassTo is_digit c.args.s.now c.args.from (c.loop-at.at + c.digits_ahead-n.result) = (pass-more c.loop-at.invariant _ (omega (arith, c.loop-at.invariant.high)) c.digits_ahead-n.ensures).0 in
+    let more : PassTo is_digit c.args.s.now c.args.from (c.loop-at.at + c.digits_ahead-n.result) =
+        (pass-more c.loop-at.invariant _ (omega (arith, c.loop-at.invariant.high)) c.digits_ahead-n.ensures).0 in
     more
 
 pub overflow_add-at : goal.overflow_add-at

@@ -13,7 +13,8 @@ use Rattle.content_passing.proofs.pass_content.Goals as goal
 pub pass_integers-requires : goal.pass_integers-requires
 unfolding content_bytes
 pass_integers-requires c =
-    let fits : (e : Elements) → c.elements_of.result ≡ e → let a = c.args in (a.at + content_bytes (shape_as e) a.n + 8 ≤ length a.s.now) × (a.o + content_bytes (shape_as e) a.n + 8 ≤ length a.row.now) = λ _ told. (let a = c.args in
+    let fits : (e : Elements) → c.elements_of.result ≡ e → let a = c.args in
+        (a.at + content_bytes (shape_as e) a.n + 8 ≤ length a.s.now) × (a.o + content_bytes (shape_as e) a.n + 8 ≤ length a.row.now) = λ _ told. (let a = c.args in
     subst (λ (k : Shape). (a.at + content_bytes k a.n + 8 ≤ length a.s.now) × (a.o + content_bytes k a.n + 8 ≤ length a.row.now)) (shape_of c.elements_of.ensures told)
     (c.requires.1, c.requires.2)) in
     let room = fits _ c.in-Whole.is in
@@ -22,7 +23,8 @@ pass_integers-requires c =
 pub pass_truths-requires : goal.pass_truths-requires
 unfolding content_bytes
 pass_truths-requires c =
-    let fits : (e : Elements) → c.elements_of.result ≡ e → let a = c.args in (a.at + content_bytes (shape_as e) a.n + 8 ≤ length a.s.now) × (a.o + content_bytes (shape_as e) a.n + 8 ≤ length a.row.now) = λ _ told. (let a = c.args in
+    let fits : (e : Elements) → c.elements_of.result ≡ e → let a = c.args in
+        (a.at + content_bytes (shape_as e) a.n + 8 ≤ length a.s.now) × (a.o + content_bytes (shape_as e) a.n + 8 ≤ length a.row.now) = λ _ told. (let a = c.args in
     subst (λ (k : Shape). (a.at + content_bytes k a.n + 8 ≤ length a.s.now) × (a.o + content_bytes k a.n + 8 ≤ length a.row.now)) (shape_of c.elements_of.ensures told)
     (c.requires.1, c.requires.2)) in
     fits _ c.in-Truths.is
@@ -30,7 +32,8 @@ pass_truths-requires c =
 pub pass_bits-requires : goal.pass_bits-requires
 unfolding content_bytes
 pass_bits-requires c =
-    let fits : (e : Elements) → c.elements_of.result ≡ e → let a = c.args in (a.at + content_bytes (shape_as e) a.n + 8 ≤ length a.s.now) × (a.o + content_bytes (shape_as e) a.n + 8 ≤ length a.row.now) = λ _ told. (let a = c.args in
+    let fits : (e : Elements) → c.elements_of.result ≡ e → let a = c.args in
+        (a.at + content_bytes (shape_as e) a.n + 8 ≤ length a.s.now) × (a.o + content_bytes (shape_as e) a.n + 8 ≤ length a.row.now) = λ _ told. (let a = c.args in
     subst (λ (k : Shape). (a.at + content_bytes k a.n + 8 ≤ length a.s.now) × (a.o + content_bytes k a.n + 8 ≤ length a.row.now)) (shape_of c.elements_of.ensures told)
     (c.requires.1, c.requires.2)) in
     let room = fits _ c.in-Bits.is in
@@ -39,7 +42,8 @@ pass_bits-requires c =
 pub pass_text-requires : goal.pass_text-requires
 unfolding content_bytes
 pass_text-requires c =
-    let fits : (e : Elements) → c.elements_of.result ≡ e → let a = c.args in (a.at + content_bytes (shape_as e) a.n + 8 ≤ length a.s.now) × (a.o + content_bytes (shape_as e) a.n + 8 ≤ length a.row.now) = λ _ told. (let a = c.args in
+    let fits : (e : Elements) → c.elements_of.result ≡ e → let a = c.args in
+        (a.at + content_bytes (shape_as e) a.n + 8 ≤ length a.s.now) × (a.o + content_bytes (shape_as e) a.n + 8 ≤ length a.row.now) = λ _ told. (let a = c.args in
     subst (λ (k : Shape). (a.at + content_bytes k a.n + 8 ≤ length a.s.now) × (a.o + content_bytes k a.n + 8 ≤ length a.row.now)) (shape_of c.elements_of.ensures told)
     (c.requires.1, c.requires.2)) in
     fits _ c.in-Text.is

@@ -40,7 +40,8 @@ bit_byte-requires c =
     let s : List ℕ = c.args.s.now in
     let bytes : AreBytes s = are-bytes s (λ i. omega (arith, c.shared_slice_known-1.given i)) in
     let inside : c.loop-at.at + 8 ≤ length s = omega (arith, c.loop-at.invariant.0.spells.inside) in
-    let found : Passes is_bit s c.loop-at.at c.first_of-n.result × (c.first_of-n.result ≤ 8) = passes-ahead s c.loop-at.at bytes inside c.eight_bytes-x.ensures c.no_bits.ensures c.first_of-n.ensures in
+    let found : Passes is_bit s c.loop-at.at c.first_of-n.result × (c.first_of-n.result ≤ 8) =
+        passes-ahead s c.loop-at.at bytes inside c.eight_bytes-x.ensures c.no_bits.ensures c.first_of-n.ensures in
     (omega arith, found.1)
 
 pub overflow_add-result : goal.overflow_add-result
@@ -48,10 +49,13 @@ overflow_add-result c =
     let s : List ℕ = c.args.s.now in
     let bytes : AreBytes s = are-bytes s (λ i. omega (arith, c.shared_slice_known-1.given i)) in
     let inside : c.loop-at.at + 8 ≤ length s = omega (arith, c.loop-at.invariant.0.spells.inside) in
-    let found : Passes is_bit s c.loop-at.at c.first_of-n.result × (c.first_of-n.result ≤ 8) = passes-ahead s c.loop-at.at bytes inside c.eight_bytes-x.ensures c.no_bits.ensures c.first_of-n.ensures in
-    let turned : (n b : ℕ) → c.first_of-n.result ≡ n → (n ≡ 0 → ⊥) → BitByte c.eight_bytes-x.result n b → let l = c.loop-at in let a = c.args in BitsTo a.s.now a.from (l.at + n) a.row.now a.first (set l.row l.o b) (l.o + 1) = λ n b e some byte. (let r = c.loop-at.invariant in
+    let found : Passes is_bit s c.loop-at.at c.first_of-n.result × (c.first_of-n.result ≤ 8) =
+        passes-ahead s c.loop-at.at bytes inside c.eight_bytes-x.ensures c.no_bits.ensures c.first_of-n.ensures in
+    let turned : (n b : ℕ) → c.first_of-n.result ≡ n → (n ≡ 0 → ⊥) → BitByte c.eight_bytes-x.result n b → let l = c.loop-at in let a = c.args in
+        BitsTo a.s.now a.from (l.at + n) a.row.now a.first (set l.row l.o b) (l.o + 1) = λ n b e some byte. (let r = c.loop-at.invariant in
     bits-more r.0 r.1 bytes inside (omega arith) c.eight_bytes-x.ensures (subst (Passes is_bit _ _) e found.0) (omega (arith, e, found.1)) some byte) in
-    let last : let l = c.loop-at in let a = c.args in BitsTo a.s.now a.from (l.at + c.first_of-n.result) a.row.now a.first (set l.row l.o c.bit_byte.result) (l.o + 1) = turned _ _ refl c.if-n-eq0.false c.bit_byte.ensures in
+    let last : let l = c.loop-at in let a = c.args in BitsTo a.s.now a.from (l.at + c.first_of-n.result) a.row.now a.first (set l.row l.o c.bit_byte.result) (l.o + 1) =
+        turned _ _ refl c.if-n-eq0.false c.bit_byte.ensures in
     let h = last.spells.inside in search rules
 
 pub overflow_sub-result : goal.overflow_sub-result
@@ -59,10 +63,13 @@ overflow_sub-result c =
     let s : List ℕ = c.args.s.now in
     let bytes : AreBytes s = are-bytes s (λ i. omega (arith, c.shared_slice_known-1.given i)) in
     let inside : c.loop-at.at + 8 ≤ length s = omega (arith, c.loop-at.invariant.0.spells.inside) in
-    let found : Passes is_bit s c.loop-at.at c.first_of-n.result × (c.first_of-n.result ≤ 8) = passes-ahead s c.loop-at.at bytes inside c.eight_bytes-x.ensures c.no_bits.ensures c.first_of-n.ensures in
-    let turned : (n b : ℕ) → c.first_of-n.result ≡ n → (n ≡ 0 → ⊥) → BitByte c.eight_bytes-x.result n b → let l = c.loop-at in let a = c.args in BitsTo a.s.now a.from (l.at + n) a.row.now a.first (set l.row l.o b) (l.o + 1) = λ n b e some byte. (let r = c.loop-at.invariant in
+    let found : Passes is_bit s c.loop-at.at c.first_of-n.result × (c.first_of-n.result ≤ 8) =
+        passes-ahead s c.loop-at.at bytes inside c.eight_bytes-x.ensures c.no_bits.ensures c.first_of-n.ensures in
+    let turned : (n b : ℕ) → c.first_of-n.result ≡ n → (n ≡ 0 → ⊥) → BitByte c.eight_bytes-x.result n b → let l = c.loop-at in let a = c.args in
+        BitsTo a.s.now a.from (l.at + n) a.row.now a.first (set l.row l.o b) (l.o + 1) = λ n b e some byte. (let r = c.loop-at.invariant in
     bits-more r.0 r.1 bytes inside (omega arith) c.eight_bytes-x.ensures (subst (Passes is_bit _ _) e found.0) (omega (arith, e, found.1)) some byte) in
-    let last : let l = c.loop-at in let a = c.args in BitsTo a.s.now a.from (l.at + c.first_of-n.result) a.row.now a.first (set l.row l.o c.bit_byte.result) (l.o + 1) = turned _ _ refl c.if-n-eq0.false c.bit_byte.ensures in
+    let last : let l = c.loop-at in let a = c.args in BitsTo a.s.now a.from (l.at + c.first_of-n.result) a.row.now a.first (set l.row l.o c.bit_byte.result) (l.o + 1) =
+        turned _ _ refl c.if-n-eq0.false c.bit_byte.ensures in
     last.spells.onward
 
 pub overflow_add-result-then-n-lt8 : goal.overflow_add-result-then-n-lt8
@@ -70,10 +77,13 @@ overflow_add-result-then-n-lt8 c =
     let s : List ℕ = c.args.s.now in
     let bytes : AreBytes s = are-bytes s (λ i. omega (arith, c.shared_slice_known-1.given i)) in
     let inside : c.loop-at.at + 8 ≤ length s = omega (arith, c.loop-at.invariant.0.spells.inside) in
-    let found : Passes is_bit s c.loop-at.at c.first_of-n.result × (c.first_of-n.result ≤ 8) = passes-ahead s c.loop-at.at bytes inside c.eight_bytes-x.ensures c.no_bits.ensures c.first_of-n.ensures in
-    let turned : (n b : ℕ) → c.first_of-n.result ≡ n → (n ≡ 0 → ⊥) → BitByte c.eight_bytes-x.result n b → let l = c.loop-at in let a = c.args in BitsTo a.s.now a.from (l.at + n) a.row.now a.first (set l.row l.o b) (l.o + 1) = λ n b e some byte. (let r = c.loop-at.invariant in
+    let found : Passes is_bit s c.loop-at.at c.first_of-n.result × (c.first_of-n.result ≤ 8) =
+        passes-ahead s c.loop-at.at bytes inside c.eight_bytes-x.ensures c.no_bits.ensures c.first_of-n.ensures in
+    let turned : (n b : ℕ) → c.first_of-n.result ≡ n → (n ≡ 0 → ⊥) → BitByte c.eight_bytes-x.result n b → let l = c.loop-at in let a = c.args in
+        BitsTo a.s.now a.from (l.at + n) a.row.now a.first (set l.row l.o b) (l.o + 1) = λ n b e some byte. (let r = c.loop-at.invariant in
     bits-more r.0 r.1 bytes inside (omega arith) c.eight_bytes-x.ensures (subst (Passes is_bit _ _) e found.0) (omega (arith, e, found.1)) some byte) in
-    let last : let l = c.loop-at in let a = c.args in BitsTo a.s.now a.from (l.at + c.first_of-n.result) a.row.now a.first (set l.row l.o c.bit_byte.result) (l.o + 1) = turned _ _ refl c.if-n-eq0.false c.bit_byte.ensures in
+    let last : let l = c.loop-at in let a = c.args in BitsTo a.s.now a.from (l.at + c.first_of-n.result) a.row.now a.first (set l.row l.o c.bit_byte.result) (l.o + 1) =
+        turned _ _ refl c.if-n-eq0.false c.bit_byte.ensures in
     let h = last.spells.inside in search rules
 
 pub overflow_add-result-then-n-lt8-2 : goal.overflow_add-result-then-n-lt8-2
@@ -81,10 +91,13 @@ overflow_add-result-then-n-lt8-2 c =
     let s : List ℕ = c.args.s.now in
     let bytes : AreBytes s = are-bytes s (λ i. omega (arith, c.shared_slice_known-1.given i)) in
     let inside : c.loop-at.at + 8 ≤ length s = omega (arith, c.loop-at.invariant.0.spells.inside) in
-    let found : Passes is_bit s c.loop-at.at c.first_of-n.result × (c.first_of-n.result ≤ 8) = passes-ahead s c.loop-at.at bytes inside c.eight_bytes-x.ensures c.no_bits.ensures c.first_of-n.ensures in
-    let turned : (n b : ℕ) → c.first_of-n.result ≡ n → (n ≡ 0 → ⊥) → BitByte c.eight_bytes-x.result n b → let l = c.loop-at in let a = c.args in BitsTo a.s.now a.from (l.at + n) a.row.now a.first (set l.row l.o b) (l.o + 1) = λ n b e some byte. (let r = c.loop-at.invariant in
+    let found : Passes is_bit s c.loop-at.at c.first_of-n.result × (c.first_of-n.result ≤ 8) =
+        passes-ahead s c.loop-at.at bytes inside c.eight_bytes-x.ensures c.no_bits.ensures c.first_of-n.ensures in
+    let turned : (n b : ℕ) → c.first_of-n.result ≡ n → (n ≡ 0 → ⊥) → BitByte c.eight_bytes-x.result n b → let l = c.loop-at in let a = c.args in
+        BitsTo a.s.now a.from (l.at + n) a.row.now a.first (set l.row l.o b) (l.o + 1) = λ n b e some byte. (let r = c.loop-at.invariant in
     bits-more r.0 r.1 bytes inside (omega arith) c.eight_bytes-x.ensures (subst (Passes is_bit _ _) e found.0) (omega (arith, e, found.1)) some byte) in
-    let last : let l = c.loop-at in let a = c.args in BitsTo a.s.now a.from (l.at + c.first_of-n.result) a.row.now a.first (set l.row l.o c.bit_byte.result) (l.o + 1) = turned _ _ refl c.if-n-eq0.false c.bit_byte.ensures in
+    let last : let l = c.loop-at in let a = c.args in BitsTo a.s.now a.from (l.at + c.first_of-n.result) a.row.now a.first (set l.row l.o c.bit_byte.result) (l.o + 1) =
+        turned _ _ refl c.if-n-eq0.false c.bit_byte.ensures in
     let h = last.puts.room in search rules
 
 pub shape_of-row-then-n-lt8 : goal.shape_of-row-then-n-lt8
@@ -92,10 +105,13 @@ shape_of-row-then-n-lt8 c =
     let s : List ℕ = c.args.s.now in
     let bytes : AreBytes s = are-bytes s (λ i. omega (arith, c.shared_slice_known-1.given i)) in
     let inside : c.loop-at.at + 8 ≤ length s = omega (arith, c.loop-at.invariant.0.spells.inside) in
-    let found : Passes is_bit s c.loop-at.at c.first_of-n.result × (c.first_of-n.result ≤ 8) = passes-ahead s c.loop-at.at bytes inside c.eight_bytes-x.ensures c.no_bits.ensures c.first_of-n.ensures in
-    let turned : (n b : ℕ) → c.first_of-n.result ≡ n → (n ≡ 0 → ⊥) → BitByte c.eight_bytes-x.result n b → let l = c.loop-at in let a = c.args in BitsTo a.s.now a.from (l.at + n) a.row.now a.first (set l.row l.o b) (l.o + 1) = λ n b e some byte. (let r = c.loop-at.invariant in
+    let found : Passes is_bit s c.loop-at.at c.first_of-n.result × (c.first_of-n.result ≤ 8) =
+        passes-ahead s c.loop-at.at bytes inside c.eight_bytes-x.ensures c.no_bits.ensures c.first_of-n.ensures in
+    let turned : (n b : ℕ) → c.first_of-n.result ≡ n → (n ≡ 0 → ⊥) → BitByte c.eight_bytes-x.result n b → let l = c.loop-at in let a = c.args in
+        BitsTo a.s.now a.from (l.at + n) a.row.now a.first (set l.row l.o b) (l.o + 1) = λ n b e some byte. (let r = c.loop-at.invariant in
     bits-more r.0 r.1 bytes inside (omega arith) c.eight_bytes-x.ensures (subst (Passes is_bit _ _) e found.0) (omega (arith, e, found.1)) some byte) in
-    let last : let l = c.loop-at in let a = c.args in BitsTo a.s.now a.from (l.at + c.first_of-n.result) a.row.now a.first (set l.row l.o c.bit_byte.result) (l.o + 1) = turned _ _ refl c.if-n-eq0.false c.bit_byte.ensures in
+    let last : let l = c.loop-at in let a = c.args in BitsTo a.s.now a.from (l.at + c.first_of-n.result) a.row.now a.first (set l.row l.o c.bit_byte.result) (l.o + 1) =
+        turned _ _ refl c.if-n-eq0.false c.bit_byte.ensures in
     last.puts.long
 
 pub returns-then-n-lt8 : goal.returns-then-n-lt8
@@ -103,10 +119,13 @@ returns-then-n-lt8 c =
     let s : List ℕ = c.args.s.now in
     let bytes : AreBytes s = are-bytes s (λ i. omega (arith, c.shared_slice_known-1.given i)) in
     let inside : c.loop-at.at + 8 ≤ length s = omega (arith, c.loop-at.invariant.0.spells.inside) in
-    let found : Passes is_bit s c.loop-at.at c.first_of-n.result × (c.first_of-n.result ≤ 8) = passes-ahead s c.loop-at.at bytes inside c.eight_bytes-x.ensures c.no_bits.ensures c.first_of-n.ensures in
-    let turned : (n b : ℕ) → c.first_of-n.result ≡ n → (n ≡ 0 → ⊥) → BitByte c.eight_bytes-x.result n b → let l = c.loop-at in let a = c.args in BitsTo a.s.now a.from (l.at + n) a.row.now a.first (set l.row l.o b) (l.o + 1) = λ n b e some byte. (let r = c.loop-at.invariant in
+    let found : Passes is_bit s c.loop-at.at c.first_of-n.result × (c.first_of-n.result ≤ 8) =
+        passes-ahead s c.loop-at.at bytes inside c.eight_bytes-x.ensures c.no_bits.ensures c.first_of-n.ensures in
+    let turned : (n b : ℕ) → c.first_of-n.result ≡ n → (n ≡ 0 → ⊥) → BitByte c.eight_bytes-x.result n b → let l = c.loop-at in let a = c.args in
+        BitsTo a.s.now a.from (l.at + n) a.row.now a.first (set l.row l.o b) (l.o + 1) = λ n b e some byte. (let r = c.loop-at.invariant in
     bits-more r.0 r.1 bytes inside (omega arith) c.eight_bytes-x.ensures (subst (Passes is_bit _ _) e found.0) (omega (arith, e, found.1)) some byte) in
-    let last : let l = c.loop-at in let a = c.args in BitsTo a.s.now a.from (l.at + c.first_of-n.result) a.row.now a.first (set l.row l.o c.bit_byte.result) (l.o + 1) = turned _ _ refl c.if-n-eq0.false c.bit_byte.ensures in
+    let last : let l = c.loop-at in let a = c.args in BitsTo a.s.now a.from (l.at + c.first_of-n.result) a.row.now a.first (set l.row l.o c.bit_byte.result) (l.o + 1) =
+        turned _ _ refl c.if-n-eq0.false c.bit_byte.ensures in
     bits-moved last (λ e. omega (arith, c.loop-at.invariant.0.spells.onward, e, c.if-n-eq0.false))
 
 pub overflow_add-o : goal.overflow_add-o
@@ -114,10 +133,13 @@ overflow_add-o c =
     let s : List ℕ = c.args.s.now in
     let bytes : AreBytes s = are-bytes s (λ i. omega (arith, c.shared_slice_known-1.given i)) in
     let inside : c.loop-at.at + 8 ≤ length s = omega (arith, c.loop-at.invariant.0.spells.inside) in
-    let found : Passes is_bit s c.loop-at.at c.first_of-n.result × (c.first_of-n.result ≤ 8) = passes-ahead s c.loop-at.at bytes inside c.eight_bytes-x.ensures c.no_bits.ensures c.first_of-n.ensures in
-    let turned : (n b : ℕ) → c.first_of-n.result ≡ n → (n ≡ 0 → ⊥) → BitByte c.eight_bytes-x.result n b → let l = c.loop-at in let a = c.args in BitsTo a.s.now a.from (l.at + n) a.row.now a.first (set l.row l.o b) (l.o + 1) = λ n b e some byte. (let r = c.loop-at.invariant in
+    let found : Passes is_bit s c.loop-at.at c.first_of-n.result × (c.first_of-n.result ≤ 8) =
+        passes-ahead s c.loop-at.at bytes inside c.eight_bytes-x.ensures c.no_bits.ensures c.first_of-n.ensures in
+    let turned : (n b : ℕ) → c.first_of-n.result ≡ n → (n ≡ 0 → ⊥) → BitByte c.eight_bytes-x.result n b → let l = c.loop-at in let a = c.args in
+        BitsTo a.s.now a.from (l.at + n) a.row.now a.first (set l.row l.o b) (l.o + 1) = λ n b e some byte. (let r = c.loop-at.invariant in
     bits-more r.0 r.1 bytes inside (omega arith) c.eight_bytes-x.ensures (subst (Passes is_bit _ _) e found.0) (omega (arith, e, found.1)) some byte) in
-    let more : let l = c.loop-at in let a = c.args in BitsTo a.s.now a.from (l.at + 8) a.row.now a.first (set l.row l.o c.bit_byte-in-loop-at.result) (l.o + 1) = turned 8 _ (omega (arith, found.1)) (λ e. omega arith) c.bit_byte-in-loop-at.ensures in
+    let more : let l = c.loop-at in let a = c.args in BitsTo a.s.now a.from (l.at + 8) a.row.now a.first (set l.row l.o c.bit_byte-in-loop-at.result) (l.o + 1) =
+        turned 8 _ (omega (arith, found.1)) (λ e. omega arith) c.bit_byte-in-loop-at.ensures in
     let h = more.puts.room in search rules
 
 pub overflow_add-at : goal.overflow_add-at
@@ -125,10 +147,13 @@ overflow_add-at c =
     let s : List ℕ = c.args.s.now in
     let bytes : AreBytes s = are-bytes s (λ i. omega (arith, c.shared_slice_known-1.given i)) in
     let inside : c.loop-at.at + 8 ≤ length s = omega (arith, c.loop-at.invariant.0.spells.inside) in
-    let found : Passes is_bit s c.loop-at.at c.first_of-n.result × (c.first_of-n.result ≤ 8) = passes-ahead s c.loop-at.at bytes inside c.eight_bytes-x.ensures c.no_bits.ensures c.first_of-n.ensures in
-    let turned : (n b : ℕ) → c.first_of-n.result ≡ n → (n ≡ 0 → ⊥) → BitByte c.eight_bytes-x.result n b → let l = c.loop-at in let a = c.args in BitsTo a.s.now a.from (l.at + n) a.row.now a.first (set l.row l.o b) (l.o + 1) = λ n b e some byte. (let r = c.loop-at.invariant in
+    let found : Passes is_bit s c.loop-at.at c.first_of-n.result × (c.first_of-n.result ≤ 8) =
+        passes-ahead s c.loop-at.at bytes inside c.eight_bytes-x.ensures c.no_bits.ensures c.first_of-n.ensures in
+    let turned : (n b : ℕ) → c.first_of-n.result ≡ n → (n ≡ 0 → ⊥) → BitByte c.eight_bytes-x.result n b → let l = c.loop-at in let a = c.args in
+        BitsTo a.s.now a.from (l.at + n) a.row.now a.first (set l.row l.o b) (l.o + 1) = λ n b e some byte. (let r = c.loop-at.invariant in
     bits-more r.0 r.1 bytes inside (omega arith) c.eight_bytes-x.ensures (subst (Passes is_bit _ _) e found.0) (omega (arith, e, found.1)) some byte) in
-    let more : let l = c.loop-at in let a = c.args in BitsTo a.s.now a.from (l.at + 8) a.row.now a.first (set l.row l.o c.bit_byte-in-loop-at.result) (l.o + 1) = turned 8 _ (omega (arith, found.1)) (λ e. omega arith) c.bit_byte-in-loop-at.ensures in
+    let more : let l = c.loop-at in let a = c.args in BitsTo a.s.now a.from (l.at + 8) a.row.now a.first (set l.row l.o c.bit_byte-in-loop-at.result) (l.o + 1) =
+        turned 8 _ (omega (arith, found.1)) (λ e. omega arith) c.bit_byte-in-loop-at.ensures in
     let h = more.spells.inside in search rules
 
 pub loop-at-smaller : goal.loop-at-smaller
@@ -136,10 +161,13 @@ loop-at-smaller c =
     let s : List ℕ = c.args.s.now in
     let bytes : AreBytes s = are-bytes s (λ i. omega (arith, c.shared_slice_known-1.given i)) in
     let inside : c.loop-at.at + 8 ≤ length s = omega (arith, c.loop-at.invariant.0.spells.inside) in
-    let found : Passes is_bit s c.loop-at.at c.first_of-n.result × (c.first_of-n.result ≤ 8) = passes-ahead s c.loop-at.at bytes inside c.eight_bytes-x.ensures c.no_bits.ensures c.first_of-n.ensures in
-    let turned : (n b : ℕ) → c.first_of-n.result ≡ n → (n ≡ 0 → ⊥) → BitByte c.eight_bytes-x.result n b → let l = c.loop-at in let a = c.args in BitsTo a.s.now a.from (l.at + n) a.row.now a.first (set l.row l.o b) (l.o + 1) = λ n b e some byte. (let r = c.loop-at.invariant in
+    let found : Passes is_bit s c.loop-at.at c.first_of-n.result × (c.first_of-n.result ≤ 8) =
+        passes-ahead s c.loop-at.at bytes inside c.eight_bytes-x.ensures c.no_bits.ensures c.first_of-n.ensures in
+    let turned : (n b : ℕ) → c.first_of-n.result ≡ n → (n ≡ 0 → ⊥) → BitByte c.eight_bytes-x.result n b → let l = c.loop-at in let a = c.args in
+        BitsTo a.s.now a.from (l.at + n) a.row.now a.first (set l.row l.o b) (l.o + 1) = λ n b e some byte. (let r = c.loop-at.invariant in
     bits-more r.0 r.1 bytes inside (omega arith) c.eight_bytes-x.ensures (subst (Passes is_bit _ _) e found.0) (omega (arith, e, found.1)) some byte) in
-    let more : let l = c.loop-at in let a = c.args in BitsTo a.s.now a.from (l.at + 8) a.row.now a.first (set l.row l.o c.bit_byte-in-loop-at.result) (l.o + 1) = turned 8 _ (omega (arith, found.1)) (λ e. omega arith) c.bit_byte-in-loop-at.ensures in
+    let more : let l = c.loop-at in let a = c.args in BitsTo a.s.now a.from (l.at + 8) a.row.now a.first (set l.row l.o c.bit_byte-in-loop-at.result) (l.o + 1) =
+        turned 8 _ (omega (arith, found.1)) (λ e. omega arith) c.bit_byte-in-loop-at.ensures in
     omega (arith, more.spells.inside)
 
 pub loop-at-preserved : goal.loop-at-preserved
@@ -147,10 +175,13 @@ loop-at-preserved c =
     let s : List ℕ = c.args.s.now in
     let bytes : AreBytes s = are-bytes s (λ i. omega (arith, c.shared_slice_known-1.given i)) in
     let inside : c.loop-at.at + 8 ≤ length s = omega (arith, c.loop-at.invariant.0.spells.inside) in
-    let found : Passes is_bit s c.loop-at.at c.first_of-n.result × (c.first_of-n.result ≤ 8) = passes-ahead s c.loop-at.at bytes inside c.eight_bytes-x.ensures c.no_bits.ensures c.first_of-n.ensures in
-    let turned : (n b : ℕ) → c.first_of-n.result ≡ n → (n ≡ 0 → ⊥) → BitByte c.eight_bytes-x.result n b → let l = c.loop-at in let a = c.args in BitsTo a.s.now a.from (l.at + n) a.row.now a.first (set l.row l.o b) (l.o + 1) = λ n b e some byte. (let r = c.loop-at.invariant in
+    let found : Passes is_bit s c.loop-at.at c.first_of-n.result × (c.first_of-n.result ≤ 8) =
+        passes-ahead s c.loop-at.at bytes inside c.eight_bytes-x.ensures c.no_bits.ensures c.first_of-n.ensures in
+    let turned : (n b : ℕ) → c.first_of-n.result ≡ n → (n ≡ 0 → ⊥) → BitByte c.eight_bytes-x.result n b → let l = c.loop-at in let a = c.args in
+        BitsTo a.s.now a.from (l.at + n) a.row.now a.first (set l.row l.o b) (l.o + 1) = λ n b e some byte. (let r = c.loop-at.invariant in
     bits-more r.0 r.1 bytes inside (omega arith) c.eight_bytes-x.ensures (subst (Passes is_bit _ _) e found.0) (omega (arith, e, found.1)) some byte) in
-    let more : let l = c.loop-at in let a = c.args in BitsTo a.s.now a.from (l.at + 8) a.row.now a.first (set l.row l.o c.bit_byte-in-loop-at.result) (l.o + 1) = turned 8 _ (omega (arith, found.1)) (λ e. omega arith) c.bit_byte-in-loop-at.ensures in
+    let more : let l = c.loop-at in let a = c.args in BitsTo a.s.now a.from (l.at + 8) a.row.now a.first (set l.row l.o c.bit_byte-in-loop-at.result) (l.o + 1) =
+        turned 8 _ (omega (arith, found.1)) (λ e. omega arith) c.bit_byte-in-loop-at.ensures in
     let r = c.loop-at.invariant in (more, omega (arith, r.1, r.0.spells.onward))
 
 pub shape_of-row-then-at-from : goal.shape_of-row-then-at-from

@@ -54,7 +54,8 @@ returns-then-number-gt255 c = puts-before c.loop-at.invariant.puts
 pub overflow_add-o : goal.overflow_add-o
 overflow_add-o c =
     let value : ℕ = c.three_at-run.result.number in
-    let put : let l = c.loop-at in Puts l.row l.o (to_digits 256 1 (number (Whole false W1) (with_sign false value))) (set l.row l.o value) (l.o + 1) = byte-puts c.loop-at.row c.loop-at.o value (omega arith) (omega arith) in
+    let put : let l = c.loop-at in Puts l.row l.o (to_digits 256 1 (number (Whole false W1) (with_sign false value))) (set l.row l.o value) (l.o + 1) =
+        byte-puts c.loop-at.row c.loop-at.o value (omega arith) (omega arith) in
     let h = put.room in search rules
 
 pub overflow_add-count : goal.overflow_add-count
@@ -81,15 +82,18 @@ overflow_add-result c =
 pub shape_of-row-then-s-at-ne32 : goal.shape_of-row-then-s-at-ne32
 shape_of-row-then-s-at-ne32 c =
     let value : ℕ = c.three_at-run.result.number in
-    let put : let l = c.loop-at in Puts l.row l.o (to_digits 256 1 (number (Whole false W1) (with_sign false value))) (set l.row l.o value) (l.o + 1) = byte-puts c.loop-at.row c.loop-at.o value (omega arith) (omega arith) in
+    let put : let l = c.loop-at in Puts l.row l.o (to_digits 256 1 (number (Whole false W1) (with_sign false value))) (set l.row l.o value) (l.o + 1) =
+        byte-puts c.loop-at.row c.loop-at.o value (omega arith) (omega arith) in
     put.long ∙ c.loop-at.invariant.puts.long
 
 pub returns-then-s-at-ne32 : goal.returns-then-s-at-ne32
 returns-then-s-at-ne32 c =
     let digits : ℕ = c.three_at-run.result.count in
     let value : ℕ = c.three_at-run.result.number in
-    let found : InText (Whole false W1) c.args.s.now c.loop-at.at (c.loop-at.at + digits) (with_sign false value ∷ []) = let run = c.three_at-run.ensures in run-in-text run.0 c.if-digits-eq0.false (omega (arith, run.1)) UnsignedByte (omega arith) in
-    let put : let l = c.loop-at in Puts l.row l.o (to_digits 256 1 (number (Whole false W1) (with_sign false value))) (set l.row l.o value) (l.o + 1) = byte-puts c.loop-at.row c.loop-at.o value (omega arith) (omega arith) in
+    let found : InText (Whole false W1) c.args.s.now c.loop-at.at (c.loop-at.at + digits) (with_sign false value ∷ []) = let run = c.three_at-run.ensures in
+        run-in-text run.0 c.if-digits-eq0.false (omega (arith, run.1)) UnsignedByte (omega arith) in
+    let put : let l = c.loop-at in Puts l.row l.o (to_digits 256 1 (number (Whole false W1) (with_sign false value))) (set l.row l.o value) (l.o + 1) =
+        byte-puts c.loop-at.row c.loop-at.o value (omega arith) (omega arith) in
     words-moved (whole_words false W1) c.loop-at.invariant found put (whole-form false W1)
 
 pub overflow_add-at-in-loop-at : goal.overflow_add-at-in-loop-at
@@ -114,7 +118,9 @@ pub loop-at-preserved : goal.loop-at-preserved
 loop-at-preserved c =
     let digits : ℕ = c.three_at-run.result.count in
     let value : ℕ = c.three_at-run.result.number in
-    let found : InText (Whole false W1) c.args.s.now c.loop-at.at (c.loop-at.at + digits) (with_sign false value ∷ []) = let run = c.three_at-run.ensures in run-in-text run.0 c.if-digits-eq0.false (omega (arith, run.1)) UnsignedByte (omega arith) in
-    let put : let l = c.loop-at in Puts l.row l.o (to_digits 256 1 (number (Whole false W1) (with_sign false value))) (set l.row l.o value) (l.o + 1) = byte-puts c.loop-at.row c.loop-at.o value (omega arith) (omega arith) in
+    let found : InText (Whole false W1) c.args.s.now c.loop-at.at (c.loop-at.at + digits) (with_sign false value ∷ []) = let run = c.three_at-run.ensures in
+        run-in-text run.0 c.if-digits-eq0.false (omega (arith, run.1)) UnsignedByte (omega arith) in
+    let put : let l = c.loop-at in Puts l.row l.o (to_digits 256 1 (number (Whole false W1) (with_sign false value))) (set l.row l.o value) (l.o + 1) =
+        byte-puts c.loop-at.row c.loop-at.o value (omega arith) (omega arith) in
     let room : c.loop-at.at + digits + 1 ≤ length c.args.s.now = omega (arith, c.three_at-run.ensures.1, c.loop-at.invariant.spells.inside) in
     words_more (whole_words false W1) c.loop-at.invariant found put (omega (arith, room)) c.if-s-at-ne32.false (omega arith)

@@ -50,7 +50,8 @@ copy_wide-e-requires c =
 
 pub overflow_add-k : goal.overflow_add-k
 overflow_add-k c =
-    let after_run : let a = c.args in let copied = c.copy_wide-e in TextPut (take a.n (drop a.at a.s.now)) a.row.now a.o copied.new.row copied.result (c.loop-row.k + c.text_run-run.result) = (let a = c.args in
+    let after_run : let a = c.args in let copied = c.copy_wide-e in TextPut (take a.n (drop a.at a.s.now)) a.row.now a.o copied.new.row copied.result (c.loop-row.k + c.text_run-run.result) =
+        (let a = c.args in
     let found = c.text_run-run in
     put-run a.s.now a.at a.n (omega arith) found.result found.ensures c.copy_wide-e.ensures c.loop-row.invariant.1) in
     let within-run : c.loop-row.k + c.text_run-run.result ≤ c.args.n = (let a = c.args in
@@ -62,14 +63,16 @@ overflow_add-result c = search rules
 
 pub shape_of-row-then-k-n : goal.shape_of-row-then-k-n
 shape_of-row-then-k-n c =
-    let after_run : let a = c.args in let copied = c.copy_wide-e in TextPut (take a.n (drop a.at a.s.now)) a.row.now a.o copied.new.row copied.result (c.loop-row.k + c.text_run-run.result) = (let a = c.args in
+    let after_run : let a = c.args in let copied = c.copy_wide-e in TextPut (take a.n (drop a.at a.s.now)) a.row.now a.o copied.new.row copied.result (c.loop-row.k + c.text_run-run.result) =
+        (let a = c.args in
     let found = c.text_run-run in
     put-run a.s.now a.at a.n (omega arith) found.result found.ensures c.copy_wide-e.ensures c.loop-row.invariant.1) in
     after_run.puts.long
 
 pub returns-then-k-n : goal.returns-then-k-n
 returns-then-k-n c =
-    let after_run : let a = c.args in let copied = c.copy_wide-e in TextPut (take a.n (drop a.at a.s.now)) a.row.now a.o copied.new.row copied.result (c.loop-row.k + c.text_run-run.result) = (let a = c.args in
+    let after_run : let a = c.args in let copied = c.copy_wide-e in TextPut (take a.n (drop a.at a.s.now)) a.row.now a.o copied.new.row copied.result (c.loop-row.k + c.text_run-run.result) =
+        (let a = c.args in
     let found = c.text_run-run in
     put-run a.s.now a.at a.n (omega arith) found.result found.ensures c.copy_wide-e.ensures c.loop-row.invariant.1) in
     let a = c.args in
@@ -77,7 +80,8 @@ returns-then-k-n c =
 
 pub overflow_add-b : goal.overflow_add-b
 overflow_add-b c =
-    let after_run : let a = c.args in let copied = c.copy_wide-e in TextPut (take a.n (drop a.at a.s.now)) a.row.now a.o copied.new.row copied.result (c.loop-row.k + c.text_run-run.result) = (let a = c.args in
+    let after_run : let a = c.args in let copied = c.copy_wide-e in TextPut (take a.n (drop a.at a.s.now)) a.row.now a.o copied.new.row copied.result (c.loop-row.k + c.text_run-run.result) =
+        (let a = c.args in
     let found = c.text_run-run in
     put-run a.s.now a.at a.n (omega arith) found.result found.ensures c.copy_wide-e.ensures c.loop-row.invariant.1) in
     let within-run : c.loop-row.k + c.text_run-run.result ≤ c.args.n = (let a = c.args in
@@ -86,7 +90,8 @@ overflow_add-b c =
 
 pub bounds-s-at : goal.bounds-s-at
 bounds-s-at c =
-    let after_run : let a = c.args in let copied = c.copy_wide-e in TextPut (take a.n (drop a.at a.s.now)) a.row.now a.o copied.new.row copied.result (c.loop-row.k + c.text_run-run.result) = (let a = c.args in
+    let after_run : let a = c.args in let copied = c.copy_wide-e in TextPut (take a.n (drop a.at a.s.now)) a.row.now a.o copied.new.row copied.result (c.loop-row.k + c.text_run-run.result) =
+        (let a = c.args in
     let found = c.text_run-run in
     put-run a.s.now a.at a.n (omega arith) found.result found.ensures c.copy_wide-e.ensures c.loop-row.invariant.1) in
     let within-run : c.loop-row.k + c.text_run-run.result ≤ c.args.n = (let a = c.args in
@@ -98,14 +103,16 @@ overflow_add-result-then-b-eq0 c = search rules
 
 pub shape_of-row-then-b-eq0 : goal.shape_of-row-then-b-eq0
 shape_of-row-then-b-eq0 c =
-    let after_run : let a = c.args in let copied = c.copy_wide-e in TextPut (take a.n (drop a.at a.s.now)) a.row.now a.o copied.new.row copied.result (c.loop-row.k + c.text_run-run.result) = (let a = c.args in
+    let after_run : let a = c.args in let copied = c.copy_wide-e in TextPut (take a.n (drop a.at a.s.now)) a.row.now a.o copied.new.row copied.result (c.loop-row.k + c.text_run-run.result) =
+        (let a = c.args in
     let found = c.text_run-run in
     put-run a.s.now a.at a.n (omega arith) found.result found.ensures c.copy_wide-e.ensures c.loop-row.invariant.1) in
     after_run.puts.long
 
 pub returns-then-b-eq0 : goal.returns-then-b-eq0
 returns-then-b-eq0 c =
-    let after_run : let a = c.args in let copied = c.copy_wide-e in TextPut (take a.n (drop a.at a.s.now)) a.row.now a.o copied.new.row copied.result (c.loop-row.k + c.text_run-run.result) = (let a = c.args in
+    let after_run : let a = c.args in let copied = c.copy_wide-e in TextPut (take a.n (drop a.at a.s.now)) a.row.now a.o copied.new.row copied.result (c.loop-row.k + c.text_run-run.result) =
+        (let a = c.args in
     let found = c.text_run-run in
     put-run a.s.now a.at a.n (omega arith) found.result found.ensures c.copy_wide-e.ensures c.loop-row.invariant.1) in
     let within-run : c.loop-row.k + c.text_run-run.result ≤ c.args.n = (let a = c.args in
@@ -124,21 +131,24 @@ put_reference-next-requires c =
 
 pub shape_of-row-then-next-e : goal.shape_of-row-then-next-e
 shape_of-row-then-next-e c =
-    let after_run : let a = c.args in let copied = c.copy_wide-e in TextPut (take a.n (drop a.at a.s.now)) a.row.now a.o copied.new.row copied.result (c.loop-row.k + c.text_run-run.result) = (let a = c.args in
+    let after_run : let a = c.args in let copied = c.copy_wide-e in TextPut (take a.n (drop a.at a.s.now)) a.row.now a.o copied.new.row copied.result (c.loop-row.k + c.text_run-run.result) =
+        (let a = c.args in
     let found = c.text_run-run in
     put-run a.s.now a.at a.n (omega arith) found.result found.ensures c.copy_wide-e.ensures c.loop-row.invariant.1) in
     c.put_reference-next.ensures.long ∙ after_run.puts.long
 
 pub returns-then-next-e : goal.returns-then-next-e
 returns-then-next-e c =
-    let after_run : let a = c.args in let copied = c.copy_wide-e in TextPut (take a.n (drop a.at a.s.now)) a.row.now a.o copied.new.row copied.result (c.loop-row.k + c.text_run-run.result) = (let a = c.args in
+    let after_run : let a = c.args in let copied = c.copy_wide-e in TextPut (take a.n (drop a.at a.s.now)) a.row.now a.o copied.new.row copied.result (c.loop-row.k + c.text_run-run.result) =
+        (let a = c.args in
     let found = c.text_run-run in
     put-run a.s.now a.at a.n (omega arith) found.result found.ensures c.copy_wide-e.ensures c.loop-row.invariant.1) in
     puts-before (puts_then after_run.puts c.put_reference-next.ensures)
 
 pub overflow_add-k-in-loop-row : goal.overflow_add-k-in-loop-row
 overflow_add-k-in-loop-row c =
-    let after_run : let a = c.args in let copied = c.copy_wide-e in TextPut (take a.n (drop a.at a.s.now)) a.row.now a.o copied.new.row copied.result (c.loop-row.k + c.text_run-run.result) = (let a = c.args in
+    let after_run : let a = c.args in let copied = c.copy_wide-e in TextPut (take a.n (drop a.at a.s.now)) a.row.now a.o copied.new.row copied.result (c.loop-row.k + c.text_run-run.result) =
+        (let a = c.args in
     let found = c.text_run-run in
     put-run a.s.now a.at a.n (omega arith) found.result found.ensures c.copy_wide-e.ensures c.loop-row.invariant.1) in
     let within-run : c.loop-row.k + c.text_run-run.result ≤ c.args.n = (let a = c.args in
@@ -148,7 +158,8 @@ overflow_add-k-in-loop-row c =
 
 pub loop-row-smaller : goal.loop-row-smaller
 loop-row-smaller c =
-    let after_run : let a = c.args in let copied = c.copy_wide-e in TextPut (take a.n (drop a.at a.s.now)) a.row.now a.o copied.new.row copied.result (c.loop-row.k + c.text_run-run.result) = (let a = c.args in
+    let after_run : let a = c.args in let copied = c.copy_wide-e in TextPut (take a.n (drop a.at a.s.now)) a.row.now a.o copied.new.row copied.result (c.loop-row.k + c.text_run-run.result) =
+        (let a = c.args in
     let found = c.text_run-run in
     put-run a.s.now a.at a.n (omega arith) found.result found.ensures c.copy_wide-e.ensures c.loop-row.invariant.1) in
     let within-run : c.loop-row.k + c.text_run-run.result ≤ c.args.n = (let a = c.args in
@@ -158,7 +169,8 @@ loop-row-smaller c =
 
 pub loop-row-preserved : goal.loop-row-preserved
 loop-row-preserved c =
-    let after_run : let a = c.args in let copied = c.copy_wide-e in TextPut (take a.n (drop a.at a.s.now)) a.row.now a.o copied.new.row copied.result (c.loop-row.k + c.text_run-run.result) = (let a = c.args in
+    let after_run : let a = c.args in let copied = c.copy_wide-e in TextPut (take a.n (drop a.at a.s.now)) a.row.now a.o copied.new.row copied.result (c.loop-row.k + c.text_run-run.result) =
+        (let a = c.args in
     let found = c.text_run-run in
     put-run a.s.now a.at a.n (omega arith) found.result found.ensures c.copy_wide-e.ensures c.loop-row.invariant.1) in
     let within-run : c.loop-row.k + c.text_run-run.result ≤ c.args.n = (let a = c.args in

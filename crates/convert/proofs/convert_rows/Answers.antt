@@ -337,7 +337,8 @@ moved-more-requires c =
     row_bytes to_at cols-at.count l.m.nulls (put_form from_at to_at cols-at flags-at (drop body_at s-at) l.scratch h)) in
     let cursor-moves : c.after.result.at ≡ next-at = omega (arith, onward.0, c.after.ensures) in
     let out-behind : List ℕ = c.put_row.new.out in
-    let row-behind : (o : List ℕ) → RowsDone from_at to_at (listed cols-at) s-at o c.rows.out c.rows.cursor.at c.rows.p.rows c.rows.p.bytes → RowsDone from_at to_at (listed cols-at) s-at o out-behind c.after.result.at c.after-in-rows.result.rows c.after-in-rows.result.bytes = λ o d. (
+    let row-behind : (o : List ℕ) → RowsDone from_at to_at (listed cols-at) s-at o c.rows.out c.rows.cursor.at c.rows.p.rows c.rows.p.bytes
+        → RowsDone from_at to_at (listed cols-at) s-at o out-behind c.after.result.at c.after-in-rows.result.rows c.after-in-rows.result.bytes = λ o d. (
     let l = c.loop-i in
     let n = onward in
     let w = c.put_row.ensures in
@@ -405,7 +406,8 @@ rows-smaller c =
     row_bytes to_at cols-at.count l.m.nulls (put_form from_at to_at cols-at flags-at (drop body_at s-at) l.scratch h)) in
     let cursor-moves : c.after.result.at ≡ next-at = omega (arith, onward.0, c.after.ensures) in
     let out-behind : List ℕ = c.put_row.new.out in
-    let row-behind : (o : List ℕ) → RowsDone from_at to_at (listed cols-at) s-at o c.rows.out c.rows.cursor.at c.rows.p.rows c.rows.p.bytes → RowsDone from_at to_at (listed cols-at) s-at o out-behind c.after.result.at c.after-in-rows.result.rows c.after-in-rows.result.bytes = λ o d. (
+    let row-behind : (o : List ℕ) → RowsDone from_at to_at (listed cols-at) s-at o c.rows.out c.rows.cursor.at c.rows.p.rows c.rows.p.bytes
+        → RowsDone from_at to_at (listed cols-at) s-at o out-behind c.after.result.at c.after-in-rows.result.rows c.after-in-rows.result.bytes = λ o d. (
     let l = c.loop-i in
     let n = onward in
     let w = c.put_row.ensures in
@@ -415,7 +417,8 @@ rows-smaller c =
     whole row_at written_at (omega (arith, size-at, c.if-room-size.false)) _ refl n.0 n.1 _
     (w.wrote.now-is ∙ ap (λ (y : Holding). sets c.rows.out c.rows.p.bytes (row-held y)) h) _ _ _ cursor-moves c.after-in-rows.ensures.0
     (c.after-in-rows.ensures.1 ∙ ap (λ (k : ℕ). c.rows.p.bytes + k) (sym size-at))) in
-    let more-done : let m = c.moved-more in RowsFurther from_at to_at (listed cols-at) s-at out-behind c.after.result.at c.after-in-rows.result.rows c.after-in-rows.result.bytes m.new.out m.result.place m.result.rows m.result.bytes = (
+    let more-done : let m = c.moved-more in RowsFurther from_at to_at (listed cols-at) s-at out-behind c.after.result.at c.after-in-rows.result.rows c.after-in-rows.result.bytes m.new.out
+        m.result.place m.result.rows m.result.bytes = (
     let d = row-behind out_at done_at in
     rows-further c.moved-more.ensures.moves_rows.moved are d.inside d.fewer) in
     let n = onward in
@@ -473,7 +476,8 @@ rows-preserved c =
     row_bytes to_at cols-at.count l.m.nulls (put_form from_at to_at cols-at flags-at (drop body_at s-at) l.scratch h)) in
     let cursor-moves : c.after.result.at ≡ next-at = omega (arith, onward.0, c.after.ensures) in
     let out-behind : List ℕ = c.put_row.new.out in
-    let row-behind : (o : List ℕ) → RowsDone from_at to_at (listed cols-at) s-at o c.rows.out c.rows.cursor.at c.rows.p.rows c.rows.p.bytes → RowsDone from_at to_at (listed cols-at) s-at o out-behind c.after.result.at c.after-in-rows.result.rows c.after-in-rows.result.bytes = λ o d. (
+    let row-behind : (o : List ℕ) → RowsDone from_at to_at (listed cols-at) s-at o c.rows.out c.rows.cursor.at c.rows.p.rows c.rows.p.bytes
+        → RowsDone from_at to_at (listed cols-at) s-at o out-behind c.after.result.at c.after-in-rows.result.rows c.after-in-rows.result.bytes = λ o d. (
     let l = c.loop-i in
     let n = onward in
     let w = c.put_row.ensures in
@@ -484,7 +488,8 @@ rows-preserved c =
     (w.wrote.now-is ∙ ap (λ (y : Holding). sets c.rows.out c.rows.p.bytes (row-held y)) h) _ _ _ cursor-moves c.after-in-rows.ensures.0
     (c.after-in-rows.ensures.1 ∙ ap (λ (k : ℕ). c.rows.p.bytes + k) (sym size-at))) in
     let scratch-behind : length c.put_row.new.scratch ≡ length c.rows.scratch = c.put_row.ensures.scratch_len_unchanged ∙ c.loop-i.invariant.3 in
-    let more-done : let m = c.moved-more in RowsFurther from_at to_at (listed cols-at) s-at out-behind c.after.result.at c.after-in-rows.result.rows c.after-in-rows.result.bytes m.new.out m.result.place m.result.rows m.result.bytes = (
+    let more-done : let m = c.moved-more in RowsFurther from_at to_at (listed cols-at) s-at out-behind c.after.result.at c.after-in-rows.result.rows c.after-in-rows.result.bytes m.new.out
+        m.result.place m.result.rows m.result.bytes = (
     let d = row-behind out_at done_at in
     rows-further c.moved-more.ensures.moves_rows.moved are d.inside d.fewer) in
     let m = c.moved-more.ensures in
@@ -534,7 +539,9 @@ returns-in-Refused c =
     let f = rows-further m.ensures.moves_rows.moved are (omega (arith, n.ensures)) (omega (arith, n.ensures, z.ensures.0)) in
     c.rows.invariant.0.further out_at (f.further out_at (rows_start from_at to_at (listed cols-at) s-at out_at _ _ _ n.ensures z.ensures))) in
     let left : at_end from_at (drop c.rows.cursor.at s-at) ≡ false = sym c.at_end.ensures ∙ c.rows-test.true in
-    let stopped : (n k : ℕ) → read_row from_at (listed cols-at) (drop c.rows.cursor.at s-at) ≡ bad (at k n) → Finished from_at to_at (listed cols-at) s-at out_at c.rows.out (record { number = n; row = c.rows.p.rows; column = k; rows = c.rows.p.rows; bytes = c.rows.p.bytes }) c.rows.cursor.at = λ n k e. (
+    let stopped : (n k : ℕ) → read_row from_at (listed cols-at) (drop c.rows.cursor.at s-at) ≡ bad (at k n)
+        → Finished from_at to_at (listed cols-at) s-at out_at c.rows.out
+        (record { number = n; row = c.rows.p.rows; column = k; rows = c.rows.p.rows; bytes = c.rows.p.bytes }) c.rows.cursor.at = λ n k e. (
     read-refusal from_at to_at (listed cols-at) are s-at out_at c.rows.out c.rows.cursor.at c.rows.p.rows c.rows.p.bytes done_at left (at k n) e) in
     let g = c.begin_row-b in
     let d = stopped _ 0 (row-unbegun from_at (listed cols-at) cols-at.count (listed-length cols-at) s-at c.rows.cursor.at g.result g.ensures
@@ -563,7 +570,9 @@ returns-in-Refused-t c =
     c.in-Row.is) in
     let column-at : Column = get_or cols-at.list c.loop-i.i no_column in
     let next-column : drop c.loop-i.i (listed cols-at) ≡ column-at ∷ drop (suc c.loop-i.i) (listed cols-at) = listed_next cols-at c.loop-i.i c.loop-i-test.true in
-    let stopped : (n k : ℕ) → read_row from_at (listed cols-at) (drop c.rows.cursor.at s-at) ≡ bad (at k n) → Finished from_at to_at (listed cols-at) s-at out_at c.rows.out (record { number = n; row = c.rows.p.rows; column = k; rows = c.rows.p.rows; bytes = c.rows.p.bytes }) c.rows.cursor.at = λ n k e. (
+    let stopped : (n k : ℕ) → read_row from_at (listed cols-at) (drop c.rows.cursor.at s-at) ≡ bad (at k n)
+        → Finished from_at to_at (listed cols-at) s-at out_at c.rows.out
+        (record { number = n; row = c.rows.p.rows; column = k; rows = c.rows.p.rows; bytes = c.rows.p.bytes }) c.rows.cursor.at = λ n k e. (
     read-refusal from_at to_at (listed cols-at) are s-at out_at c.rows.out c.rows.cursor.at c.rows.p.rows c.rows.p.bytes done_at left (at k n) e) in
     let l = c.loop-i in
     let f = c.flag_of-flagged in
@@ -592,14 +601,17 @@ returns-in-Refused-e c =
     let g = c.begin_row-b in
     row-begun from_at (listed cols-at) cols-at.count (listed-length cols-at) s-at c.rows.cursor.at g.result g.ensures flags-at body_at
     c.in-Row.is) in
-    let stopped : (n k : ℕ) → read_row from_at (listed cols-at) (drop c.rows.cursor.at s-at) ≡ bad (at k n) → Finished from_at to_at (listed cols-at) s-at out_at c.rows.out (record { number = n; row = c.rows.p.rows; column = k; rows = c.rows.p.rows; bytes = c.rows.p.bytes }) c.rows.cursor.at = λ n k e. (
+    let stopped : (n k : ℕ) → read_row from_at (listed cols-at) (drop c.rows.cursor.at s-at) ≡ bad (at k n)
+        → Finished from_at to_at (listed cols-at) s-at out_at c.rows.out
+        (record { number = n; row = c.rows.p.rows; column = k; rows = c.rows.p.rows; bytes = c.rows.p.bytes }) c.rows.cursor.at = λ n k e. (
     read-refusal from_at to_at (listed cols-at) are s-at out_at c.rows.out c.rows.cursor.at c.rows.p.rows c.rows.p.bytes done_at left (at k n) e) in
     let past : length (listed cols-at) ≤ c.loop-i.i = omega (arith, listed-length cols-at, c.loop-i-test.false) in
     let all_read : read_cells from_at (listed cols-at) (flags_in from_at cols-at.count flags-at) 0 (drop body_at s-at) ≡ good (c.loop-i.invariant.0.acc, drop c.loop-i.at s-at) = (
     read-end from_at (listed cols-at) _ s-at body_at c.loop-i.at c.loop-i.i c.loop-i.invariant.0 past) in
     let e = c.end_row-e in
     let q = cells_open from_at (listed cols-at) _ s-at body_at _ _ all_read e.result e.ensures c.in-Refused-e.n c.in-Refused-e.is in
-    let d = stopped _ cols-at.count (begun ∙ q ∙ ap (λ (k : ℕ). bad (at k c.in-Refused-e.n)) (listed-length cols-at)) in record { answer_value = d.answers; place_value = d.stands; out_after = d.leaves }
+    let d = stopped _ cols-at.count (begun ∙ q ∙ ap (λ (k : ℕ). bad (at k c.in-Refused-e.n)) (listed-length cols-at)) in
+        record { answer_value = d.answers; place_value = d.stands; out_after = d.leaves }
 
 pub returns-then-m-ne-NONE : goal.returns-then-m-ne-NONE
 unfolding at

@@ -76,7 +76,11 @@ returns-in-Unread c =
     let others-of : List Bool = flags_in c.args.two.from cols-of.count c.args.others in
     let column : Column = get_or cols-of.list c.loop-i.i no_column in
     let next-column : drop c.loop-i.i (listed cols-of) ≡ column ∷ drop (suc c.loop-i.i) (listed cols-of) = listed_next cols-of c.loop-i.i c.loop-i-test.true in
-    let unread : OneUnread (read_cell c.args.one.from column c.flag_of-flag.result (drop c.loop-i.at c.args.first.now)) (read_cell c.args.two.from column c.flag_of-other.result (drop c.loop-i.place c.args.second.now)) → OneUnread (cells_end c.args.one.from (listed cols-of) flags_of (drop c.args.one.at c.args.first.now)) (cells_end c.args.two.from (listed cols-of) others-of (drop c.args.two.at c.args.second.now)) = λ h. (unread-cells c.args.one.from c.args.two.from (listed cols-of) flags_of others-of c.args.first.now c.args.second.now
+    let unread : OneUnread (read_cell c.args.one.from column c.flag_of-flag.result (drop c.loop-i.at c.args.first.now))
+        (read_cell c.args.two.from column c.flag_of-other.result (drop c.loop-i.place c.args.second.now))
+        → OneUnread (cells_end c.args.one.from (listed cols-of) flags_of (drop c.args.one.at c.args.first.now))
+        (cells_end c.args.two.from (listed cols-of) others-of (drop c.args.two.at c.args.second.now)) =
+        λ h. (unread-cells c.args.one.from c.args.two.from (listed cols-of) flags_of others-of c.args.first.now c.args.second.now
     c.args.one.at c.args.two.at c.loop-i.i _ _ h
     (λ n e. read-stop c.args.one.from (listed cols-of) flags_of c.args.first.now c.args.one.at c.loop-i.at c.loop-i.i c.loop-i.invariant.0
     column next-column c.flag_of-flag.result c.flag_of-flag.ensures n e)

@@ -29,18 +29,24 @@ loop-i-init c =
 
 pub returns-then-a-i : goal.returns-then-a-i
 returns-then-a-i c =
-    let turn : same_elements (take c.args.n c.args.a.now) (take c.args.m c.args.b.now) ≡ (same_integer (get_or c.args.a.now c.loop-i.i (pos 0)) (get_or c.args.b.now c.loop-i.i (pos 0)) && same_elements (drop (c.loop-i.i + 1) (take c.args.n c.args.a.now)) (drop (c.loop-i.i + 1) (take c.args.n c.args.b.now))) = (c.loop-i.invariant
+    let turn : same_elements (take c.args.n c.args.a.now) (take c.args.m c.args.b.now) ≡
+        (same_integer (get_or c.args.a.now c.loop-i.i (pos 0)) (get_or c.args.b.now c.loop-i.i (pos 0)) && same_elements (drop (c.loop-i.i + 1) (take c.args.n c.args.a.now))
+        (drop (c.loop-i.i + 1) (take c.args.n c.args.b.now))) = (c.loop-i.invariant
     ∙ same_turn c.args.n c.args.a.now c.args.b.now c.loop-i.i (pos 0) c.loop-i-test.true c.requires.0
     (omega (arith, c.requires.1, c.if-n-m.false))) in
-    let by_bits : eqb (of_z w64 (get_or c.args.a.now c.loop-i.i (pos 0))) (of_z w64 (get_or c.args.b.now c.loop-i.i (pos 0))) ≡ same_integer (get_or c.args.a.now c.loop-i.i (pos 0)) (get_or c.args.b.now c.loop-i.i (pos 0)) = eq-bits _ _ (to_z-of_z {w = w64} (sfits_of c.t10-1.given)) (to_z-of_z {w = w64} (sfits_of c.t13-1.given)) in
+    let by_bits : eqb (of_z w64 (get_or c.args.a.now c.loop-i.i (pos 0))) (of_z w64 (get_or c.args.b.now c.loop-i.i (pos 0))) ≡ same_integer (get_or c.args.a.now c.loop-i.i (pos 0))
+        (get_or c.args.b.now c.loop-i.i (pos 0)) = eq-bits _ _ (to_z-of_z {w = w64} (sfits_of c.t10-1.given)) (to_z-of_z {w = w64} (sfits_of c.t13-1.given)) in
     sym (turn ∙ rw (sym by_bits ∙ ne_eqb _ _ c.if-a-i.true))
 
 pub loop-i-preserved : goal.loop-i-preserved
 loop-i-preserved c =
-    let turn : same_elements (take c.args.n c.args.a.now) (take c.args.m c.args.b.now) ≡ (same_integer (get_or c.args.a.now c.loop-i.i (pos 0)) (get_or c.args.b.now c.loop-i.i (pos 0)) && same_elements (drop (c.loop-i.i + 1) (take c.args.n c.args.a.now)) (drop (c.loop-i.i + 1) (take c.args.n c.args.b.now))) = (c.loop-i.invariant
+    let turn : same_elements (take c.args.n c.args.a.now) (take c.args.m c.args.b.now) ≡
+        (same_integer (get_or c.args.a.now c.loop-i.i (pos 0)) (get_or c.args.b.now c.loop-i.i (pos 0)) && same_elements (drop (c.loop-i.i + 1) (take c.args.n c.args.a.now))
+        (drop (c.loop-i.i + 1) (take c.args.n c.args.b.now))) = (c.loop-i.invariant
     ∙ same_turn c.args.n c.args.a.now c.args.b.now c.loop-i.i (pos 0) c.loop-i-test.true c.requires.0
     (omega (arith, c.requires.1, c.if-n-m.false))) in
-    let by_bits : eqb (of_z w64 (get_or c.args.a.now c.loop-i.i (pos 0))) (of_z w64 (get_or c.args.b.now c.loop-i.i (pos 0))) ≡ same_integer (get_or c.args.a.now c.loop-i.i (pos 0)) (get_or c.args.b.now c.loop-i.i (pos 0)) = eq-bits _ _ (to_z-of_z {w = w64} (sfits_of c.t10-1.given)) (to_z-of_z {w = w64} (sfits_of c.t13-1.given)) in
+    let by_bits : eqb (of_z w64 (get_or c.args.a.now c.loop-i.i (pos 0))) (of_z w64 (get_or c.args.b.now c.loop-i.i (pos 0))) ≡ same_integer (get_or c.args.a.now c.loop-i.i (pos 0))
+        (get_or c.args.b.now c.loop-i.i (pos 0)) = eq-bits _ _ (to_z-of_z {w = w64} (sfits_of c.t10-1.given)) (to_z-of_z {w = w64} (sfits_of c.t13-1.given)) in
     turn ∙ rw (sym by_bits ∙ eq-eqb _ _ c.if-a-i.false)
 
 pub returns : goal.returns

@@ -183,7 +183,10 @@ loop-i-preserved c =
     let planned-row : List ℕ = c.move_planned-planned.new.row in
     let by-plan : let l = c.loop-i in MovesCell from_at to_at column-at flag_at s-at l.at l.row l.end planned-row c.move_planned-planned.result = (
     c.move_planned-planned.ensures column-at (listed-bounded cols-at c.loop-i.i are c.loop-i-test.true) step_is) in
-    let advance : (new : List ℕ) (next e : ℕ) (null : Bool) (q : ℕ) → let l = c.loop-i in CellMoved from_at to_at column-at flag_at s-at l.at l.row l.end new next e null → to_digits 2 (l.i + 1) q ≡ to_digits 2 l.i l.nulls ++ (flag_bit null ∷ []) → (k : RowRead from_at (listed cols-at) (flags_in from_at cols-at.count flags-at) s-at body_at next (l.i + 1)) × RowMoved to_at (listed cols-at) k.acc c.rows.row c.start_size-first.result new e q (l.i + 1) = λ new next e null q x w. (
+    let advance : (new : List ℕ) (next e : ℕ) (null : Bool) (q : ℕ) → let l = c.loop-i in
+        CellMoved from_at to_at column-at flag_at s-at l.at l.row l.end new next e null → to_digits 2 (l.i + 1) q ≡ to_digits 2 l.i l.nulls ++ (flag_bit null ∷ [])
+        → (k : RowRead from_at (listed cols-at) (flags_in from_at cols-at.count flags-at) s-at body_at next (l.i + 1))
+        × RowMoved to_at (listed cols-at) k.acc c.rows.row c.start_size-first.result new e q (l.i + 1) = λ new next e null q x w. (
     let l = c.loop-i in
     let f = c.flag_of-flagged in (
       read_more from_at (listed cols-at) _ s-at body_at l.at l.i l.invariant.0 column-at next-column f.result f.ensures x.cell _

@@ -89,7 +89,8 @@ shape_of-scratch-in-Refused-e c = c.loop-i.invariant.1
 pub returns-in-Refused-e : goal.returns-in-Refused-e
 returns-in-Refused-e c =
     let flags_of : List Bool = flags_in c.args.from c.args.cols.count c.args.flags in
-    let all_read : read_cells c.args.from (listed c.args.cols) flags_of 0 (drop c.args.body c.args.s.now) ≡ good (c.loop-i.invariant.0.acc, drop c.loop-i.at c.args.s.now) = (read-end c.args.from (listed c.args.cols) flags_of c.args.s.now c.args.body c.loop-i.at c.loop-i.i c.loop-i.invariant.0
+    let all_read : read_cells c.args.from (listed c.args.cols) flags_of 0 (drop c.args.body c.args.s.now) ≡ good (c.loop-i.invariant.0.acc, drop c.loop-i.at c.args.s.now) =
+        (read-end c.args.from (listed c.args.cols) flags_of c.args.s.now c.args.body c.loop-i.at c.loop-i.i c.loop-i.invariant.0
     (omega (arith, listed-length c.args.cols, c.loop-i-test.false))) in
     let e = c.end_row-e in
     record {
@@ -105,7 +106,8 @@ shape_of-scratch-in-Closed c = c.loop-i.invariant.1
 pub returns-in-Closed : goal.returns-in-Closed
 returns-in-Closed c =
     let flags_of : List Bool = flags_in c.args.from c.args.cols.count c.args.flags in
-    let all_read : read_cells c.args.from (listed c.args.cols) flags_of 0 (drop c.args.body c.args.s.now) ≡ good (c.loop-i.invariant.0.acc, drop c.loop-i.at c.args.s.now) = (read-end c.args.from (listed c.args.cols) flags_of c.args.s.now c.args.body c.loop-i.at c.loop-i.i c.loop-i.invariant.0
+    let all_read : read_cells c.args.from (listed c.args.cols) flags_of 0 (drop c.args.body c.args.s.now) ≡ good (c.loop-i.invariant.0.acc, drop c.loop-i.at c.args.s.now) =
+        (read-end c.args.from (listed c.args.cols) flags_of c.args.s.now c.args.body c.loop-i.at c.loop-i.i c.loop-i.invariant.0
     (omega (arith, listed-length c.args.cols, c.loop-i-test.false))) in
     let e = c.end_row-e in
     let k = c.in-Closed.is in

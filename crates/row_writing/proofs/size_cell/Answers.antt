@@ -29,19 +29,22 @@ pub returns-in-TableData : goal.returns-in-TableData
 unfolding write_cell
 returns-in-TableData c =
     let cell : Cell = held c.args.null c.args.count c.args.scratch.now in
-    let small : (to : Rows) (r : Size) → size_as r ≡ size_of (write_cell to c.args.column cell) → (size_as r ≡ size_of (write_cell to c.args.column cell)) × SizeWithin r = λ to r e. sized to c.args.column cell r c.requires.0 (held-few c.args.column c.args.null c.args.count c.args.scratch.now c.requires.1) e in
+    let small : (to : Rows) (r : Size) → size_as r ≡ size_of (write_cell to c.args.column cell) → (size_as r ≡ size_of (write_cell to c.args.column cell)) × SizeWithin r =
+        λ to r e. sized to c.args.column cell r c.requires.0 (held-few c.args.column c.args.null c.args.count c.args.scratch.now c.requires.1) e in
     rw c.in-TableData.is (small TableData c.size_text.result c.size_text.ensures)
 
 pub returns-in-Binary : goal.returns-in-Binary
 unfolding write_cell
 returns-in-Binary c =
     let cell : Cell = held c.args.null c.args.count c.args.scratch.now in
-    let small : (to : Rows) (r : Size) → size_as r ≡ size_of (write_cell to c.args.column cell) → (size_as r ≡ size_of (write_cell to c.args.column cell)) × SizeWithin r = λ to r e. sized to c.args.column cell r c.requires.0 (held-few c.args.column c.args.null c.args.count c.args.scratch.now c.requires.1) e in
+    let small : (to : Rows) (r : Size) → size_as r ≡ size_of (write_cell to c.args.column cell) → (size_as r ≡ size_of (write_cell to c.args.column cell)) × SizeWithin r =
+        λ to r e. sized to c.args.column cell r c.requires.0 (held-few c.args.column c.args.null c.args.count c.args.scratch.now c.requires.1) e in
     rw c.in-Binary.is (small Binary c.size_binary.result c.size_binary.ensures)
 
 pub returns-in-Binary2 : goal.returns-in-Binary2
 unfolding write_cell
 returns-in-Binary2 c =
     let cell : Cell = held c.args.null c.args.count c.args.scratch.now in
-    let small : (to : Rows) (r : Size) → size_as r ≡ size_of (write_cell to c.args.column cell) → (size_as r ≡ size_of (write_cell to c.args.column cell)) × SizeWithin r = λ to r e. sized to c.args.column cell r c.requires.0 (held-few c.args.column c.args.null c.args.count c.args.scratch.now c.requires.1) e in
+    let small : (to : Rows) (r : Size) → size_as r ≡ size_of (write_cell to c.args.column cell) → (size_as r ≡ size_of (write_cell to c.args.column cell)) × SizeWithin r =
+        λ to r e. sized to c.args.column cell r c.requires.0 (held-few c.args.column c.args.null c.args.count c.args.scratch.now c.requires.1) e in
     rw c.in-Binary2.is (small Binary2 (Bytes c.size_binary2.result) (ap good c.size_binary2.ensures))

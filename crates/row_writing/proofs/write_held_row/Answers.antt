@@ -47,7 +47,9 @@ write_held_cell-w-requires c =
     (start_bytes c.args.to c.args.cols.count c.args.nulls)) in
     let room-left : first + (length cells + length (write_end c.args.to)) ≤ length headed = (
     omega (arith, same-room, c.requires.scratch_in_bounds, c.write_start-first.ensures.next-is, row-bytes-length c.args.to c.args.cols.count c.args.nulls cells)) in
-    let bounds : c.loop-j.j < c.args.cols.count → HeldWithin (get_or c.args.cols.list c.loop-j.j no_column ∷ drop (suc c.loop-j.j) (listed c.args.cols)) (drop c.loop-j.w.at c.args.scratch.now) = λ t. subst (λ (cs : List Column). HeldWithin cs (drop c.loop-j.w.at c.args.scratch.now)) (listed_next c.args.cols c.loop-j.j t) c.loop-j.invariant.1 in
+    let bounds : c.loop-j.j < c.args.cols.count → HeldWithin (get_or c.args.cols.list c.loop-j.j no_column ∷ drop (suc c.loop-j.j) (listed c.args.cols))
+        (drop c.loop-j.w.at c.args.scratch.now) = λ t. subst (λ (cs : List Column). HeldWithin cs (drop c.loop-j.w.at c.args.scratch.now))
+        (listed_next c.args.cols c.loop-j.j t) c.loop-j.invariant.1 in
     let cols = c.args.cols in
     let t = c.loop-j-test.true in
     let more : c.loop-j.j < length (listed cols) = omega (arith, listed-length cols, t) in
@@ -68,7 +70,9 @@ loop-j-smaller c = omega (arith, c.loop-j-test.true)
 pub loop-j-preserved : goal.loop-j-preserved
 loop-j-preserved c =
     let headed : List ℕ = c.write_start-first.new.out in
-    let bounds : c.loop-j.j < c.args.cols.count → HeldWithin (get_or c.args.cols.list c.loop-j.j no_column ∷ drop (suc c.loop-j.j) (listed c.args.cols)) (drop c.loop-j.w.at c.args.scratch.now) = λ t. subst (λ (cs : List Column). HeldWithin cs (drop c.loop-j.w.at c.args.scratch.now)) (listed_next c.args.cols c.loop-j.j t) c.loop-j.invariant.1 in
+    let bounds : c.loop-j.j < c.args.cols.count → HeldWithin (get_or c.args.cols.list c.loop-j.j no_column ∷ drop (suc c.loop-j.j) (listed c.args.cols))
+        (drop c.loop-j.w.at c.args.scratch.now) = λ t. subst (λ (cs : List Column). HeldWithin cs (drop c.loop-j.w.at c.args.scratch.now))
+        (listed_next c.args.cols c.loop-j.j t) c.loop-j.invariant.1 in
     let cols = c.args.cols in
     let t = c.loop-j-test.true in
     let g = c.write_held_cell-w.ensures in

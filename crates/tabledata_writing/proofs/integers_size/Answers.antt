@@ -20,19 +20,22 @@ loop-k-init c = (search rules, search rules, refl)
 
 pub overflow_add-size : goal.overflow_add-size
 overflow_add-size c =
-    let word : c.shortest_length.result ≡ length (shortest (get_or c.args.scratch.now c.loop-k.k (pos 0))) = c.shortest_length.ensures ∙ ap (λ (z : ℤ). length (shortest z)) (to_z-of_z {w = w64} (sfits_of c.shortest_length-arg-1.given)) in
+    let word : c.shortest_length.result ≡ length (shortest (get_or c.args.scratch.now c.loop-k.k (pos 0))) =
+        c.shortest_length.ensures ∙ ap (λ (z : ℤ). length (shortest z)) (to_z-of_z {w = w64} (sfits_of c.shortest_length-arg-1.given)) in
     let few : c.shortest_length.result ≤ 21 = omega (arith, word, shortest-most (get_or c.args.scratch.now c.loop-k.k (pos 0))) in
     omega (arith, few)
 
 pub overflow_add-size-in-loop-k : goal.overflow_add-size-in-loop-k
 overflow_add-size-in-loop-k c =
-    let word : c.shortest_length.result ≡ length (shortest (get_or c.args.scratch.now c.loop-k.k (pos 0))) = c.shortest_length.ensures ∙ ap (λ (z : ℤ). length (shortest z)) (to_z-of_z {w = w64} (sfits_of c.shortest_length-arg-1.given)) in
+    let word : c.shortest_length.result ≡ length (shortest (get_or c.args.scratch.now c.loop-k.k (pos 0))) =
+        c.shortest_length.ensures ∙ ap (λ (z : ℤ). length (shortest z)) (to_z-of_z {w = w64} (sfits_of c.shortest_length-arg-1.given)) in
     let few : c.shortest_length.result ≤ 21 = omega (arith, word, shortest-most (get_or c.args.scratch.now c.loop-k.k (pos 0))) in
     omega (arith, few, c.loop-k.invariant.1, c.requires.1)
 
 pub loop-k-preserved : goal.loop-k-preserved
 loop-k-preserved c =
-    let word : c.shortest_length.result ≡ length (shortest (get_or c.args.scratch.now c.loop-k.k (pos 0))) = c.shortest_length.ensures ∙ ap (λ (z : ℤ). length (shortest z)) (to_z-of_z {w = w64} (sfits_of c.shortest_length-arg-1.given)) in
+    let word : c.shortest_length.result ≡ length (shortest (get_or c.args.scratch.now c.loop-k.k (pos 0))) =
+        c.shortest_length.ensures ∙ ap (λ (z : ℤ). length (shortest z)) (to_z-of_z {w = w64} (sfits_of c.shortest_length-arg-1.given)) in
     let few : c.shortest_length.result ≤ 21 = omega (arith, word, shortest-most (get_or c.args.scratch.now c.loop-k.k (pos 0))) in
     let a = c.args in let k = c.loop-k.k in
     let more = taken_more (λ z. 32 ∷ shortest z) a.scratch.now a.count k c.requires.0 c.loop-k-test.true in

@@ -18,7 +18,8 @@ loop-k-init c = left-all c.args.out.now c.args.at _
 
 pub bounds-out-i : goal.bounds-out-i
 bounds-out-i c =
-    let more : let a = c.args in let k = c.loop-k.k in joined (λ z. 32 ∷ truth_text z) (drop k (take a.count a.scratch.now)) ≡ (32 ∷ truth_text (get_or a.scratch.now k (pos 0))) ++ joined (λ z. 32 ∷ truth_text z) (drop (k + 1) (take a.count a.scratch.now)) = (let a = c.args in
+    let more : let a = c.args in let k = c.loop-k.k in joined (λ z. 32 ∷ truth_text z) (drop k (take a.count a.scratch.now)) ≡ (32 ∷ truth_text (get_or a.scratch.now k (pos 0))) ++ joined
+        (λ z. 32 ∷ truth_text z) (drop (k + 1) (take a.count a.scratch.now)) = (let a = c.args in
     taken_more (λ z. 32 ∷ truth_text z) a.scratch.now a.count c.loop-k.k c.requires.0 c.loop-k-test.true) in
     let room : c.loop-k.i + 2 ≤ length c.loop-k.out = (let l = c.loop-k in let z = get_or c.args.scratch.now l.k (pos 0) in
     omega (arith, left-room l.invariant (32 ∷ truth_text z) _ more c.requires.1, truth-long z)) in
@@ -26,7 +27,8 @@ bounds-out-i c =
 
 pub overflow_add-out : goal.overflow_add-out
 overflow_add-out c =
-    let more : let a = c.args in let k = c.loop-k.k in joined (λ z. 32 ∷ truth_text z) (drop k (take a.count a.scratch.now)) ≡ (32 ∷ truth_text (get_or a.scratch.now k (pos 0))) ++ joined (λ z. 32 ∷ truth_text z) (drop (k + 1) (take a.count a.scratch.now)) = (let a = c.args in
+    let more : let a = c.args in let k = c.loop-k.k in joined (λ z. 32 ∷ truth_text z) (drop k (take a.count a.scratch.now)) ≡ (32 ∷ truth_text (get_or a.scratch.now k (pos 0))) ++ joined
+        (λ z. 32 ∷ truth_text z) (drop (k + 1) (take a.count a.scratch.now)) = (let a = c.args in
     taken_more (λ z. 32 ∷ truth_text z) a.scratch.now a.count c.loop-k.k c.requires.0 c.loop-k-test.true) in
     let room : c.loop-k.i + 2 ≤ length c.loop-k.out = (let l = c.loop-k in let z = get_or c.args.scratch.now l.k (pos 0) in
     omega (arith, left-room l.invariant (32 ∷ truth_text z) _ more c.requires.1, truth-long z)) in
@@ -34,7 +36,8 @@ overflow_add-out c =
 
 pub bounds-out-i-in-loop-k : goal.bounds-out-i-in-loop-k
 bounds-out-i-in-loop-k c =
-    let more : let a = c.args in let k = c.loop-k.k in joined (λ z. 32 ∷ truth_text z) (drop k (take a.count a.scratch.now)) ≡ (32 ∷ truth_text (get_or a.scratch.now k (pos 0))) ++ joined (λ z. 32 ∷ truth_text z) (drop (k + 1) (take a.count a.scratch.now)) = (let a = c.args in
+    let more : let a = c.args in let k = c.loop-k.k in joined (λ z. 32 ∷ truth_text z) (drop k (take a.count a.scratch.now)) ≡ (32 ∷ truth_text (get_or a.scratch.now k (pos 0))) ++ joined
+        (λ z. 32 ∷ truth_text z) (drop (k + 1) (take a.count a.scratch.now)) = (let a = c.args in
     taken_more (λ z. 32 ∷ truth_text z) a.scratch.now a.count c.loop-k.k c.requires.0 c.loop-k-test.true) in
     let room : c.loop-k.i + 2 ≤ length c.loop-k.out = (let l = c.loop-k in let z = get_or c.args.scratch.now l.k (pos 0) in
     omega (arith, left-room l.invariant (32 ∷ truth_text z) _ more c.requires.1, truth-long z)) in
@@ -42,7 +45,8 @@ bounds-out-i-in-loop-k c =
 
 pub overflow_add-i : goal.overflow_add-i
 overflow_add-i c =
-    let more : let a = c.args in let k = c.loop-k.k in joined (λ z. 32 ∷ truth_text z) (drop k (take a.count a.scratch.now)) ≡ (32 ∷ truth_text (get_or a.scratch.now k (pos 0))) ++ joined (λ z. 32 ∷ truth_text z) (drop (k + 1) (take a.count a.scratch.now)) = (let a = c.args in
+    let more : let a = c.args in let k = c.loop-k.k in joined (λ z. 32 ∷ truth_text z) (drop k (take a.count a.scratch.now)) ≡ (32 ∷ truth_text (get_or a.scratch.now k (pos 0))) ++ joined
+        (λ z. 32 ∷ truth_text z) (drop (k + 1) (take a.count a.scratch.now)) = (let a = c.args in
     taken_more (λ z. 32 ∷ truth_text z) a.scratch.now a.count c.loop-k.k c.requires.0 c.loop-k-test.true) in
     let room : c.loop-k.i + 2 ≤ length c.loop-k.out = (let l = c.loop-k in let z = get_or c.args.scratch.now l.k (pos 0) in
     omega (arith, left-room l.invariant (32 ∷ truth_text z) _ more c.requires.1, truth-long z)) in
@@ -50,7 +54,8 @@ overflow_add-i c =
 
 pub loop-k-preserved : goal.loop-k-preserved
 loop-k-preserved c =
-    let more : let a = c.args in let k = c.loop-k.k in joined (λ z. 32 ∷ truth_text z) (drop k (take a.count a.scratch.now)) ≡ (32 ∷ truth_text (get_or a.scratch.now k (pos 0))) ++ joined (λ z. 32 ∷ truth_text z) (drop (k + 1) (take a.count a.scratch.now)) = (let a = c.args in
+    let more : let a = c.args in let k = c.loop-k.k in joined (λ z. 32 ∷ truth_text z) (drop k (take a.count a.scratch.now)) ≡ (32 ∷ truth_text (get_or a.scratch.now k (pos 0))) ++ joined
+        (λ z. 32 ∷ truth_text z) (drop (k + 1) (take a.count a.scratch.now)) = (let a = c.args in
     taken_more (λ z. 32 ∷ truth_text z) a.scratch.now a.count c.loop-k.k c.requires.0 c.loop-k-test.true) in
     let a = c.args in let l = c.loop-k in
     let rest = joined (λ z. 32 ∷ truth_text z) (drop (l.k + 1) (take a.count a.scratch.now)) in

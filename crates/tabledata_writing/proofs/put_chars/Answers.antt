@@ -19,7 +19,8 @@ loop-k-init c = left-all c.args.out.now c.args.at _
 
 pub put_char-i-requires : goal.put_char-i-requires
 put_char-i-requires c =
-    let more : let a = c.args in let k = c.loop-k.k in joined char_form (drop k (take a.count a.scratch.now)) ≡ char_form (pos c.code_of.result) ++ joined char_form (drop (k + 1) (take a.count a.scratch.now)) = (let k = c.loop-k.k in let a = c.args in
+    let more : let a = c.args in let k = c.loop-k.k in joined char_form (drop k (take a.count a.scratch.now)) ≡ char_form (pos c.code_of.result) ++ joined char_form
+        (drop (k + 1) (take a.count a.scratch.now)) = (let k = c.loop-k.k in let a = c.args in
     let code = char-code _ _ c.code_of.result (to_z-of_z {w = w64} (sfits_of c.code_of-arg-1.given)) c.code_of.ensures.0 in
     taken_more char_form a.scratch.now a.count k c.requires.0 c.loop-k-test.true
     ∙ ap (λ (b : List ℕ). b ++ joined char_form (drop (k + 1) (take a.count a.scratch.now))) code) in
@@ -27,7 +28,8 @@ put_char-i-requires c =
 
 pub loop-k-preserved : goal.loop-k-preserved
 loop-k-preserved c =
-    let more : let a = c.args in let k = c.loop-k.k in joined char_form (drop k (take a.count a.scratch.now)) ≡ char_form (pos c.code_of.result) ++ joined char_form (drop (k + 1) (take a.count a.scratch.now)) = (let k = c.loop-k.k in let a = c.args in
+    let more : let a = c.args in let k = c.loop-k.k in joined char_form (drop k (take a.count a.scratch.now)) ≡ char_form (pos c.code_of.result) ++ joined char_form
+        (drop (k + 1) (take a.count a.scratch.now)) = (let k = c.loop-k.k in let a = c.args in
     let code = char-code _ _ c.code_of.result (to_z-of_z {w = w64} (sfits_of c.code_of-arg-1.given)) c.code_of.ensures.0 in
     taken_more char_form a.scratch.now a.count k c.requires.0 c.loop-k-test.true
     ∙ ap (λ (b : List ℕ). b ++ joined char_form (drop (k + 1) (take a.count a.scratch.now))) code) in

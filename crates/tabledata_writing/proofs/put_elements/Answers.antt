@@ -14,7 +14,8 @@ use Rattle.tabledata_writing.proofs.put_elements.Goals as goal
 pub put_truths-requires : goal.put_truths-requires
 unfolding element_bytes
 put_truths-requires c =
-    let room : (e : Elements) → c.elements_of.result ≡ e → let a = c.args in (a.count ≤ length a.scratch.now) × (a.at + length (element_bytes (shape_as e) (take a.count a.scratch.now)) ≤ length a.out.now) = λ _ told. (let a = c.args in (
+    let room : (e : Elements) → c.elements_of.result ≡ e → let a = c.args in
+        (a.count ≤ length a.scratch.now) × (a.at + length (element_bytes (shape_as e) (take a.count a.scratch.now)) ≤ length a.out.now) = λ _ told. (let a = c.args in (
       c.requires.0,
       subst (λ (k : Shape). a.at + length (element_bytes k (take a.count a.scratch.now)) ≤ length a.out.now)
           (shape_of c.elements_of.ensures told) c.requires.1,
@@ -23,7 +24,8 @@ put_truths-requires c =
 
 pub put_bits-requires : goal.put_bits-requires
 put_bits-requires c =
-    let room : (e : Elements) → c.elements_of.result ≡ e → let a = c.args in (a.count ≤ length a.scratch.now) × (a.at + length (element_bytes (shape_as e) (take a.count a.scratch.now)) ≤ length a.out.now) = λ _ told. (let a = c.args in (
+    let room : (e : Elements) → c.elements_of.result ≡ e → let a = c.args in
+        (a.count ≤ length a.scratch.now) × (a.at + length (element_bytes (shape_as e) (take a.count a.scratch.now)) ≤ length a.out.now) = λ _ told. (let a = c.args in (
       c.requires.0,
       subst (λ (k : Shape). a.at + length (element_bytes k (take a.count a.scratch.now)) ≤ length a.out.now)
           (shape_of c.elements_of.ensures told) c.requires.1,
@@ -32,7 +34,8 @@ put_bits-requires c =
 
 pub put_chars-requires : goal.put_chars-requires
 put_chars-requires c =
-    let room : (e : Elements) → c.elements_of.result ≡ e → let a = c.args in (a.count ≤ length a.scratch.now) × (a.at + length (element_bytes (shape_as e) (take a.count a.scratch.now)) ≤ length a.out.now) = λ _ told. (let a = c.args in (
+    let room : (e : Elements) → c.elements_of.result ≡ e → let a = c.args in
+        (a.count ≤ length a.scratch.now) × (a.at + length (element_bytes (shape_as e) (take a.count a.scratch.now)) ≤ length a.out.now) = λ _ told. (let a = c.args in (
       c.requires.0,
       subst (λ (k : Shape). a.at + length (element_bytes k (take a.count a.scratch.now)) ≤ length a.out.now)
           (shape_of c.elements_of.ensures told) c.requires.1,
@@ -42,7 +45,8 @@ put_chars-requires c =
 pub put_integers-requires : goal.put_integers-requires
 unfolding element_bytes
 put_integers-requires c =
-    let room : (e : Elements) → c.elements_of.result ≡ e → let a = c.args in (a.count ≤ length a.scratch.now) × (a.at + length (element_bytes (shape_as e) (take a.count a.scratch.now)) ≤ length a.out.now) = λ _ told. (let a = c.args in (
+    let room : (e : Elements) → c.elements_of.result ≡ e → let a = c.args in
+        (a.count ≤ length a.scratch.now) × (a.at + length (element_bytes (shape_as e) (take a.count a.scratch.now)) ≤ length a.out.now) = λ _ told. (let a = c.args in (
       c.requires.0,
       subst (λ (k : Shape). a.at + length (element_bytes k (take a.count a.scratch.now)) ≤ length a.out.now)
           (shape_of c.elements_of.ensures told) c.requires.1,

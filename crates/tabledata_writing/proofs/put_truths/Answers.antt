@@ -19,7 +19,8 @@ returns-then-count-eq0 c =
 
 pub bounds-out-at : goal.bounds-out-at
 bounds-out-at c =
-    let whole : let a = c.args in spaced (map truth_text (take a.count a.scratch.now)) ≡ (c.truth_byte.result ∷ []) ++ joined (λ z. 32 ∷ truth_text z) (drop 1 (take a.count a.scratch.now)) = (let a = c.args in
+    let whole : let a = c.args in spaced (map truth_text (take a.count a.scratch.now)) ≡ (c.truth_byte.result ∷ []) ++ joined (λ z. 32 ∷ truth_text z) (drop 1 (take a.count a.scratch.now)) =
+        (let a = c.args in
     let word = sym (ap truth_text (to_z-of_z {w = w64} (sfits_of c.truth_byte-arg-1.given))) ∙ truth-text _ _ c.truth_byte.ensures in
     spaced-taken truth_text a.scratch.now a.count c.requires.0 c.if-count-eq0.false
     ∙ ap (λ (b : List ℕ). b ++ joined (λ z. 32 ∷ truth_text z) (drop 1 (take a.count a.scratch.now))) word) in
@@ -27,7 +28,8 @@ bounds-out-at c =
 
 pub overflow_add-at : goal.overflow_add-at
 overflow_add-at c =
-    let whole : let a = c.args in spaced (map truth_text (take a.count a.scratch.now)) ≡ (c.truth_byte.result ∷ []) ++ joined (λ z. 32 ∷ truth_text z) (drop 1 (take a.count a.scratch.now)) = (let a = c.args in
+    let whole : let a = c.args in spaced (map truth_text (take a.count a.scratch.now)) ≡ (c.truth_byte.result ∷ []) ++ joined (λ z. 32 ∷ truth_text z) (drop 1 (take a.count a.scratch.now)) =
+        (let a = c.args in
     let word = sym (ap truth_text (to_z-of_z {w = w64} (sfits_of c.truth_byte-arg-1.given))) ∙ truth-text _ _ c.truth_byte.ensures in
     spaced-taken truth_text a.scratch.now a.count c.requires.0 c.if-count-eq0.false
     ∙ ap (λ (b : List ℕ). b ++ joined (λ z. 32 ∷ truth_text z) (drop 1 (take a.count a.scratch.now))) word) in
@@ -35,7 +37,8 @@ overflow_add-at c =
 
 pub more_truths-requires : goal.more_truths-requires
 more_truths-requires c =
-    let whole : let a = c.args in spaced (map truth_text (take a.count a.scratch.now)) ≡ (c.truth_byte.result ∷ []) ++ joined (λ z. 32 ∷ truth_text z) (drop 1 (take a.count a.scratch.now)) = (let a = c.args in
+    let whole : let a = c.args in spaced (map truth_text (take a.count a.scratch.now)) ≡ (c.truth_byte.result ∷ []) ++ joined (λ z. 32 ∷ truth_text z) (drop 1 (take a.count a.scratch.now)) =
+        (let a = c.args in
     let word = sym (ap truth_text (to_z-of_z {w = w64} (sfits_of c.truth_byte-arg-1.given))) ∙ truth-text _ _ c.truth_byte.ensures in
     spaced-taken truth_text a.scratch.now a.count c.requires.0 c.if-count-eq0.false
     ∙ ap (λ (b : List ℕ). b ++ joined (λ z. 32 ∷ truth_text z) (drop 1 (take a.count a.scratch.now))) word) in
@@ -46,7 +49,8 @@ shape_of-out c = wrote-long c.more_truths.ensures ∙ simp length-set
 
 pub returns : goal.returns
 returns c =
-    let whole : let a = c.args in spaced (map truth_text (take a.count a.scratch.now)) ≡ (c.truth_byte.result ∷ []) ++ joined (λ z. 32 ∷ truth_text z) (drop 1 (take a.count a.scratch.now)) = (let a = c.args in
+    let whole : let a = c.args in spaced (map truth_text (take a.count a.scratch.now)) ≡ (c.truth_byte.result ∷ []) ++ joined (λ z. 32 ∷ truth_text z) (drop 1 (take a.count a.scratch.now)) =
+        (let a = c.args in
     let word = sym (ap truth_text (to_z-of_z {w = w64} (sfits_of c.truth_byte-arg-1.given))) ∙ truth-text _ _ c.truth_byte.ensures in
     spaced-taken truth_text a.scratch.now a.count c.requires.0 c.if-count-eq0.false
     ∙ ap (λ (b : List ℕ). b ++ joined (λ z. 32 ∷ truth_text z) (drop 1 (take a.count a.scratch.now))) word) in

@@ -24,12 +24,14 @@ returns-then-not-is_signed c = sym (quick-unsigned _ _ _ c.if-s-at-ne45.false (s
 
 pub returns-then-next-at : goal.returns-then-next-at
 returns-then-next-at c =
-    let behind : let a = c.args in quickly a.kind a.s.now a.at ≡ quick_run a.kind true a.s.now (a.at + 1) = quick-minus _ _ _ c.if-s-at-ne45.false (sym c.is_signed.ensures ∙ c.if-not-is_signed.false) in
+    let behind : let a = c.args in quickly a.kind a.s.now a.at ≡ quick_run a.kind true a.s.now (a.at + 1) =
+        quick-minus _ _ _ c.if-s-at-ne45.false (sym c.is_signed.ensures ∙ c.if-not-is_signed.false) in
     sym (behind ∙ run_none _ _ _ _ c.quick_digits-run.ensures _ _ (omega arith))
 
 pub returns-then-top_of-number : goal.returns-then-top_of-number
 returns-then-top_of-number c =
-    let behind : let a = c.args in quickly a.kind a.s.now a.at ≡ quick_run a.kind true a.s.now (a.at + 1) = quick-minus _ _ _ c.if-s-at-ne45.false (sym c.is_signed.ensures ∙ c.if-not-is_signed.false) in
+    let behind : let a = c.args in quickly a.kind a.s.now a.at ≡ quick_run a.kind true a.s.now (a.at + 1) =
+        quick-minus _ _ _ c.if-s-at-ne45.false (sym c.is_signed.ensures ∙ c.if-not-is_signed.false) in
     sym (behind ∙ run-over _ _ _ _ c.quick_digits-run.ensures _ _ (λ e. omega (arith, e)) (omega (arith, c.top_of.ensures)))
 
 pub overflow_cast-result : goal.overflow_cast-result
@@ -43,7 +45,8 @@ overflow_sub-result c =
 pub returns : goal.returns
 unfolding with_sign
 returns c =
-    let behind : let a = c.args in quickly a.kind a.s.now a.at ≡ quick_run a.kind true a.s.now (a.at + 1) = quick-minus _ _ _ c.if-s-at-ne45.false (sym c.is_signed.ensures ∙ c.if-not-is_signed.false) in
+    let behind : let a = c.args in quickly a.kind a.s.now a.at ≡ quick_run a.kind true a.s.now (a.at + 1) =
+        quick-minus _ _ _ c.if-s-at-ne45.false (sym c.is_signed.ensures ∙ c.if-not-is_signed.false) in
     let r = c.quick_digits-run in
     let small = top_lt c.args.kind in
     ap (λ (z : ℤ). Value z r.result.next) (negated w64 r.result.number (omega (arith, c.top_of.ensures, small)))

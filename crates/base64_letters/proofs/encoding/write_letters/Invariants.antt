@@ -11,7 +11,8 @@ use native.Mathlib.Omega.{arith}
 use Rattle.base64_letters.proofs.encoding.write_letters.Given as goal
 
 abbrev pub invariant-loop-i : goal.invariant-loop-i
-invariant-loop-i l = (l.i ≤ length l.s) × (length l.out ≡ length l.initial.out) × (l.o + length (encode (drop l.i l.s)) ≤ length l.out) × (sets l.out l.o (encode (drop l.i l.s)) ≡ sets l.initial.out 0 (encode l.s))
+invariant-loop-i l = (l.i ≤ length l.s) × (length l.out ≡ length l.initial.out) × (l.o + length (encode (drop l.i l.s)) ≤ length l.out)
+        × (sets l.out l.o (encode (drop l.i l.s)) ≡ sets l.initial.out 0 (encode l.s))
 
 abbrev pub decreases-loop-i : goal.decreases-loop-i
 decreases-loop-i l = length l.s - l.i

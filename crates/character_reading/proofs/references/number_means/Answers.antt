@@ -25,7 +25,8 @@ loop-i-init c =
 
 pub returns-then-base-d : goal.returns-then-base-d
 returns-then-base-d c =
-    let digits : let a = c.args in numeric (value_in a.hex) (base_in a.hex) (drop a.from a.name.now) ≡ refused_as (λ f. 10) (numeral (value_in a.hex) (base_in a.hex) 0 (drop a.from a.name.now)) = (let a = c.args in let long = length-drop a.from a.name.now in
+    let digits : let a = c.args in numeric (value_in a.hex) (base_in a.hex) (drop a.from a.name.now) ≡ refused_as (λ f. 10)
+        (numeral (value_in a.hex) (base_in a.hex) 0 (drop a.from a.name.now)) = (let a = c.args in let long = length-drop a.from a.name.now in
     numeric-sized a.hex (drop a.from a.name.now) (omega (arith, long)) (omega (arith, long))) in
     let above : base_in c.args.hex ≤ c.digit_value-d.result = omega (arith, c.base.ensures) in
     digits ∙ ap (refused_as (λ f. 10))
@@ -48,6 +49,7 @@ loop-i-preserved c =
 
 pub returns : goal.returns
 returns c =
-    let digits : let a = c.args in numeric (value_in a.hex) (base_in a.hex) (drop a.from a.name.now) ≡ refused_as (λ f. 10) (numeral (value_in a.hex) (base_in a.hex) 0 (drop a.from a.name.now)) = (let a = c.args in let long = length-drop a.from a.name.now in
+    let digits : let a = c.args in numeric (value_in a.hex) (base_in a.hex) (drop a.from a.name.now) ≡ refused_as (λ f. 10)
+        (numeral (value_in a.hex) (base_in a.hex) 0 (drop a.from a.name.now)) = (let a = c.args in let long = length-drop a.from a.name.now in
     numeric-sized a.hex (drop a.from a.name.now) (omega (arith, long)) (omega (arith, long))) in
     digits ∙ ap (refused_as (λ f. 10)) (c.loop-i.invariant.3 ∙ numeral-end c.args.hex _ _ _ c.loop-i-test.false)

@@ -25,13 +25,15 @@ span_end-name_end-requires c = c.skip_white-name.ensures.high
 pub returns-then-name-at : goal.returns-then-name-at
 returns-then-name-at c =
     let text_at : List ℕ = c.args.s.now in
-    let stops : attribute_comes (drop c.loop-at.at text_at) ≡ false → AttributesIs text_at c.args.from (Tallied c.loop-at.t c.loop-at.at) = λ e. let i = c.loop-at.invariant in record { rest = going-stop _ _ _ _ i.1 i.3 e; places = (i.0, i.1, i.2) } in
+    let stops : attribute_comes (drop c.loop-at.at text_at) ≡ false → AttributesIs text_at c.args.from (Tallied c.loop-at.t c.loop-at.at) = λ e. let i = c.loop-at.invariant in
+        record { rest = going-stop _ _ _ _ i.1 i.3 e; places = (i.0, i.1, i.2) } in
     stops (comes-not _ _ _ _ c.skip_white-name.ensures c.span_end-name_end.ensures c.if-name-at.true)
 
 pub returns-then-name_end-name : goal.returns-then-name_end-name
 returns-then-name_end-name c =
     let text_at : List ℕ = c.args.s.now in
-    let stops : attribute_comes (drop c.loop-at.at text_at) ≡ false → AttributesIs text_at c.args.from (Tallied c.loop-at.t c.loop-at.at) = λ e. let i = c.loop-at.invariant in record { rest = going-stop _ _ _ _ i.1 i.3 e; places = (i.0, i.1, i.2) } in
+    let stops : attribute_comes (drop c.loop-at.at text_at) ≡ false → AttributesIs text_at c.args.from (Tallied c.loop-at.t c.loop-at.at) = λ e. let i = c.loop-at.invariant in
+        record { rest = going-stop _ _ _ _ i.1 i.3 e; places = (i.0, i.1, i.2) } in
     stops (comes-nameless _ _ _ _ c.skip_white-name.ensures c.span_end-name_end.ensures c.if-name-at.false c.if-name_end-name.true)
 
 pub read_value-requires : goal.read_value-requires
@@ -52,13 +54,15 @@ slice_bounds-with_attribute-count c = omega (arith, c.span_end-name_end.ensures.
 pub overflow_add-at : goal.overflow_add-at
 overflow_add-at c =
     let text_at : List ℕ = c.args.s.now in
-    let value : let s = text_at in QuotedIs s c.span_end-name_end.result (assigned (drop c.span_end-name_end.result s)) (Holds c.in-Holds.start c.in-Holds.end) = subst (QuotedIs _ _ _) c.in-Holds.is c.read_value.ensures in
+    let value : let s = text_at in QuotedIs s c.span_end-name_end.result (assigned (drop c.span_end-name_end.result s)) (Holds c.in-Holds.start c.in-Holds.end) =
+        subst (QuotedIs _ _ _) c.in-Holds.is c.read_value.ensures in
     omega (arith, value.places.2)
 
 pub loop-at-smaller : goal.loop-at-smaller
 loop-at-smaller c =
     let text_at : List ℕ = c.args.s.now in
-    let value : let s = text_at in QuotedIs s c.span_end-name_end.result (assigned (drop c.span_end-name_end.result s)) (Holds c.in-Holds.start c.in-Holds.end) = subst (QuotedIs _ _ _) c.in-Holds.is c.read_value.ensures in
+    let value : let s = text_at in QuotedIs s c.span_end-name_end.result (assigned (drop c.span_end-name_end.result s)) (Holds c.in-Holds.start c.in-Holds.end) =
+        subst (QuotedIs _ _ _) c.in-Holds.is c.read_value.ensures in
     let far : c.loop-at.at ≤ c.in-Holds.end = omega (arith, value.places, c.span_end-name_end.ensures.onward, c.skip_white-name.ensures.low) in
     omega (arith, value.places.2, far)
 
@@ -66,7 +70,8 @@ pub loop-at-preserved : goal.loop-at-preserved
 loop-at-preserved c =
     let text_at : List ℕ = c.args.s.now in
     let comes : attribute_comes (drop c.loop-at.at text_at) ≡ true = comes-yes _ _ _ _ c.skip_white-name.ensures c.span_end-name_end.ensures c.if-name-at.false c.if-name_end-name.false in
-    let value : let s = text_at in QuotedIs s c.span_end-name_end.result (assigned (drop c.span_end-name_end.result s)) (Holds c.in-Holds.start c.in-Holds.end) = subst (QuotedIs _ _ _) c.in-Holds.is c.read_value.ensures in
+    let value : let s = text_at in QuotedIs s c.span_end-name_end.result (assigned (drop c.span_end-name_end.result s)) (Holds c.in-Holds.start c.in-Holds.end) =
+        subst (QuotedIs _ _ _) c.in-Holds.is c.read_value.ensures in
     let far : c.loop-at.at ≤ c.in-Holds.end = omega (arith, value.places, c.span_end-name_end.ensures.onward, c.skip_white-name.ensures.low) in
     let q = value in let i = c.loop-at.invariant in
     let named = attribute-at _ _ _ _ c.skip_white-name.ensures c.span_end-name_end.ensures c.if-name_end-name.false _ _ q in (

@@ -27,13 +27,15 @@ loop-i-init c = (zero-le, lit< tt, refl)
 pub returns-then-c-lt48 : goal.returns-then-c-lt48
 returns-then-c-lt48 c =
     let text_at : List ℕ = c.args.t.now in
-    let whole : length_of text_at ≡ capped (numeral digit 10 c.loop-i.n (drop c.loop-i.i text_at)) = length-numeral text_at (omega arith) c.if-t-gt4.false c.if-t-eq48.false ∙ ap capped c.loop-i.invariant.2 in
+    let whole : length_of text_at ≡ capped (numeral digit 10 c.loop-i.n (drop c.loop-i.i text_at)) =
+        length-numeral text_at (omega arith) c.if-t-gt4.false c.if-t-eq48.false ∙ ap capped c.loop-i.invariant.2 in
     whole ∙ capped-no _ Unwritten (numeral-no _ _ _ c.loop-i-test.true (λ h k. omega arith))
 
 pub returns-then-c-gt57 : goal.returns-then-c-gt57
 returns-then-c-gt57 c =
     let text_at : List ℕ = c.args.t.now in
-    let whole : length_of text_at ≡ capped (numeral digit 10 c.loop-i.n (drop c.loop-i.i text_at)) = length-numeral text_at (omega arith) c.if-t-gt4.false c.if-t-eq48.false ∙ ap capped c.loop-i.invariant.2 in
+    let whole : length_of text_at ≡ capped (numeral digit 10 c.loop-i.n (drop c.loop-i.i text_at)) =
+        length-numeral text_at (omega arith) c.if-t-gt4.false c.if-t-eq48.false ∙ ap capped c.loop-i.invariant.2 in
     whole ∙ capped-no _ Unwritten (numeral-no _ _ _ c.loop-i-test.true (λ h k. omega arith))
 
 pub overflow_mul-n : goal.overflow_mul-n
@@ -61,11 +63,13 @@ loop-i-preserved c =
 pub returns-then-n-le-MOST_ELEMENTS : goal.returns-then-n-le-MOST_ELEMENTS
 returns-then-n-le-MOST_ELEMENTS c =
     let text_at : List ℕ = c.args.t.now in
-    let whole : length_of text_at ≡ capped (numeral digit 10 c.loop-i.n (drop c.loop-i.i text_at)) = length-numeral text_at (omega arith) c.if-t-gt4.false c.if-t-eq48.false ∙ ap capped c.loop-i.invariant.2 in
+    let whole : length_of text_at ≡ capped (numeral digit 10 c.loop-i.n (drop c.loop-i.i text_at)) =
+        length-numeral text_at (omega arith) c.if-t-gt4.false c.if-t-eq48.false ∙ ap capped c.loop-i.invariant.2 in
     whole ∙ capped-yes _ _ (numeral-end _ _ _ c.loop-i-test.false) c.if-n-le-MOST_ELEMENTS.true
 
 pub returns : goal.returns
 returns c =
     let text_at : List ℕ = c.args.t.now in
-    let whole : length_of text_at ≡ capped (numeral digit 10 c.loop-i.n (drop c.loop-i.i text_at)) = length-numeral text_at (omega arith) c.if-t-gt4.false c.if-t-eq48.false ∙ ap capped c.loop-i.invariant.2 in
+    let whole : length_of text_at ≡ capped (numeral digit 10 c.loop-i.n (drop c.loop-i.i text_at)) =
+        length-numeral text_at (omega arith) c.if-t-gt4.false c.if-t-eq48.false ∙ ap capped c.loop-i.invariant.2 in
     whole ∙ capped-more _ _ (numeral-end _ _ _ c.loop-i-test.false) c.if-n-le-MOST_ELEMENTS.false

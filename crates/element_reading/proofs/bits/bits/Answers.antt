@@ -37,17 +37,20 @@ returns-in-End c =
 
 pub loop-next-smaller-then-is_white : goal.loop-next-smaller-then-is_white
 loop-next-smaller-then-is_white c =
-    let item : let s = c.args.s.now in let source = c.args.source in let i = c.loop-next.i in ItemIs source (characters_of source (drop i s)) s i (Code c.in-Code.c c.in-Code.next) = subst (ItemIs _ _ _ _) c.in-Code.is c.character_at.ensures in
+    let item : let s = c.args.s.now in let source = c.args.source in let i = c.loop-next.i in
+        ItemIs source (characters_of source (drop i s)) s i (Code c.in-Code.c c.in-Code.next) = subst (ItemIs _ _ _ _) c.in-Code.is c.character_at.ensures in
     let t = item in omega (arith, t.within.0, t.within.1)
 
 pub loop-next-preserved-then-is_white : goal.loop-next-preserved-then-is_white
 loop-next-preserved-then-is_white c =
-    let item : let s = c.args.s.now in let source = c.args.source in let i = c.loop-next.i in ItemIs source (characters_of source (drop i s)) s i (Code c.in-Code.c c.in-Code.next) = subst (ItemIs _ _ _ _) c.in-Code.is c.character_at.ensures in
+    let item : let s = c.args.s.now in let source = c.args.source in let i = c.loop-next.i in
+        ItemIs source (characters_of source (drop i s)) s i (Code c.in-Code.c c.in-Code.next) = subst (ItemIs _ _ _ _) c.in-Code.is c.character_at.ensures in
     bits-passed c.loop-next.invariant item (sym c.is_white.ensures ∙ c.if-is_white.true)
 
 pub spoiled-requires : goal.spoiled-requires
 spoiled-requires c =
-    let item : let s = c.args.s.now in let source = c.args.source in let i = c.loop-next.i in ItemIs source (characters_of source (drop i s)) s i (Code c.in-Code.c c.in-Code.next) = subst (ItemIs _ _ _ _) c.in-Code.is c.character_at.ensures in
+    let item : let s = c.args.s.now in let source = c.args.source in let i = c.loop-next.i in
+        ItemIs source (characters_of source (drop i s)) s i (Code c.in-Code.c c.in-Code.next) = subst (ItemIs _ _ _ _) c.in-Code.is c.character_at.ensures in
     item.within.1
 
 pub shape_of-scratch-then-x-eq2 : goal.shape_of-scratch-then-x-eq2
@@ -55,22 +58,26 @@ shape_of-scratch-then-x-eq2 c = c.loop-next.invariant.long
 
 pub returns-then-x-eq2 : goal.returns-then-x-eq2
 returns-then-x-eq2 c =
-    let item : let s = c.args.s.now in let source = c.args.source in let i = c.loop-next.i in ItemIs source (characters_of source (drop i s)) s i (Code c.in-Code.c c.in-Code.next) = subst (ItemIs _ _ _ _) c.in-Code.is c.character_at.ensures in
+    let item : let s = c.args.s.now in let source = c.args.source in let i = c.loop-next.i in
+        ItemIs source (characters_of source (drop i s)) s i (Code c.in-Code.c c.in-Code.next) = subst (ItemIs _ _ _ _) c.in-Code.is c.character_at.ensures in
     let not_white = sym c.is_white.ensures ∙ c.if-is_white.false in
     bits-spoilt c.loop-next.invariant item not_white c.bit_of-x.ensures c.if-x-eq2.true c.spoiled.ensures
 
 pub overflow_add-count : goal.overflow_add-count
 overflow_add-count c =
-    let item : let s = c.args.s.now in let source = c.args.source in let i = c.loop-next.i in ItemIs source (characters_of source (drop i s)) s i (Code c.in-Code.c c.in-Code.next) = subst (ItemIs _ _ _ _) c.in-Code.is c.character_at.ensures in
+    let item : let s = c.args.s.now in let source = c.args.source in let i = c.loop-next.i in
+        ItemIs source (characters_of source (drop i s)) s i (Code c.in-Code.c c.in-Code.next) = subst (ItemIs _ _ _ _) c.in-Code.is c.character_at.ensures in
     let t = item in omega (arith, t.within.0, t.within.1, c.loop-next.invariant.few)
 
 pub loop-next-smaller : goal.loop-next-smaller
 loop-next-smaller c =
-    let item : let s = c.args.s.now in let source = c.args.source in let i = c.loop-next.i in ItemIs source (characters_of source (drop i s)) s i (Code c.in-Code.c c.in-Code.next) = subst (ItemIs _ _ _ _) c.in-Code.is c.character_at.ensures in
+    let item : let s = c.args.s.now in let source = c.args.source in let i = c.loop-next.i in
+        ItemIs source (characters_of source (drop i s)) s i (Code c.in-Code.c c.in-Code.next) = subst (ItemIs _ _ _ _) c.in-Code.is c.character_at.ensures in
     let t = item in omega (arith, t.within.0, t.within.1)
 
 pub loop-next-preserved : goal.loop-next-preserved
 loop-next-preserved c =
-    let item : let s = c.args.s.now in let source = c.args.source in let i = c.loop-next.i in ItemIs source (characters_of source (drop i s)) s i (Code c.in-Code.c c.in-Code.next) = subst (ItemIs _ _ _ _) c.in-Code.is c.character_at.ensures in
+    let item : let s = c.args.s.now in let source = c.args.source in let i = c.loop-next.i in
+        ItemIs source (characters_of source (drop i s)) s i (Code c.in-Code.c c.in-Code.next) = subst (ItemIs _ _ _ _) c.in-Code.is c.character_at.ensures in
     let stored = to_z-of_z {w = w64} (record { sfits = c.as_element.type_inv }) ∙ c.as_element.ensures in
     bits-read c.loop-next.invariant item c.bit_of-x.ensures c.if-x-eq2.false c.put.ensures stored

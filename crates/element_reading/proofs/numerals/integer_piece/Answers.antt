@@ -28,16 +28,19 @@ returns-in-End c =
 
 pub returns-then-is_white : goal.returns-then-is_white
 returns-then-is_white c =
-    let item : let s = c.args.s.now in let source = c.args.source in let i = c.loop-next.i in ItemIs source (characters_of source (drop i s)) s i (Code c.in-Code.c c.in-Code.next) = subst (ItemIs _ _ _ _) c.in-Code.is c.character_at.ensures in
+    let item : let s = c.args.s.now in let source = c.args.source in let i = c.loop-next.i in
+        ItemIs source (characters_of source (drop i s)) s i (Code c.in-Code.c c.in-Code.next) = subst (ItemIs _ _ _ _) c.in-Code.is c.character_at.ensures in
     record { found = word-cuts c.loop-next.invariant item (sym c.is_white.ensures ∙ c.if-is_white.true) }
 
 pub loop-next-smaller : goal.loop-next-smaller
 loop-next-smaller c =
-    let item : let s = c.args.s.now in let source = c.args.source in let i = c.loop-next.i in ItemIs source (characters_of source (drop i s)) s i (Code c.in-Code.c c.in-Code.next) = subst (ItemIs _ _ _ _) c.in-Code.is c.character_at.ensures in
+    let item : let s = c.args.s.now in let source = c.args.source in let i = c.loop-next.i in
+        ItemIs source (characters_of source (drop i s)) s i (Code c.in-Code.c c.in-Code.next) = subst (ItemIs _ _ _ _) c.in-Code.is c.character_at.ensures in
     let t = item in omega (arith, t.within.0, t.within.1)
 
 pub loop-next-preserved : goal.loop-next-preserved
 loop-next-preserved c =
-    let item : let s = c.args.s.now in let source = c.args.source in let i = c.loop-next.i in ItemIs source (characters_of source (drop i s)) s i (Code c.in-Code.c c.in-Code.next) = subst (ItemIs _ _ _ _) c.in-Code.is c.character_at.ensures in
+    let item : let s = c.args.s.now in let source = c.args.source in let i = c.loop-next.i in
+        ItemIs source (characters_of source (drop i s)) s i (Code c.in-Code.c c.in-Code.next) = subst (ItemIs _ _ _ _) c.in-Code.is c.character_at.ensures in
     let p = c.loop-next.invariant in
     word_more p item (sym c.is_white.ensures ∙ c.if-is_white.false) (c.next-word.ensures ∙ fed-letter _ p.w _ _ p.stands c.letter_of.ensures)

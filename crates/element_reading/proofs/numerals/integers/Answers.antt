@@ -66,7 +66,8 @@ shape_of-scratch-in-Last-integer_piece c =
 
 pub returns-in-Last-integer_piece : goal.returns-in-Last-integer_piece
 returns-in-Last-integer_piece c =
-    let last : LastAt (λ w. c.in-Last-integer_piece.word ≡ feed fresh w) c.args.source c.args.s.now c.loop-z.i c.in-Last-integer_piece.next = (subst (NumeralIs _ _ _) c.in-Last-integer_piece.is c.integer_piece.ensures).found in
+    let last : LastAt (λ w. c.in-Last-integer_piece.word ≡ feed fresh w) c.args.source c.args.s.now c.loop-z.i c.in-Last-integer_piece.next =
+        (subst (NumeralIs _ _ _) c.in-Last-integer_piece.is c.integer_piece.ensures).found in
     word-last _ (integers-are c.args.kind) c.loop-z.invariant c.add_integer.ensures last c.with_last.ensures
 
 pub add_integer-added-requires : goal.add_integer-added-requires
@@ -74,10 +75,12 @@ add_integer-added-requires c = let r = c.loop-z.invariant in omega (arith, r.few
 
 pub loop-z-smaller : goal.loop-z-smaller
 loop-z-smaller c =
-    let cut : CutAt (λ w. c.in-Cut-integer_piece.word ≡ feed fresh w) c.args.source c.args.s.now c.loop-z.i c.in-Cut-integer_piece.next = (subst (NumeralIs _ _ _) c.in-Cut-integer_piece.is c.integer_piece.ensures).found in
+    let cut : CutAt (λ w. c.in-Cut-integer_piece.word ≡ feed fresh w) c.args.source c.args.s.now c.loop-z.i c.in-Cut-integer_piece.next =
+        (subst (NumeralIs _ _ _) c.in-Cut-integer_piece.is c.integer_piece.ensures).found in
     let u = cut in omega (arith, u.low, u.high)
 
 pub loop-z-preserved : goal.loop-z-preserved
 loop-z-preserved c =
-    let cut : CutAt (λ w. c.in-Cut-integer_piece.word ≡ feed fresh w) c.args.source c.args.s.now c.loop-z.i c.in-Cut-integer_piece.next = (subst (NumeralIs _ _ _) c.in-Cut-integer_piece.is c.integer_piece.ensures).found in
+    let cut : CutAt (λ w. c.in-Cut-integer_piece.word ≡ feed fresh w) c.args.source c.args.s.now c.loop-z.i c.in-Cut-integer_piece.next =
+        (subst (NumeralIs _ _ _) c.in-Cut-integer_piece.is c.integer_piece.ensures).found in
     word_cut _ (integers-are c.args.kind) c.loop-z.invariant c.add_integer-added.ensures cut c.first_bad-number.ensures
