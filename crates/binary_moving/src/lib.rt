@@ -15,7 +15,7 @@ ghost use Rattle.table.specs.declared.Rows.TheVariants.{Binary, Binary2, TableDa
 
 use binary_reading::{Count, read_count};
 use cell_putting::{
-    Scalar, count_size, fill_up, is_text, put_close, put_null, put_open, scalar_of,
+    Scalar, count_size, fill_up, is_text, put_close, put_null, put_open, put_truth, scalar_of,
 };
 use content_passing::{binary_integer, binary_truth, pass_content};
 use content_showing::show_content;
@@ -113,7 +113,6 @@ fn move_integer(
     Moved::Careful
 }
 
-// A boolean that is unknown, which stands for null: true and false are moved by their column's step, or are for the careful way.
 fn move_truth(to: Rows, column: Column, s: &[u8], at: usize, row: &mut [u8], o: usize) -> Moved
     requires { (bound column.len ≤ most_elements) × (at + 1 ≤ length s.now) × (o + most_room ≤ length row.old) }
     ensures { (from : Kinds) → is_scalar column ≡ true → shape column.kind ≡ Truths → MovesRead (InBinary (shape column.kind) 1 s.now at) from to column row.old o row.new result }
@@ -124,7 +123,8 @@ fn move_truth(to: Rows, column: Column, s: &[u8], at: usize, row: &mut [u8], o: 
     if same_integer(z, 2) {
         return put_null(to, column, next, row, o);
     }
-    Moved::Careful
+    let e = put_truth(to, z, row, o);
+    Moved::Cell(next, e, false)
 }
 
 // ---- a cell

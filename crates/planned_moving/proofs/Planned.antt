@@ -1,11 +1,11 @@
--- What a step says of its column, and that a cell moved as its step says is moved as its column wants: a step that wants bytes, a boolean or an integer
--- is of a fixed column, whose cells have no count; bytes that go as they stand are the bytes that their elements are written as.
-use Prim.Native.Nat.{◌%◌, ◌+◌, ◌≤◌, ℕ}
+-- What a step says of its column, and that a cell moved as its step says is moved as its column wants: a step that wants something is of a fixed
+-- column, whose cells have no count; bytes that go as they stand are the bytes that their elements are written as.
+use Prim.Native.Nat.{◌%◌, ◌*◌, ◌+◌, ◌≤◌, ℕ}
 use native.Mathlib.Nat.{le_refl}
 use native.Mathlib.Omega.{arith}
 use mathlib.Core.Bool.{Bool, ◌||◌, cond, false, false≢true, true}
-use mathlib.Core.List.{List, append-nil}
-use mathlib.Core.Path.{◌∙◌, ◌≡◌, ap, refl, sym}
+use mathlib.Core.List.{List, [], ◌++◌, append-nil}
+use mathlib.Core.Path.{◌∙◌, ◌≡◌, ap, refl, subst, sym}
 use borrow.Author.Tests.{eqb-true, ne_eqb}
 use lib.Dec.{eqb}
 use lib.IntN.{ℤ}
@@ -28,19 +28,20 @@ use Rattle.moving.specs.declared.Moved.{Moved}
 use Rattle.number.specs.Clauses.{is_signed, width_of}
 use Rattle.number.specs.declared.Integer.{Integer}
 use Rattle.planned_moving.specs.Clauses.{PassesBytes}
-use Rattle.planning.specs.Plan.{counted_step, one_integer, step_for, step_of, want_of}
-use Rattle.planning.specs.declared.Step.{Step}
+use Rattle.planning.specs.Plan.{one_integer, step_for, step_of, want_of}
 use Rattle.planning.specs.declared.Want.{Want}
 use Rattle.rows.specs.Stream.{write_cell}
 use Rattle.table.specs.All.{AreBytes}
-use Rattle.table.specs.Cell.{is_char, most_elements, shown}
+use Rattle.table.specs.Cell.{bound, is_char, is_scalar, shown}
 use Rattle.table.specs.Result.{good}
 use Rattle.table.specs.Shape.{Bits, Shape, Text, Truths, W1, W2, W4, W8, Whole, Width, shape}
 use Rattle.table.specs.declared.Column.{Column}
 use Rattle.table.specs.declared.Kind.{Kind}
 use Rattle.table.specs.declared.Len.{Len}
 use Rattle.table.specs.declared.Len.TheVariants.{Bounded, Fixed, Free}
+use Rattle.table.specs.declared.Null.{Null}
 use Rattle.table.specs.declared.Rows.{Rows}
+use Rattle.table.specs.declared.Rows.TheVariants.{Binary, Binary2, TableData}
 
 -- ---- tests
 
@@ -50,57 +51,22 @@ neither true b h = absurd (false≢true (sym h))
 
 -- ---- wants that are told apart
 
-abbrev wants_bytes : Want → Bool
+abbrev pub wants_bytes : Want → Bool
 wants_bytes Want.Other = false
 wants_bytes Want.Bytes = true
-wants_bytes Want.Bits = false
-wants_bytes Want.Truth = false
 wants_bytes (Want.Integer integer) = false
 
-abbrev pub wants_bits : Want → Bool
-wants_bits Want.Other = false
-wants_bits Want.Bytes = false
-wants_bits Want.Bits = true
-wants_bits Want.Truth = false
-wants_bits (Want.Integer integer) = false
-
-abbrev wants_integer : Want → Bool
+abbrev pub wants_integer : Want → Bool
 wants_integer Want.Other = false
 wants_integer Want.Bytes = false
-wants_integer Want.Bits = false
-wants_integer Want.Truth = false
 wants_integer (Want.Integer integer) = true
-
-abbrev wants_truth : Want → Bool
-wants_truth Want.Other = false
-wants_truth Want.Bytes = false
-wants_truth Want.Bits = false
-wants_truth Want.Truth = true
-wants_truth (Want.Integer integer) = false
 
 abbrev integer_in : Want → Integer
 integer_in Want.Other = Integer.Long
 integer_in Want.Bytes = Integer.Long
-integer_in Want.Bits = Integer.Long
-integer_in Want.Truth = Integer.Long
 integer_in (Want.Integer integer) = integer
 
--- ---- a step that wants bytes, a boolean or an integer is of a fixed column
-
--- what cells with no count want
-abbrev pub wants_fixed : Want → Bool
-wants_fixed Want.Other = false
-wants_fixed Want.Bytes = true
-wants_fixed Want.Bits = false
-wants_fixed Want.Truth = true
-wants_fixed (Want.Integer integer) = true
-
-counted-not-fixed : (k : Shape) (n : ℕ) → wants_fixed (counted_step k n).want ≡ false
-unfolding counted_step
-counted-not-fixed Truths n = refl
-counted-not-fixed Bits n = refl
-counted-not-fixed Text n = refl
-counted-not-fixed (Whole g v) n = refl
+-- ---- a step that wants something is of a fixed column
 
 pub record OfFixed (c : Column) : Type 0 where
   pub n : ℕ
@@ -109,27 +75,19 @@ pub record OfFixed (c : Column) : Type 0 where
   pub bytes-is : (step_of c).bytes ≡ content_bytes (shape c.kind) n
   pub null_is : (step_of c).null ≡ c.null
 
-pub of-fixed : (c : Column) → wants_fixed (step_of c).want ≡ true → OfFixed c
+pub of-fixed : (c : Column) (w : Want) → (step_of c).want ≡ w → (Want.Other ≡ w → ⊥) → OfFixed c
 unfolding step_for
-of-fixed c w = go c.len refl
+of-fixed c w e other = go c.len refl
   where
-    counted : (n : ℕ) → step_of c ≡ counted_step (shape c.kind) n → OfFixed c
-    counted n q = absurd (false≢true (sym (ap (λ (x : Step). wants_fixed x.want) q ∙ counted-not-fixed (shape c.kind) n) ∙ w))
-
     go : (len : Len) → c.len ≡ len → OfFixed c
     go (Fixed n) q = record { n = n; len_is = q; want_is = rw q; bytes-is = rw q; null_is = rw q }
-    go (Bounded n) q = counted n (rw q)
-    go Free q = counted most_elements (rw q)
+    go (Bounded n) q = absurd (other (sym (ap (λ (l : Len). (step_for c.kind l c.null).want) q) ∙ e))
+    go Free q = absurd (other (sym (ap (λ (l : Len). (step_for c.kind l c.null).want) q) ∙ e))
 
 -- one integer: a scalar of that kind
 one_of : (b : Bool) (j integer : Integer) → cond b (Want.Integer j) Want.Bytes ≡ Want.Integer integer → (b ≡ true) × (j ≡ integer)
 one_of true j integer h = (refl, ap integer_in h)
 one_of false j integer h = absurd (false≢true (ap wants_integer h))
-
--- one boolean, or none, is no integer and no bytes
-truth-want : (b : Bool) → (wants_integer (cond b Want.Truth Want.Other) ≡ false) × (wants_bytes (cond b Want.Truth Want.Other) ≡ false)
-truth-want true = (refl, refl)
-truth-want false = (refl, refl)
 
 bits-want : (b : Bool) (integer : Integer) → cond b Want.Bytes Want.Other ≡ Want.Integer integer → ⊥
 bits-want true integer h = false≢true (ap wants_integer h)
@@ -137,36 +95,13 @@ bits-want false integer h = false≢true (ap wants_integer h)
 
 pub integer-wanted : (kind : Kind) (n : ℕ) (integer : Integer) → want_of (shape kind) n ≡ Want.Integer integer → (n ≡ 1) × (shape kind ≡ Whole (is_signed integer) (width_of integer))
 unfolding want_of
-integer-wanted Kind.Boolean n integer h = absurd (false≢true (sym (truth-want (eqb n 1)).0 ∙ ap wants_integer h))
+integer-wanted Kind.Boolean n integer h = absurd (false≢true (ap wants_integer h))
 integer-wanted Kind.Bit n integer h = absurd (bits-want (eqb (n % 8) 0) integer h)
 integer-wanted Kind.Char n integer h = absurd (false≢true (ap wants_integer h))
 integer-wanted Kind.UnsignedByte n integer h = let o = one_of (eqb n 1) Integer.UnsignedByte integer h in (eqb-true n 1 o.0, ap (λ (j : Integer). Whole (is_signed j) (width_of j)) o.1)
 integer-wanted Kind.Short n integer h = let o = one_of (eqb n 1) Integer.Short integer h in (eqb-true n 1 o.0, ap (λ (j : Integer). Whole (is_signed j) (width_of j)) o.1)
 integer-wanted Kind.Int n integer h = let o = one_of (eqb n 1) Integer.Int integer h in (eqb-true n 1 o.0, ap (λ (j : Integer). Whole (is_signed j) (width_of j)) o.1)
 integer-wanted Kind.Long n integer h = let o = one_of (eqb n 1) Integer.Long integer h in (eqb-true n 1 o.0, ap (λ (j : Integer). Whole (is_signed j) (width_of j)) o.1)
-
--- one boolean: a scalar of that kind
-truth-one : (b : Bool) → wants_truth (cond b Want.Truth Want.Other) ≡ true → b ≡ true
-truth-one true h = refl
-truth-one false h = absurd (false≢true h)
-
-bits-no-truth : (b : Bool) → wants_truth (cond b Want.Bytes Want.Other) ≡ false
-bits-no-truth true = refl
-bits-no-truth false = refl
-
-whole-no-truth : (v : Width) (b : Bool) → wants_truth (cond b (one_integer v) Want.Bytes) ≡ false
-whole-no-truth v false = refl
-whole-no-truth W1 true = refl
-whole-no-truth W2 true = refl
-whole-no-truth W4 true = refl
-whole-no-truth W8 true = refl
-
-pub truth-wanted : (k : Shape) (n : ℕ) → want_of k n ≡ Want.Truth → (n ≡ 1) × (k ≡ Truths)
-unfolding want_of
-truth-wanted Truths n h = (eqb-true n 1 (truth-one (eqb n 1) (ap wants_truth h)), refl)
-truth-wanted Bits n h = absurd (false≢true (sym (bits-no-truth (eqb (n % 8) 0)) ∙ ap wants_truth h))
-truth-wanted Text n h = absurd (false≢true (ap wants_truth h))
-truth-wanted (Whole g v) n h = absurd (false≢true (sym (whole-no-truth v (eqb n 1)) ∙ ap wants_truth h))
 
 -- ---- bytes as they stand
 
@@ -198,7 +133,7 @@ unfolding want_of content_bytes bit_bytes
 passing c n m s old at o new e q w size a h u = go (shape c.kind) refl w size
   where
     go : (k : Shape) → shape c.kind ≡ k → want_of k n ≡ Want.Bytes → m ≡ content_bytes k n → Passing c n m s old at o new e
-    go Truths k w size = absurd (false≢true (sym (truth-want (eqb n 1)).1 ∙ ap wants_bytes w))
+    go Truths k w size = absurd (false≢true (ap wants_bytes w))
     go Text k w size = absurd (false≢true (ap wants_bytes w))
     go Bits k w size =
         let full : n % 8 ≡ 0 = eqb-true (n % 8) 0 (all-bits (eqb (n % 8) 0) w) in
@@ -214,7 +149,7 @@ passing c n m s old at o new e q w size a h u = go (shape c.kind) refl w size
       moved = rw k (wholes.whole-moved g v n m s old new at o e a size h u);
     }
 
-pub no-text-writes : (to : Rows) (c : Column) (es : List ℤ) → is_text to ≡ false → 1 ≤ length es → write_cell to c (shown es) ≡ good (elements_bytes c es)
+no-text-writes : (to : Rows) (c : Column) (es : List ℤ) → is_text to ≡ false → 1 ≤ length es → write_cell to c (shown es) ≡ good (elements_bytes c es)
 no-text-writes to c es t k = no_text (λ (rows : Rows). write_cell rows c (shown es) ≡ good (elements_bytes c es)) to t (binary-writes c es k) (binary2-writes c es)
 
 pub bytes-moved : (from to : Rows) (c : Column) (n m : ℕ) (s old : List ℕ) (at o : ℕ) (new : List ℕ) (e : ℕ) → is_text to ≡ false → c.len ≡ Fixed n → 1 ≤ n → want_of (shape c.kind) n ≡ Want.Bytes
@@ -229,10 +164,10 @@ bytes-moved from to c n m s old at o new e t q some w size a h u =
 
 -- ---- a cell with no count, and no flag
 
-pub not-text : (from : Rows) → is_text from ≡ false → NotText from
+not-text : (from : Rows) → is_text from ≡ false → NotText from
 not-text from h = no_text NotText from h tt tt
 
-pub unskipped : (from : Rows) (n : ℕ) → 1 ≤ n → is_text from ≡ false → skipped from false n ≡ false
+unskipped : (from : Rows) (n : ℕ) → 1 ≤ n → is_text from ≡ false → skipped from false n ≡ false
 unfolding skipped
 unskipped from n k h = no_text (λ (rows : Rows). skipped rows false n ≡ false) from h (ne_eqb n 0 (λ z. omega arith)) refl
 

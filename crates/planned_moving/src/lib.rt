@@ -6,21 +6,20 @@ ghost use Rattle.cell_putting.specs.Clauses.{is_text, most_room};
 ghost use Rattle.moving.specs.Cells.{MovesCell, MovesRead};
 ghost use Rattle.moving.specs.Contents.{InBinary};
 ghost use Rattle.number.specs.Clauses.{is_signed, size, width_of};
-ghost use Rattle.planned_moving.specs.Clauses.{PassesBits, PassesBytes};
+ghost use Rattle.planned_moving.specs.Clauses.{PassesBytes};
 ghost use Rattle.planning.specs.Plan.{most_bytes, step_of};
 ghost use Rattle.rows.specs.Bounds.{Bounded};
 ghost use Rattle.table.specs.Cell.{is_scalar};
-ghost use Rattle.table.specs.Shape.{Truths, Whole, shape};
+ghost use Rattle.table.specs.Shape.{Whole, shape};
 ghost use Rattle.table.specs.declared.Column.{Column as Declared};
 ghost use Rattle.table.specs.declared.Rows.{Rows as Kinds};
 
-use cell_putting::{is_text, put_integer, put_truth};
-use content_passing::{binary_integer, binary_truth, copy};
-use integers::four_bytes;
+use cell_putting::{is_text, put_integer};
+use content_passing::{binary_integer, copy};
 use moving::{Moved, One};
 use number::Integer;
 use planning::{Step, Want};
-use table::{Null, Rows, is_declared, same_integer};
+use table::{Null, Rows, is_declared};
 
 // One integer, by its value; not where that stands for null.
 fn move_integer(
@@ -45,50 +44,12 @@ fn move_integer(
     Moved::Cell(next, e, false)
 }
 
-// One boolean, by its value; not where it is unknown, which stands for null.
-fn move_truth(to: Rows, s: &[u8], at: usize, row: &mut [u8], o: usize) -> Moved
-    requires { (at + 1 ≤ length s.now) × (o + most_room ≤ length row.old) }
-    ensures { (from : Kinds) (c : Declared) → is_scalar c ≡ true → shape c.kind ≡ Truths → MovesRead (InBinary (shape c.kind) 1 s.now at) from to c row.old o row.new result }
-{
-    let One::Element(z, next) = binary_truth(s, at) else {
-        return Moved::Careful;
-    };
-    if same_integer(z, 2) {
-        return Moved::Careful;
-    }
-    let e = put_truth(to, z, row, o);
-    Moved::Cell(next, e, false)
-}
-
 // Bytes as they stand; not to text.
 fn move_bytes(to: Rows, bytes: usize, s: &[u8], at: usize, row: &mut [u8], o: usize) -> Moved
     requires { (at + bytes + 8 ≤ length s.now) × (o + bytes + 8 ≤ length row.old) }
     ensures { PassesBytes to bytes s.now at row.old o row.new result }
 {
     if is_text(to) {
-        return Moved::Careful;
-    }
-    let e = copy(s, at, bytes, row, o);
-    Moved::Cell(at + bytes, e, false)
-}
-
-// A count and its bits, where they fill their bytes and are at most so many bytes; not to text.
-fn move_bits(to: Rows, most: usize, s: &[u8], at: usize, row: &mut [u8], o: usize) -> Moved
-    requires { (at + most + 8 ≤ length s.now) × (o + most + 8 ≤ length row.old) }
-    ensures { PassesBits to most s.now at row.old o row.new result }
-{
-    if is_text(to) {
-        return Moved::Careful;
-    }
-    let n = four_bytes(s, at) as usize;
-    if n == 0 {
-        return Moved::Careful;
-    }
-    if n % 8 != 0 {
-        return Moved::Careful;
-    }
-    let bytes = 4 + n / 8;
-    if most < bytes {
         return Moved::Careful;
     }
     let e = copy(s, at, bytes, row, o);
@@ -106,8 +67,6 @@ fn move_wanted(to: Rows, step: Step, s: &[u8], at: usize, row: &mut [u8], o: usi
     match want {
         Want::Other => Moved::Careful,
         Want::Bytes => move_bytes(to, bytes, s, at, row, o),
-        Want::Bits => move_bits(to, bytes, s, at, row, o),
-        Want::Truth => move_truth(to, s, at, row, o),
         Want::Integer(integer) => move_integer(to, integer, null, s, at, row, o),
     }
 }

@@ -1,6 +1,6 @@
 -- A plan's steps: what a column of so many elements wants, by what its elements are; and the steps of a list, one by one. Cited by want_of, plan_of
 -- and by whoever moves cells by a plan.
-use Prim.Native.Nat.{◌-◌, ◌<◌, ◌≤◌, suc, zero, ℕ}
+use Prim.Native.Nat.{◌+◌, ◌-◌, ◌<◌, ◌≤◌, suc, zero, ℕ}
 use native.Mathlib.Nat.{le_refl}
 use native.Mathlib.Omega.{arith}
 use mathlib.Core.List.{List, [], ◌++◌, ◌∷◌, map}
@@ -12,7 +12,7 @@ use Rattle.binary.specs.Binary.{bit_bytes, content_bytes}
 use Rattle.number.specs.Clauses.{shape_as, width_of}
 use Rattle.number.specs.declared.Elements.{Elements}
 use Rattle.number.specs.declared.Integer.{Integer}
-use Rattle.planning.specs.Plan.{counted_step, most_bytes, no_step, one_integer, plan_of, step_for, step_of, want_of}
+use Rattle.planning.specs.Plan.{most_bytes, no_step, one_integer, plan_of, step_for, step_of, want_of}
 use Rattle.planning.specs.declared.Plan.{Plan}
 use Rattle.planning.specs.declared.Step.{Step}
 use Rattle.planning.specs.declared.Want.{Want}
@@ -22,7 +22,7 @@ use Rattle.table.proofs.Laws.{all_drop}
 use Rattle.table.specs.All.{All}
 use Rattle.table.specs.Cell.{bound, most_elements}
 use Rattle.table.specs.ColumnList.{listed, no_column}
-use Rattle.table.specs.Shape.{Bits, Shape, Text, Truths, Whole, shape}
+use Rattle.table.specs.Shape.{shape}
 use Rattle.table.specs.declared.Column.{Column}
 use Rattle.table.specs.declared.Columns.{Columns}
 use Rattle.table.specs.declared.Kind.{Kind}
@@ -38,9 +38,6 @@ one-integer Integer.Long = refl
 
 pub want-by : (e r : Elements) (kind : Kind) (n : ℕ) → r ≡ e → shape_as r ≡ shape kind → want_of (shape_as e) n ≡ want_of (shape kind) n
 want-by e r kind n g q = ap (λ k. want_of k n) (sym (ap shape_as g) ∙ q)
-
-pub counted-by : (e r : Elements) (kind : Kind) (n : ℕ) → r ≡ e → shape_as r ≡ shape kind → counted_step (shape_as e) n ≡ counted_step (shape kind) n
-counted-by e r kind n g q = ap (λ k. counted_step k n) (sym (ap shape_as g) ∙ q)
 
 -- ---- the columns that are declared, each within its bounds
 
@@ -97,18 +94,11 @@ content-most Kind.Int n h = omega arith
 content-most Kind.Long n h = omega arith
 content-most Kind.Char n h = omega arith
 
-counted-most : (k : Shape) (n : ℕ) → n ≤ most_elements → (counted_step k n).bytes ≤ most_bytes
-unfolding counted_step
-counted-most Truths n h = lit≤ tt
-counted-most Bits n h = omega arith
-counted-most Text n h = lit≤ tt
-counted-most (Whole g v) n h = lit≤ tt
-
 pub step-most : (c : Column) → bound c.len ≤ most_elements → (step_of c).bytes ≤ most_bytes
 unfolding step_for
 step-most c h = most c.len h
   where
     most : (len : Len) → bound len ≤ most_elements → (step_for c.kind len c.null).bytes ≤ most_bytes
     most (Len.Fixed n) h = content-most c.kind n h
-    most (Len.Bounded n) h = counted-most (shape c.kind) n h
-    most Len.Free h = counted-most (shape c.kind) most_elements h
+    most (Len.Bounded n) h = lit≤ tt
+    most Len.Free h = lit≤ tt

@@ -1,11 +1,10 @@
 -- A plan: "what the cells of each column want", for those that are moved by it from BINARY or BINARY2.
-use Rattle.std.specs.Prelude.{◌%◌, ◌+◌, ◌-◌, ◌/◌, ℕ, cond, List, ◌++◌, map, eqb, length, replicate}
+use Rattle.std.specs.Prelude.{◌%◌, ◌-◌, ℕ, cond, List, ◌++◌, map, eqb, length, replicate}
 use Rattle.binary.specs.Binary.{content_bytes}
 use Rattle.number.specs.declared.Integer.{Integer}
 use Rattle.planning.specs.declared.Plan.{Plan}
 use Rattle.planning.specs.declared.Step.{Step}
 use Rattle.planning.specs.declared.Want.{Want}
-use Rattle.table.specs.Cell.{most_elements}
 use Rattle.table.specs.Shape.{Bits, Shape, Text, Truths, W1, W2, W4, W8, Whole, Width, shape}
 use Rattle.table.specs.declared.Column.{Column}
 use Rattle.table.specs.declared.Kind.{Kind}
@@ -19,10 +18,9 @@ one_integer W2 = Want.Integer Integer.Short
 one_integer W4 = Want.Integer Integer.Int
 one_integer W8 = Want.Integer Integer.Long
 
--- n elements, and no more nor fewer: a scalar integer or boolean may stand for null, integers in a row never do; bits that fill their bytes have
--- no padding
+-- n elements, and no more nor fewer: a scalar integer may stand for null, integers in a row never do; bits that fill their bytes have no padding
 unfoldable pub want_of : Shape → ℕ → Want
-want_of Truths n = cond (eqb n 1) Want.Truth Want.Other
+want_of Truths n = Want.Other
 want_of Bits n = cond (eqb (n % 8) 0) Want.Bytes Want.Other
 want_of Text n = Want.Other
 want_of (Whole signed w) n = cond (eqb n 1) (one_integer w) Want.Bytes
@@ -31,17 +29,10 @@ want_of (Whole signed w) n = cond (eqb n 1) (one_integer w) Want.Bytes
 abbrev pub no_step : Step
 no_step = record { want = Want.Other; bytes = 0; null = Null.Undeclared }
 
--- "a 4-byte unsigned count of elements, not bytes", at most n: bits that fill their bytes take no more than these
-unfoldable pub counted_step : Shape → ℕ → Step
-counted_step Truths n = no_step
-counted_step Bits n = record { want = Want.Bits; bytes = 4 + n / 8; null = Null.Undeclared }
-counted_step Text n = no_step
-counted_step (Whole signed w) n = no_step
-
 unfoldable pub step_for : Kind → Len → Null → Step
 step_for kind (Len.Fixed n) null = record { want = want_of (shape kind) n; bytes = content_bytes (shape kind) n; null = null }
-step_for kind (Len.Bounded n) null = counted_step (shape kind) n
-step_for kind Len.Free null = counted_step (shape kind) most_elements
+step_for kind (Len.Bounded n) null = no_step
+step_for kind Len.Free null = no_step
 
 abbrev pub step_of : Column → Step
 step_of c = step_for c.kind c.len c.null

@@ -3,7 +3,7 @@
 #![tactic(auto)]
 
 ghost use Rattle.std.specs.Prelude.{◌≡◌, ◌≤◌};
-ghost use Rattle.planning.specs.Plan.{counted_step, no_step, plan_of, step_of, want_of};
+ghost use Rattle.planning.specs.Plan.{no_step, plan_of, step_of, want_of};
 ghost use Rattle.rows.specs.Bounds.{Within};
 ghost use Rattle.table.specs.Cell.{bound, most_elements};
 ghost use Rattle.table.specs.ColumnList.{listed};
@@ -13,18 +13,15 @@ use binary::content_bytes;
 use number::{Elements, Integer, elements_of};
 use table::{Column, Columns, Kind, Len, Null};
 
-// One boolean or one integer, which may stand for null; bytes, or a count and bits that fill their bytes, that go as they stand among BINARY and
-// BINARY2; or none of these.
+// One integer, which may stand for null; bytes that go as they stand among BINARY and BINARY2; or neither.
 #[derive(Clone, Copy)]
 pub enum Want {
     Other,
     Bytes,
-    Bits,
-    Truth,
     Integer(Integer),
 }
 
-// What a column's cells want, the bytes of a cell (the most, where it has a count), and the declared null.
+// What a column's cells want, the bytes of a cell, and the declared null.
 #[derive(Clone, Copy)]
 pub struct Step {
     pub want: Want,
@@ -42,12 +39,7 @@ fn want_of(kind: Kind, n: usize) -> Want
     ensures { result ≡ want_of (shape kind) n }
 {
     match elements_of(kind) {
-        Elements::Truths => {
-            if n == 1 {
-                return Want::Truth;
-            }
-            Want::Other
-        }
+        Elements::Truths => Want::Other,
         Elements::Bits => {
             if n % 8 == 0 {
                 return Want::Bytes;
@@ -64,32 +56,6 @@ fn want_of(kind: Kind, n: usize) -> Want
     }
 }
 
-fn no_step() -> Step
-    ensures { result ≡ no_step }
-{
-    Step {
-        want: Want::Other,
-        bytes: 0,
-        null: Null::Undeclared,
-    }
-}
-
-// Cells that begin with a count, of at most n elements.
-fn counted_step(kind: Kind, n: usize) -> Step
-    ensures { result ≡ counted_step (shape kind) n }
-{
-    match elements_of(kind) {
-        Elements::Truths => no_step(),
-        Elements::Bits => Step {
-            want: Want::Bits,
-            bytes: 4 + n / 8,
-            null: Null::Undeclared,
-        },
-        Elements::Text => no_step(),
-        Elements::Whole(_) => no_step(),
-    }
-}
-
 fn step_of(column: Column) -> Step
     requires { bound column.len ≤ most_elements }
     ensures { result ≡ step_of column }
@@ -103,8 +69,18 @@ fn step_of(column: Column) -> Step
             bytes: content_bytes(kind, n),
             null,
         },
-        Len::Bounded(n) => counted_step(kind, n),
-        Len::Free => counted_step(kind, table::MOST_ELEMENTS),
+        Len::Bounded(_) => no_step(),
+        Len::Free => no_step(),
+    }
+}
+
+fn no_step() -> Step
+    ensures { result ≡ no_step }
+{
+    Step {
+        want: Want::Other,
+        bytes: 0,
+        null: Null::Undeclared,
     }
 }
 

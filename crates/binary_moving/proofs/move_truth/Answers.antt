@@ -1,12 +1,13 @@
--- binary_moving::move_truth: found by its value: null where it is unknown.
+-- binary_moving::move_truth: found by its value: null where that stands for it, else the value.
 use mathlib.Core.List.{List, [], ◌∷◌}
 use mathlib.Core.Path.{◌∙◌, ◌≡◌, ap, subst, sym}
 use Prim.Native.Nat.{ℕ}
 use lib.IntN.{ℤ}
 use mir.Syntax.{w64}
 use mir.Val.{of_z, to_z}
-use Rattle.cell_putting.proofs.Elements.{null-moved}
-use Rattle.moving.proofs.Puts.{puts_none}
+use Rattle.cell_putting.proofs.Elements.{null-moved, value-moved}
+use Rattle.cell_putting.specs.Clauses.{one_form}
+use Rattle.moving.proofs.Puts.{puts-as, puts_none}
 use Rattle.moving.specs.Contents.{FindsOne, InBinary}
 use lib.IntN.{pos}
 use Rattle.table.specs.Cell.{same_integer}
@@ -30,4 +31,13 @@ returns-then-same_integer c =
     (sym (ap (λ (z : ℤ). same_integer z (pos 2)) fits) ∙ sym c.same_integer.ensures ∙ c.if-same_integer.true) p.ensures
 
 pub returns : goal.returns
-returns c = λ from one q. puts_none c.args.row.now c.args.o (omega (arith, c.requires.2))
+returns c =
+    let value : ℤ = c.in-Element.z in
+    let next : ℕ = c.in-Element.next in
+    let stands : InBinary Truths 1 c.args.s.now c.args.at next (value ∷ []) = subst (FindsOne (InBinary Truths 1 c.args.s.now c.args.at)) c.in-Element.is c.binary_truth.ensures in
+    let fits : to_z w64 (of_z w64 value) ≡ value = search rules in
+    let p = c.put_truth-e in
+    λ from one q. value-moved (InBinary (shape c.args.column.kind) 1 c.args.s.now c.args.at) from c.args.to c.args.column Truths value c.args.row.now c.args.o
+    p.new.row next one q (subst (λ (y : Shape). InBinary y 1 c.args.s.now c.args.at next (value ∷ [])) (sym q) stands) p.result tt
+    (sym (ap (λ (z : ℤ). same_integer z (pos 2)) fits) ∙ sym c.same_integer.ensures ∙ c.if-same_integer.false)
+    (puts-as (ap (one_form c.args.to Truths) fits) p.ensures)

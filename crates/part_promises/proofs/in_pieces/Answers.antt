@@ -23,6 +23,11 @@ slice_bounds-sailmortar_convert-count c =
     let args = c.args in
     place-within-whole _ _ _ args.input.now args.cut _ _ c.sailmortar_convert_piece.ensures.numbers
 
+pub slice_bounds-sailmortar_convert-start : goal.slice_bounds-sailmortar_convert-start
+slice_bounds-sailmortar_convert-start c =
+    let args = c.args in
+    place-within-whole _ _ _ args.input.now args.cut _ _ c.sailmortar_convert_piece.ensures.numbers
+
 pub returns : goal.returns
 returns c =
     let whole = c.sailmortar_convert-2.ensures in

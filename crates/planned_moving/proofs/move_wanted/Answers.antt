@@ -1,6 +1,6 @@
--- planned_moving::move_wanted: by what the column's step wants, which is of a fixed column (of-fixed), or of bits with a count (of-counted).
+-- planned_moving::move_wanted: by what the column's step wants, which is of a fixed column (of-fixed).
 use Prim.Native.Nat.{◌≤◌}
-use mathlib.Core.Bool.{true}
+use mathlib.Core.Bool.{false≢true, true}
 use mathlib.Core.Path.{◌∙◌, ◌≡◌, ap, subst, sym}
 use native.Mathlib.Omega.{arith}
 use borrow.Author.Rules.{rules}
@@ -9,8 +9,7 @@ use Rattle.binary.specs.Binary.{content_bytes}
 use Rattle.binary_moving.proofs.Counted.{size-most}
 use Rattle.eights.proofs.Fronts.{are-bytes}
 use Rattle.moving.proofs.Puts.{puts_none}
-use Rattle.planned_moving.proofs.Bits.{counted-bits-moved, of-counted}
-use Rattle.planned_moving.proofs.Planned.{OfFixed, fixed_moved, integer-wanted, of-fixed, passed-moved, truth-wanted, wants_bits, wants_fixed}
+use Rattle.planned_moving.proofs.Planned.{OfFixed, fixed_moved, integer-wanted, of-fixed, passed-moved, wants_bytes, wants_integer}
 use Rattle.planning.specs.Plan.{step_of}
 use Rattle.planning.specs.declared.Step.{Step}
 use Rattle.planning.specs.declared.Want.{Want}
@@ -39,31 +38,9 @@ returns-in-Bytes c =
     let bytes : AreBytes c.args.s.now = are-bytes c.args.s.now (λ i. omega (arith, c.shared_slice_known-1.given i)) in
     λ from column t b q.
     let w : (step_of column).want ≡ Want.Bytes = sym (ap (λ (y : Step). y.want) q) ∙ c.in-Bytes.is in
-    let f = of-fixed column (ap wants_fixed w) in
+    let f = of-fixed column Want.Bytes w (λ z. false≢true (ap wants_bytes z)) in
     passed-moved from c.args.to column f.n c.args.step.bytes c.args.s.now c.args.at c.args.row.now c.args.o m.new.row m.result t f.len_is (some column f b)
     (sym f.want_is ∙ w) (ap (λ (y : Step). y.bytes) q ∙ f.bytes-is) bytes (omega (arith, c.requires.0)) m.ensures
-
-pub returns-in-Bits : goal.returns-in-Bits
-returns-in-Bits c =
-    let m = c.move_bits in
-    let s = c.args.s.now in
-    let bytes : AreBytes s = are-bytes s (λ i. omega (arith, c.shared_slice_known-1.given i)) in
-    λ from column t b q.
-    let w : (step_of column).want ≡ Want.Bits = sym (ap (λ (y : Step). y.want) q) ∙ c.in-Bits.is in
-    counted-bits-moved from c.args.to column c.args.step.bytes s c.args.at c.args.row.now c.args.o m.new.row m.result t (of-counted column (ap wants_bits w))
-    (ap (λ (y : Step). y.bytes) q) bytes (omega (arith, c.requires.0)) m.ensures
-
-pub returns-in-Truth : goal.returns-in-Truth
-returns-in-Truth c =
-    let m = c.move_truth in
-    λ from column t b q.
-    let w : (step_of column).want ≡ Want.Truth = sym (ap (λ (y : Step). y.want) q) ∙ c.in-Truth.is in
-    let f = of-fixed column (ap wants_fixed w) in
-    let i = truth-wanted (shape column.kind) f.n (sym f.want_is ∙ w) in
-    let len : column.len ≡ Len.Fixed 1 = f.len_is ∙ ap Len.Fixed i.0 in
-    let size : c.args.step.bytes ≡ content_bytes (shape column.kind) 1 = ap (λ (y : Step). y.bytes) q ∙ f.bytes-is ∙ ap (content_bytes (shape column.kind)) i.0 in
-    fixed_moved from c.args.to column 1 c.args.s.now c.args.at c.args.row.now c.args.o m.new.row m.result t len (lit≤ tt) (omega (arith, size, c.requires.0))
-    (m.ensures from column (ap is_one len) i.1)
 
 pub returns-in-Integer : goal.returns-in-Integer
 returns-in-Integer c =
@@ -71,7 +48,7 @@ returns-in-Integer c =
     let m = c.move_integer in
     λ from column t b q.
     let w : (step_of column).want ≡ Want.Integer integer = sym (ap (λ (y : Step). y.want) q) ∙ c.in-Integer.is in
-    let f = of-fixed column (ap wants_fixed w) in
+    let f = of-fixed column (Want.Integer integer) w (λ z. false≢true (ap wants_integer z)) in
     let i = integer-wanted column.kind f.n integer (sym f.want_is ∙ w) in
     let len : column.len ≡ Len.Fixed 1 = f.len_is ∙ ap Len.Fixed i.0 in
     let one : is_scalar column ≡ true = ap is_one len in

@@ -57,9 +57,11 @@ returns c =
 pub bounds-cols-i : goal.bounds-cols-i
 bounds-cols-i c =
     let columns : Columns = c.args.cols in
-    omega (arith, c.loop-i-test.true, c.requires.few, listed-length columns)
+    let few : c.loop-i.i < 64 = omega (arith, c.loop-i-test.true, c.requires.few, listed-length columns) in
+    few
 
 pub bounds-list-i : goal.bounds-list-i
 bounds-list-i c =
     let columns : Columns = c.args.cols in
-    omega (arith, c.loop-i-test.true, c.requires.few, listed-length columns)
+    let few : c.loop-i.i < 64 = omega (arith, c.loop-i-test.true, c.requires.few, listed-length columns) in
+    few

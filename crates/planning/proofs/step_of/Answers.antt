@@ -16,8 +16,8 @@ returns-in-Fixed c = rw (c.want_of.ensures, c.content_bytes.ensures.0, c.in-Fixe
 
 pub returns-in-Bounded : goal.returns-in-Bounded
 unfolding step_for
-returns-in-Bounded c = c.counted_step.ensures ∙ rw c.in-Bounded.is
+returns-in-Bounded c = c.no_step.ensures ∙ rw c.in-Bounded.is
 
 pub returns-in-Free : goal.returns-in-Free
 unfolding step_for
-returns-in-Free c = c.counted_step-in-Free.ensures ∙ rw c.in-Free.is
+returns-in-Free c = c.no_step-in-Free.ensures ∙ rw c.in-Free.is

@@ -1,52 +1,43 @@
 -- planning::want_of: by what the elements are, as the definition has it.
-use Prim.Native.Nat.{◌%◌}
-use native.Mathlib.Omega.{arith}
+use mathlib.Core.Path.{◌∙◌, ap}
 use borrow.Author.Rules.{rules}
 use borrow.Author.Tests.{eq-eqb, ne_eqb}
 use Rattle.number.specs.declared.Elements.{Elements}
 use Rattle.planning.proofs.Steps.{one-integer, want-by}
-use Rattle.planning.specs.Plan.{want_of}
+use Rattle.planning.specs.Plan.{one_integer, want_of}
 use Rattle.planning.proofs.want_of.Goals as goal
-
-pub returns-then-n-eq1 : goal.returns-then-n-eq1
-unfolding want_of
-returns-then-n-eq1 c =
-    let a = c.args in
-    rw (← want-by Elements.Truths _ a.kind a.n c.in-Truths.is c.elements_of.ensures, eq-eqb a.n 1 (omega arith))
 
 pub returns-then-n-eq0 : goal.returns-then-n-eq0
 unfolding want_of
 returns-then-n-eq0 c =
     let a = c.args in
-    rw (← want-by Elements.Bits _ a.kind a.n c.in-Bits.is c.elements_of.ensures, eq-eqb (a.n % 8) 0 (omega arith))
+    rw (← want-by Elements.Bits _ a.kind a.n c.in-Bits.is c.elements_of.ensures, eq-eqb _ 0 c.if-n-eq0.true)
 
-pub returns-then-n-eq1-2 : goal.returns-then-n-eq1-2
+pub returns-then-n-eq1 : goal.returns-then-n-eq1
 unfolding want_of
-returns-then-n-eq1-2 c =
+returns-then-n-eq1 c =
     let a = c.args in
     let integer = c.in-Whole.integer in
-    rw (← want-by (Elements.Whole integer) _ a.kind a.n c.in-Whole.is c.elements_of.ensures, eq-eqb _ 1 c.if-n-eq1-2.true)
+    rw (← want-by (Elements.Whole integer) _ a.kind a.n c.in-Whole.is c.elements_of.ensures, eq-eqb _ 1 c.if-n-eq1.true)
     (one-integer integer)
 
-pub returns-else-n-eq1 : goal.returns-else-n-eq1
+pub returns-in-Truths : goal.returns-in-Truths
 unfolding want_of
-returns-else-n-eq1 c =
-    let a = c.args in
-    rw (← want-by Elements.Truths _ a.kind a.n c.in-Truths.is c.elements_of.ensures, ne_eqb a.n 1 (λ z. omega arith))
+returns-in-Truths c = let a = c.args in want-by Elements.Truths _ a.kind a.n c.in-Truths.is c.elements_of.ensures
 
 pub returns-else-n-eq0 : goal.returns-else-n-eq0
 unfolding want_of
 returns-else-n-eq0 c =
     let a = c.args in
-    rw (← want-by Elements.Bits _ a.kind a.n c.in-Bits.is c.elements_of.ensures, ne_eqb (a.n % 8) 0 (λ z. omega arith))
+    rw (← want-by Elements.Bits _ a.kind a.n c.in-Bits.is c.elements_of.ensures, ne_eqb _ 0 c.if-n-eq0.false)
 
 pub returns-in-Text : goal.returns-in-Text
 unfolding want_of
 returns-in-Text c = let a = c.args in want-by Elements.Text _ a.kind a.n c.in-Text.is c.elements_of.ensures
 
-pub returns-else-n-eq1-2 : goal.returns-else-n-eq1-2
+pub returns-else-n-eq1 : goal.returns-else-n-eq1
 unfolding want_of
-returns-else-n-eq1-2 c =
+returns-else-n-eq1 c =
     let a = c.args in
     let integer = c.in-Whole.integer in
-    rw (← want-by (Elements.Whole integer) _ a.kind a.n c.in-Whole.is c.elements_of.ensures, ne_eqb _ 1 c.if-n-eq1-2.false)
+    rw (← want-by (Elements.Whole integer) _ a.kind a.n c.in-Whole.is c.elements_of.ensures, ne_eqb _ 1 c.if-n-eq1.false)
