@@ -1,7 +1,7 @@
 -- What the functions of this crate promise each other, in terms of `decode` and `encode`: views of their answers.
 use Rattle.std.specs.Prelude.{◌%◌, ◌*◌, ◌+◌, ◌/◌, ◌<◌, ◌≤◌, suc, zero, ℕ, cond, List, [], ◌++◌, ◌∷◌, ◌≡◌, ltb, drop, get_or, length, take}
 use Rattle.std.proofs.lemmas.List.Edits.{sets}
-use Rattle.base64_rules.specs.Base64.{decode, dense, letter, sextet}
+use Rattle.base64_rules.specs.Base64.{decode, dense}
 use Rattle.base64_coding.specs.declared.decoding.Four.{Four}
 use Rattle.base64_coding.specs.declared.decoding.Four.TheVariants as four
 use Rattle.base64_coding.specs.declared.decoding.Next.{Next}

@@ -23,7 +23,6 @@ use Rattle.table.specs.All.{All, AreBytes}
 use Rattle.table.specs.Bytes.{byte}
 use Rattle.table.specs.Cell.{Cell, Elements, Fits, IsColumn, below, bound, column_of, empty_is_null, fits-null, fits-shown, is_char, is_element, is_null, is_null_list, is_one, most_elements}
 use Rattle.table.specs.Cell.{null, null_element, null_of_kind, room_fits, room_in, show, shown, truth_byte}
-use Rattle.table.specs.Outcome.{at}
 use Rattle.table.specs.Result.{Fails, Holds, every, fails, gives, good, holds, refuses}
 use Rattle.table.specs.Shape.{Bits, Shape, Text, Truths, Whole, last, shape}
 use Rattle.table.specs.declared.Column.{Column}

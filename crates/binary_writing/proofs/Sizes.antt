@@ -8,7 +8,6 @@ use Rattle.number.proofs.Laws.{length_to}
 use Rattle.table.proofs.Laws.{cond_cases, last-le}
 use Rattle.table.specs.Cell.{Cell, Fits, bound, fits-shown, is_char, most_elements, null, null_element, null_of_kind, room_in, shown}
 use Rattle.table.specs.Clauses.{form_bytes, held}
-use Rattle.table.specs.Outcome.{at}
 use Rattle.table.specs.Result.{Result, bad, good}
 use Rattle.table.specs.Shape.{Bits, Shape, Text, Truths, Whole, shape}
 use Rattle.table.specs.declared.Column.{Column}

@@ -281,7 +281,7 @@ pack-next out scratch at k count b h m q =
     let o : suc (at + k) ≡ at + (k + 1) = omega arith in
     let long : 8 ≤ length (drop (8 * k) bits) = omega (arith, length-drop (8 * k) bits, length-held count scratch m) in
     let v : of_digits 2 0 (take 8 (drop (8 * k) bits)) ≡ b = ap (of_digits 2 0) (bits-window 8 (8 * k) count scratch h)
-        ∙ sym (q ∙ mul-one (of_digits 2 0 (map bit_of (take 8 (drop (8 * k) scratch))))) in
+    ∙ sym (q ∙ mul-one (of_digits 2 0 (map bit_of (take 8 (drop (8 * k) scratch))))) in
     ap (sets out (at + k)) (pack-more (drop (8 * k) bits) long)
     ∙ ap₂ (λ (x : ℕ) (l : List ℕ). sets (set out (at + k) x) (suc (at + k)) (pack l)) v (drop-drop 8 (8 * k) bits ∙ ap (λ (j : ℕ). drop j bits) e)
     ∙ ap (λ (j : ℕ). sets (set out (at + k) b) j (pack (drop (8 * (k + 1)) bits))) o

@@ -1,7 +1,6 @@
 // What two inputs show differently: no code, but for the answer.
 #![tactic(auto)]
 
-
 // The number, row, column and input of a refusal, all 0 where both inputs read; how many cells differ; the rows that each has beyond the other; and
 // how many places were filled.
 #[derive(Clone, Copy)]

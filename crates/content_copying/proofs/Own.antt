@@ -39,7 +39,7 @@ use Rattle.words.specs.Clauses.{IsPlain, top}
 
 pub digits-marked : (ds : List ℕ) → length ds ≡ 8 → AreBytes ds → (x : ℕ) → x ≡ of_digits 256 0 ds
     → bit_and (bit_or (bit_and (bit_xor x 3472328296227680304) 9187201950435737471 + 8536140394893047414) (bit_xor x 3472328296227680304)) 9259542123273814144 ≡ of_digits 256 0
-        (map (mark is_digit) ds)
+    (map (mark is_digit) ds)
 unfolding of_digits mark is_digit between
 digits-marked ds l a x e =
     let t = differing ds l a (own ds l a e) (eight ds l a 48 refl (lit< tt)) in

@@ -28,7 +28,6 @@ use Rattle.number.specs.Number.{of_digits, to_digits}
 use Rattle.table.proofs.Laws.{all_append, all_drop, all_take, and_both, cond_cases, holds-bind, holds-cond, holds-weaken}
 use Rattle.table.specs.All.{All, AreBytes}
 use Rattle.table.specs.Cell.{Cell, empty_is_null, most_elements, null, show, shown}
-use Rattle.table.specs.Outcome.{at}
 use Rattle.table.specs.Result.{Holds, Result, ◌>>=◌, every, good, holds, refuses}
 use Rattle.table.specs.Shape.{Bits, Shape, Text, Truths, Whole, Width, last, shape}
 use Rattle.table.specs.declared.Column.{Column}

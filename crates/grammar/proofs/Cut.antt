@@ -207,7 +207,7 @@ module _ (decls : List ℕ) (from to : Rows) (front more out : List ℕ) (cs : L
 
   fate-of : (done left : List (List Cell)) (rest body : List ℕ) (u : Table) → IsLast u → read from cs rest ≡ u → AreBytes rest → AreBytes (rest ++ more)
       → read from cs (rest ++ more) ≡ table_of left → (o : Outcome) → write to cs (length out) (length done) body u ≡ o → CutFate from cs rest (length done) (ending o out)
-          × (rows_done o ≡ length done)
+      × (rows_done o ≡ length done)
   unfolding write ending answer_of rows_done
   fate-of done left rest body finished l q a b s o e =
       rw (← e) (cut-between (λ m. false≢true (sym (more-at-read m) ∙ ends_there from cs i rest q)) refl, refl)

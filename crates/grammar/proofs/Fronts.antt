@@ -14,7 +14,6 @@ use Rattle.number.specs.Number.{Fault, digit, hexadigit, numeral, sized}
 use Rattle.table.proofs.Laws.{all_append, between_is, between-yes, cond_cases, holds-bind, holds-cond, holds-weaken, no-white}
 use Rattle.table.specs.All.{All}
 use Rattle.table.specs.Bytes.{after, between, bytes, ends, is_white, skip_white, tag}
-use Rattle.table.specs.Outcome.{at}
 use Rattle.table.specs.Result.{Fails, Holds, Result, ◌>>=◌, bad, fails, gives, good, holds, refuses}
 
 -- ---- what was taken from the front of a text

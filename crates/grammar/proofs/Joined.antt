@@ -26,7 +26,6 @@ use Rattle.parts.specs.declared.Part.{Part}
 use Rattle.rows.proofs.Calls.{converts}
 use Rattle.rows.specs.Convert.{convert, converting, under_columns}
 use Rattle.rows.specs.Pieces.{convert_piece, place_of, place_under}
-use Rattle.rows.specs.Sequence.{row}
 use Rattle.rows.specs.Stream.{read, run}
 use Rattle.table.proofs.Laws.{bad-good}
 use Rattle.table.specs.All.{AreBytes}

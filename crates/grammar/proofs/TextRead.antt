@@ -32,7 +32,6 @@ use Rattle.table.specs.All.{All}
 use Rattle.table.specs.Bytes.{after, between, bytes, ends, is_white, same, skip_white, tag, words}
 use Rattle.table.specs.Cell.{Cell, bound, empty_is_null, is_null_list, most_elements, null, room_fits, room_in, show, shown, stands_for_null}
 use Rattle.table.specs.LineEnds.{feed_first}
-use Rattle.table.specs.Outcome.{at}
 use Rattle.table.specs.Result.{Fails, Holds, Result, ◌>>=◌, bad, good, holds, or_else, refuses}
 use Rattle.table.specs.Shape.{Bits, Shape, Text, Truths, Whole, last, shape}
 use Rattle.table.specs.declared.Column.{Column}

@@ -25,7 +25,6 @@ use Rattle.table.proofs.Bytes.{same-is}
 use Rattle.table.proofs.Laws.{IsWord, NoWhite, and_both, between_is, cond_cases, fails-bind, fails-weaken, holds-bind, holds-cond, no-white, or-either, pieces-word}
 use Rattle.table.specs.All.{All}
 use Rattle.table.specs.Bytes.{between, bytes, is_white, not_empty, pieces, same, words}
-use Rattle.table.specs.Outcome.{at}
 use Rattle.table.specs.Result.{Fails, Holds, Result, ◌>>=◌, bad, every, fails, gives, good, holds, refuses}
 use Rattle.table.specs.Shape.{half, in_range}
 use Rattle.tabledata.specs.TableData.{bit_letter, lower, truth_letter, truth_word}

@@ -72,7 +72,7 @@ module _ (ds : List ℕ) (l : length ds ≡ 8) (a : AreBytes ds) where
 
   pub bits-marked : (x : ℕ) → x ≡ of_digits 256 0 ds
       → bit_and (bit_or (bit_and (bit_xor x 3472328296227680304) 9187201950435737471 + 9114861777597660798) (bit_xor x 3472328296227680304)) 9259542123273814144 ≡ of_digits 256 0
-          (map (mark is_bit) ds)
+      (map (mark is_bit) ds)
   unfolding of_digits mark is_bit between
   bits-marked x e =
       let t = differing (own e) (eight 48 refl (lit< tt)) in
@@ -82,7 +82,7 @@ module _ (ds : List ℕ) (l : length ds ≡ 8) (a : AreBytes ds) where
 
   pub digits-marked : (x : ℕ) → x ≡ of_digits 256 0 ds
       → bit_and (bit_or (bit_and (bit_xor x 3472328296227680304) 9187201950435737471 + 8536140394893047414) (bit_xor x 3472328296227680304)) 9259542123273814144 ≡ of_digits 256 0
-          (map (mark is_digit) ds)
+      (map (mark is_digit) ds)
   unfolding of_digits mark is_digit between
   digits-marked x e =
       let t = differing (own e) (eight 48 refl (lit< tt)) in

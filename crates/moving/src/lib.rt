@@ -2,7 +2,6 @@
 // known to be good and to fit. What stands in that buffer behind the place reached does not count.
 #![tactic(auto)]
 
-
 // A cell: the place after it in the input, the place after its bytes in the buffer, and whether it is null; or it is for the careful way.
 #[derive(Clone, Copy)]
 pub enum Moved {

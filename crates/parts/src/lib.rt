@@ -1,7 +1,6 @@
 // Parts of an input, each converted by itself, and how far they are joined: no code, but for the two records.
 #![tactic(auto)]
 
-
 // A part: where in the input it begins, its length, the room that it was given, and the six numbers that its call answered.
 #[derive(Clone, Copy)]
 pub struct Part {

@@ -1,6 +1,6 @@
 -- A plan's steps: what a column of so many elements wants, by what its elements are; and the steps of a list, one by one. Cited by want_of, plan_of
 -- and by whoever moves cells by a plan.
-use Prim.Native.Nat.{◌+◌, ◌-◌, ◌<◌, ◌≤◌, suc, zero, ℕ}
+use Prim.Native.Nat.{◌-◌, ◌<◌, ◌≤◌, suc, zero, ℕ}
 use native.Mathlib.Nat.{le_refl}
 use native.Mathlib.Omega.{arith}
 use mathlib.Core.List.{List, [], ◌++◌, ◌∷◌, map}

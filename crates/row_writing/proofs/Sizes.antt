@@ -58,8 +58,12 @@ forms-small (e ∷ es) = holds-bind (char-small e) (λ b h. holds-bind (forms-sm
 
 text-small : (k : Shape) (es : List ℤ) → Holds (λ (b : List ℕ). length b ≤ length es * 22) (element_text k es)
 unfolding element_text element_bytes
-text-small Truths es = holds {a = spaced (map truth_text es)} (omega (arith, spaced-small 21 (map truth_text es)
-        (all_map _ truth_text (λ z. omega (arith, truth-long z)) es), length-map es truth_text))
+text-small Truths es = holds {a = spaced (map truth_text es)} (omega (
+  arith,
+  spaced-small 21 (map truth_text es)
+      (all_map _ truth_text (λ z. omega (arith, truth-long z)) es),
+  length-map es truth_text,
+))
 text-small Bits es = holds {a = map bit_text es} (omega (arith, length-map es bit_text))
 text-small (Whole g v) es = holds {a = spaced (map shortest es)} (omega (arith, spaced-small 21 (map shortest es) (all_map _ shortest shortest-most es), length-map es shortest))
 text-small Text es = holds-weaken (forms-small es) (λ b h. omega arith)

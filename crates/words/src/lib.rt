@@ -1,7 +1,6 @@
 // Words read as integers: a character at a time, the whole text as one word, and words of plain digits quickly.
 #![tactic(auto)]
 
-
 ghost use Rattle.std.specs.Prelude.{◌≡◌, false, true, ◌*◌, ◌<◌, ◌≤◌, length};
 ghost use Rattle.number.specs.Clauses.{is_signed, size};
 ghost use Rattle.words.specs.Clauses.{DigitsAt, Earlier, quick_run, quickly, reading_of, top};

@@ -8,7 +8,6 @@ use Rattle.base64_coding.specs.declared.decoding.DecodedSize.TheVariants.{Good}
 use Rattle.table.specs.Outcome.{most_input}
 use Rattle.base64_rules.proofs.Laws.{decode-refused-6}
 use Rattle.base64_coding.proofs.Calls.{decode-bad, decode-long, decode-made, fits, made-refusal}
-use borrow.Author.Rules.{rules}
 use Rattle.base64_coding.proofs.decode.Goals as goal
 
 pub returns-then-input-gt-MOST_INPUT : goal.returns-then-input-gt-MOST_INPUT

@@ -2,7 +2,6 @@
 use Rattle.table.specs.Outcome.{most_input}
 use Rattle.base64_rules.proofs.Laws.{encode-refused-6, length-encode}
 use Rattle.base64_coding.proofs.Calls.{encode-long, encode-made, made-refusal}
-use borrow.Author.Rules.{rules}
 use native.Mathlib.Omega.{arith}
 use Rattle.base64_coding.proofs.encode.Goals as goal
 

@@ -1,6 +1,5 @@
 -- `binary::content_bytes` meets its contract: in each arm the kind is known, so its shape is.
 use Rattle.binary.specs.Binary.{bit_bytes, content_bytes}
-use borrow.Author.Rules.{rules}
 use native.Mathlib.Omega.{arith}
 use Rattle.binary.proofs.content_bytes.Goals as goal
 

@@ -23,7 +23,7 @@ returns-then-is_declared c =
     let value : ℤ = c.in-Element.z in
     let next : ℕ = c.in-Element.next in
     let stands : InBinary (Whole (is_signed c.args.integer) (width_of c.args.integer)) 1 c.args.s.now c.args.at next (value ∷ []) =
-        (subst (FindsOne (InBinary (Whole (is_signed c.args.integer) (width_of c.args.integer)) 1 c.args.s.now c.args.at)) c.in-Element.is
+    (subst (FindsOne (InBinary (Whole (is_signed c.args.integer) (width_of c.args.integer)) 1 c.args.s.now c.args.at)) c.in-Element.is
     c.binary_integer.ensures) in
     let fits : to_z w64 (of_z w64 value) ≡ value = search rules in
     let p = c.put_null in

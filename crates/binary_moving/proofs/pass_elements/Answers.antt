@@ -28,7 +28,7 @@ fill_up-requires c =
     let inner : ℕ = c.args.o + c.count_size.result in
     let mid : List ℕ = c.pass_content.new.row in
     let moved : let a = c.args in ContentMoved (InBinary (shape a.column.kind) a.n a.s.now a.at)
-        (AsBinary (shape a.column.kind)) a.row.now inner mid c.in-Elements.count c.in-Elements.next c.in-Elements.end = (let a = c.args in
+    (AsBinary (shape a.column.kind)) a.row.now inner mid c.in-Elements.count c.in-Elements.next c.in-Elements.end = (let a = c.args in
     subst (MovesContent (InBinary (shape a.column.kind) a.n a.s.now a.at) (AsBinary (shape a.column.kind)) a.row.now inner mid) c.in-Elements.is
     c.pass_content.ensures) in
     let x = moved.puts in
@@ -39,7 +39,7 @@ returns c =
     let inner : ℕ = c.args.o + c.count_size.result in
     let mid : List ℕ = c.pass_content.new.row in
     let moved : let a = c.args in ContentMoved (InBinary (shape a.column.kind) a.n a.s.now a.at)
-        (AsBinary (shape a.column.kind)) a.row.now inner mid c.in-Elements.count c.in-Elements.next c.in-Elements.end = (let a = c.args in
+    (AsBinary (shape a.column.kind)) a.row.now inner mid c.in-Elements.count c.in-Elements.next c.in-Elements.end = (let a = c.args in
     subst (MovesContent (InBinary (shape a.column.kind) a.n a.s.now a.at) (AsBinary (shape a.column.kind)) a.row.now inner mid) c.in-Elements.is
     c.pass_content.ensures) in
     let a = c.args in
@@ -76,7 +76,7 @@ shape_of-row-then-count-eq0 c =
     let inner : ℕ = c.args.o + c.count_size.result in
     let mid : List ℕ = c.pass_content.new.row in
     let moved : let a = c.args in ContentMoved (InBinary (shape a.column.kind) a.n a.s.now a.at)
-        (AsBinary (shape a.column.kind)) a.row.now inner mid c.in-Elements.count c.in-Elements.next c.in-Elements.end = (let a = c.args in
+    (AsBinary (shape a.column.kind)) a.row.now inner mid c.in-Elements.count c.in-Elements.next c.in-Elements.end = (let a = c.args in
     subst (MovesContent (InBinary (shape a.column.kind) a.n a.s.now a.at) (AsBinary (shape a.column.kind)) a.row.now inner mid) c.in-Elements.is
     c.pass_content.ensures) in
     let unfilled : Puts c.args.row.now c.args.o [] mid c.args.o = puts_lower moved.puts (omega arith) in
@@ -87,7 +87,7 @@ returns-then-count-eq0 c =
     let inner : ℕ = c.args.o + c.count_size.result in
     let mid : List ℕ = c.pass_content.new.row in
     let moved : let a = c.args in ContentMoved (InBinary (shape a.column.kind) a.n a.s.now a.at)
-        (AsBinary (shape a.column.kind)) a.row.now inner mid c.in-Elements.count c.in-Elements.next c.in-Elements.end = (let a = c.args in
+    (AsBinary (shape a.column.kind)) a.row.now inner mid c.in-Elements.count c.in-Elements.next c.in-Elements.end = (let a = c.args in
     subst (MovesContent (InBinary (shape a.column.kind) a.n a.s.now a.at) (AsBinary (shape a.column.kind)) a.row.now inner mid) c.in-Elements.is
     c.pass_content.ensures) in
     let unfilled : Puts c.args.row.now c.args.o [] mid c.args.o = puts_lower moved.puts (omega arith) in
@@ -98,7 +98,7 @@ shape_of-row-then-count-gt-MOST_ELEMENTS c =
     let inner : ℕ = c.args.o + c.count_size.result in
     let mid : List ℕ = c.pass_content.new.row in
     let moved : let a = c.args in ContentMoved (InBinary (shape a.column.kind) a.n a.s.now a.at)
-        (AsBinary (shape a.column.kind)) a.row.now inner mid c.in-Elements.count c.in-Elements.next c.in-Elements.end = (let a = c.args in
+    (AsBinary (shape a.column.kind)) a.row.now inner mid c.in-Elements.count c.in-Elements.next c.in-Elements.end = (let a = c.args in
     subst (MovesContent (InBinary (shape a.column.kind) a.n a.s.now a.at) (AsBinary (shape a.column.kind)) a.row.now inner mid) c.in-Elements.is
     c.pass_content.ensures) in
     let unfilled : Puts c.args.row.now c.args.o [] mid c.args.o = puts_lower moved.puts (omega arith) in
@@ -109,7 +109,7 @@ returns-then-count-gt-MOST_ELEMENTS c =
     let inner : ℕ = c.args.o + c.count_size.result in
     let mid : List ℕ = c.pass_content.new.row in
     let moved : let a = c.args in ContentMoved (InBinary (shape a.column.kind) a.n a.s.now a.at)
-        (AsBinary (shape a.column.kind)) a.row.now inner mid c.in-Elements.count c.in-Elements.next c.in-Elements.end = (let a = c.args in
+    (AsBinary (shape a.column.kind)) a.row.now inner mid c.in-Elements.count c.in-Elements.next c.in-Elements.end = (let a = c.args in
     subst (MovesContent (InBinary (shape a.column.kind) a.n a.s.now a.at) (AsBinary (shape a.column.kind)) a.row.now inner mid) c.in-Elements.is
     c.pass_content.ensures) in
     let unfilled : Puts c.args.row.now c.args.o [] mid c.args.o = puts_lower moved.puts (omega arith) in

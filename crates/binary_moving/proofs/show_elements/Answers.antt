@@ -22,7 +22,7 @@ overflow_sub-row c =
     let inner : ℕ = c.put_open-inner.result in
     let mid : List ℕ = c.show_content.new.row in
     let moved : let a = c.args in ContentMoved (InBinary (shape a.column.kind) a.n a.s.now a.at)
-        (AsText (shape a.column.kind)) opened inner mid c.in-Elements.count c.in-Elements.next c.in-Elements.end = (let a = c.args in
+    (AsText (shape a.column.kind)) opened inner mid c.in-Elements.count c.in-Elements.next c.in-Elements.end = (let a = c.args in
     subst (MovesContent (InBinary (shape a.column.kind) a.n a.s.now a.at) (AsText (shape a.column.kind)) opened inner mid) c.in-Elements.is
     c.show_content.ensures) in
     let x = moved.puts in omega (arith, x.long, x.room)
@@ -33,7 +33,7 @@ put_close-e-requires c =
     let inner : ℕ = c.put_open-inner.result in
     let mid : List ℕ = c.show_content.new.row in
     let moved : let a = c.args in ContentMoved (InBinary (shape a.column.kind) a.n a.s.now a.at)
-        (AsText (shape a.column.kind)) opened inner mid c.in-Elements.count c.in-Elements.next c.in-Elements.end = (let a = c.args in
+    (AsText (shape a.column.kind)) opened inner mid c.in-Elements.count c.in-Elements.next c.in-Elements.end = (let a = c.args in
     subst (MovesContent (InBinary (shape a.column.kind) a.n a.s.now a.at) (AsText (shape a.column.kind)) opened inner mid) c.in-Elements.is
     c.show_content.ensures) in
     let x = moved.puts in omega (arith, c.if-row-end-lt8.false, x.long, x.room)
@@ -44,7 +44,7 @@ returns c =
     let inner : ℕ = c.put_open-inner.result in
     let mid : List ℕ = c.show_content.new.row in
     let moved : let a = c.args in ContentMoved (InBinary (shape a.column.kind) a.n a.s.now a.at)
-        (AsText (shape a.column.kind)) opened inner mid c.in-Elements.count c.in-Elements.next c.in-Elements.end = (let a = c.args in
+    (AsText (shape a.column.kind)) opened inner mid c.in-Elements.count c.in-Elements.next c.in-Elements.end = (let a = c.args in
     subst (MovesContent (InBinary (shape a.column.kind) a.n a.s.now a.at) (AsText (shape a.column.kind)) opened inner mid) c.in-Elements.is
     c.show_content.ensures) in
     let a = c.args in
@@ -74,7 +74,7 @@ shape_of-row-then-count-eq0 c =
     let inner : ℕ = c.put_open-inner.result in
     let mid : List ℕ = c.show_content.new.row in
     let moved : let a = c.args in ContentMoved (InBinary (shape a.column.kind) a.n a.s.now a.at)
-        (AsText (shape a.column.kind)) opened inner mid c.in-Elements.count c.in-Elements.next c.in-Elements.end = (let a = c.args in
+    (AsText (shape a.column.kind)) opened inner mid c.in-Elements.count c.in-Elements.next c.in-Elements.end = (let a = c.args in
     subst (MovesContent (InBinary (shape a.column.kind) a.n a.s.now a.at) (AsText (shape a.column.kind)) opened inner mid) c.in-Elements.is
     c.show_content.ensures) in
     let unclosed : Puts c.args.row.now c.args.o [] mid c.args.o = puts-before (puts_then c.put_open-inner.ensures moved.puts) in
@@ -86,7 +86,7 @@ returns-then-count-eq0 c =
     let inner : ℕ = c.put_open-inner.result in
     let mid : List ℕ = c.show_content.new.row in
     let moved : let a = c.args in ContentMoved (InBinary (shape a.column.kind) a.n a.s.now a.at)
-        (AsText (shape a.column.kind)) opened inner mid c.in-Elements.count c.in-Elements.next c.in-Elements.end = (let a = c.args in
+    (AsText (shape a.column.kind)) opened inner mid c.in-Elements.count c.in-Elements.next c.in-Elements.end = (let a = c.args in
     subst (MovesContent (InBinary (shape a.column.kind) a.n a.s.now a.at) (AsText (shape a.column.kind)) opened inner mid) c.in-Elements.is
     c.show_content.ensures) in
     let unclosed : Puts c.args.row.now c.args.o [] mid c.args.o = puts-before (puts_then c.put_open-inner.ensures moved.puts) in
@@ -98,7 +98,7 @@ shape_of-row-then-row-end-lt8 c =
     let inner : ℕ = c.put_open-inner.result in
     let mid : List ℕ = c.show_content.new.row in
     let moved : let a = c.args in ContentMoved (InBinary (shape a.column.kind) a.n a.s.now a.at)
-        (AsText (shape a.column.kind)) opened inner mid c.in-Elements.count c.in-Elements.next c.in-Elements.end = (let a = c.args in
+    (AsText (shape a.column.kind)) opened inner mid c.in-Elements.count c.in-Elements.next c.in-Elements.end = (let a = c.args in
     subst (MovesContent (InBinary (shape a.column.kind) a.n a.s.now a.at) (AsText (shape a.column.kind)) opened inner mid) c.in-Elements.is
     c.show_content.ensures) in
     let unclosed : Puts c.args.row.now c.args.o [] mid c.args.o = puts-before (puts_then c.put_open-inner.ensures moved.puts) in
@@ -110,7 +110,7 @@ returns-then-row-end-lt8 c =
     let inner : ℕ = c.put_open-inner.result in
     let mid : List ℕ = c.show_content.new.row in
     let moved : let a = c.args in ContentMoved (InBinary (shape a.column.kind) a.n a.s.now a.at)
-        (AsText (shape a.column.kind)) opened inner mid c.in-Elements.count c.in-Elements.next c.in-Elements.end = (let a = c.args in
+    (AsText (shape a.column.kind)) opened inner mid c.in-Elements.count c.in-Elements.next c.in-Elements.end = (let a = c.args in
     subst (MovesContent (InBinary (shape a.column.kind) a.n a.s.now a.at) (AsText (shape a.column.kind)) opened inner mid) c.in-Elements.is
     c.show_content.ensures) in
     let unclosed : Puts c.args.row.now c.args.o [] mid c.args.o = puts-before (puts_then c.put_open-inner.ensures moved.puts) in

@@ -1,6 +1,5 @@
 -- `binary::count_up_to` meets its contract: each branch is a test of the definition.
 use Rattle.binary.proofs.Loops.{count-good, count-over, count-short}
-use borrow.Author.Rules.{rules}
 use native.Mathlib.Omega.{arith}
 use Rattle.binary_reading.proofs.count_up_to.Goals as goal
 

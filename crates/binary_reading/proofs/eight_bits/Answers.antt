@@ -1,13 +1,7 @@
 -- `binary::eight_bits` meets its contract. The loop's invariant: the m bits that are left, put from k on, make the whole.
-use Prim.Native.Nat.{◌+◌, ◌≤◌}
 use Rattle.binary.proofs.Loops.{bits-more}
 use Rattle.number.specs.Number.{to_digits}
-use Rattle.table.specs.Outcome.{at}
-use borrow.Author.Rules.{rules}
-use lib.IntN.{pos}
-use lib.ListN.{length, length-set}
-use lib.Seq.{sets}
-use mathlib.Core.List.{map}
+use lib.ListN.{length-set}
 use mathlib.Core.Path.{◌∙◌, ◌≡◌, refl, sym}
 use mir.Facts.{to_z_pos}
 use mir.Syntax.{w64}

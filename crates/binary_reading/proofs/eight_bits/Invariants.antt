@@ -1,17 +1,11 @@
 -- `binary::eight_bits` meets its contract. The loop's invariant: the m bits that are left, put from k on, make the whole.
 use Prim.Native.Nat.{◌+◌, ◌≤◌}
-use Rattle.binary.proofs.Loops.{bits-more}
 use Rattle.number.specs.Number.{to_digits}
-use Rattle.table.specs.Outcome.{at}
-use borrow.Author.Rules.{rules}
 use lib.IntN.{pos}
-use lib.ListN.{length, length-set}
+use lib.ListN.{length}
 use lib.Seq.{sets}
 use mathlib.Core.List.{map}
-use mathlib.Core.Path.{◌∙◌, ◌≡◌, refl, sym}
-use mir.Facts.{to_z_pos}
-use mir.Syntax.{w64}
-use native.Mathlib.Omega.{arith}
+use mathlib.Core.Path.{◌≡◌}
 use Rattle.binary_reading.proofs.eight_bits.Given as goal
 
 abbrev pub invariant-loop-m : goal.invariant-loop-m

@@ -1,7 +1,6 @@
 -- `binary::read_binary` meets its contract: what `read_binary2` finds unflagged, with an empty cell null.
 use Rattle.binary_reading.proofs.Cells.{binary-bad, binary-empty, binary-null, binary-shown}
 use Rattle.table.specs.Clauses.{FoundWithin, found_as}
-use borrow.Author.Rules.{rules}
 use lib.ListN.{drop, take}
 use lib.Seq.{length-take-le}
 use mathlib.Core.Path.{◌∙◌, ap, subst, sym}

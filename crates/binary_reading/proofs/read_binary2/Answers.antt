@@ -2,7 +2,6 @@
 use Rattle.binary_reading.proofs.Cells.{binary2-counted, binary2-uncounted, reads-from}
 use Rattle.binary_reading.specs.Clauses.{CountWithin, count_as}
 use Rattle.table.specs.Cell.{bound}
-use borrow.Author.Rules.{rules}
 use lib.ListN.{drop}
 use mathlib.Core.Path.{◌∙◌, ap, refl, subst}
 use native.Mathlib.Omega.{arith}

@@ -1,19 +1,12 @@
 -- `binary::read_bits` meets its contract. The loop's invariant: the bits of the bytes from k on, put from 8 * k on, make the whole. Then
 -- the padding is the low bits of the last byte.
-use Prim.Native.Nat.{◌*◌, ◌+◌, ◌-◌, ◌≤◌}
-use Rattle.binary.proofs.Digits.{bits-all, bits-next, content-bits, no-padding, spare-test, unit-some}
+use Prim.Native.Nat.{◌*◌, ◌-◌, ◌≤◌}
 use Rattle.binary.specs.Binary.{bits_of}
-use Rattle.table.specs.Result.{good}
-use borrow.Author.Rules.{rules}
-use borrow.Author.Tests.{eq-eqb, ne_eqb}
-use lib.IntN.{pos, ℤ}
+use lib.IntN.{pos}
 use lib.ListN.{drop, length}
-use lib.Seq.{length-sets, sets}
-use mathlib.Core.Bool.{false, true}
-use mathlib.Core.List.{List, map}
-use mathlib.Core.Path.{◌∙◌, ◌≡◌, ap, refl, sym}
-use native.Mathlib.Nat.{le_refl}
-use native.Mathlib.Omega.{arith}
+use lib.Seq.{sets}
+use mathlib.Core.List.{map}
+use mathlib.Core.Path.{◌≡◌}
 use Rattle.binary_reading.proofs.read_bits.Given as goal
 
 abbrev pub invariant-loop-k : goal.invariant-loop-k

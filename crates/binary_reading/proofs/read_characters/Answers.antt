@@ -1,12 +1,12 @@
 -- `binary::read_characters` meets its contract. The loop's invariant is that of `read_truths`, over the bytes before the first NUL.
-use Prim.Native.Nat.{◌-◌, ◌<◌, ◌^◌, ◌≤◌}
-use Rattle.binary.proofs.Loops.{at-nul, letter-bad, letter-good, next-letter, no-letter, onto, onto-none, read-end, read_more, read-refused}
+use Prim.Native.Nat.{◌<◌, ◌^◌}
+use Rattle.binary.proofs.Loops.{at-nul, letter-bad, letter-good, next-letter, no-letter, onto-none, read-end, read_more, read-refused}
 use Rattle.binary.specs.Binary.{before_nul, element}
-use Rattle.table.specs.Result.{every, good}
+use Rattle.table.specs.Result.{good}
 use Rattle.table.specs.Shape.{Text}
-use borrow.Author.Rules.{rules, sfits_of}
-use lib.ListN.{drop, get_or, length, length-set, take}
-use mathlib.Core.Path.{◌∙◌, ◌≡◌, ap, refl, sym}
+use borrow.Author.Rules.{sfits_of}
+use lib.ListN.{get_or, length-set}
+use mathlib.Core.Path.{◌∙◌, ap, refl, sym}
 use mir.Facts.{to_z_pos}
 use mir.Syntax.{w64}
 use native.Mathlib.Omega.{arith}

@@ -1,15 +1,11 @@
 -- `binary::read_characters` meets its contract. The loop's invariant is that of `read_truths`, over the bytes before the first NUL.
-use Prim.Native.Nat.{◌-◌, ◌<◌, ◌^◌, ◌≤◌}
-use Rattle.binary.proofs.Loops.{at-nul, letter-bad, letter-good, next-letter, no-letter, onto, onto-none, read-end, read_more, read-refused}
+use Prim.Native.Nat.{◌-◌, ◌≤◌}
+use Rattle.binary.proofs.Loops.{onto}
 use Rattle.binary.specs.Binary.{before_nul, element}
-use Rattle.table.specs.Result.{every, good}
+use Rattle.table.specs.Result.{every}
 use Rattle.table.specs.Shape.{Text}
-use borrow.Author.Rules.{rules, sfits_of}
-use lib.ListN.{drop, get_or, length, length-set, take}
-use mathlib.Core.Path.{◌∙◌, ◌≡◌, ap, refl, sym}
-use mir.Facts.{to_z_pos}
-use mir.Syntax.{w64}
-use native.Mathlib.Omega.{arith}
+use lib.ListN.{drop, length, take}
+use mathlib.Core.Path.{◌≡◌}
 use Rattle.binary_reading.proofs.read_characters.Given as goal
 
 abbrev pub invariant-loop-k : goal.invariant-loop-k

@@ -1,6 +1,5 @@
 -- `binary::read_count` meets its contract: in each arm the length is known.
 use Rattle.binary.specs.Binary.{count_in}
-use borrow.Author.Rules.{rules}
 use mathlib.Core.Path.{refl}
 use native.Mathlib.Nat.{le_refl}
 use Rattle.binary_reading.proofs.read_count.Goals as goal

@@ -1,7 +1,6 @@
 -- `binary::read_counted` meets its contract: each branch is a step of the definition. Under a flag nothing but the place is known.
 use Rattle.binary_reading.proofs.Cells.{counted-bad, counted-flagged, counted-null, counted-short, counted-shown, part-is, part_length}
 use Rattle.binary_reading.specs.Clauses.{ContentWithin, content_as}
-use borrow.Author.Rules.{rules}
 use lib.ListN.{take}
 use mathlib.Core.Path.{◌∙◌, ap, refl, subst, sym}
 use native.Mathlib.Omega.{arith}

@@ -1,18 +1,12 @@
 -- `binary::read_truths` meets its contract. The loop's invariant: the elements of the whole part are those in the scratch, and behind
 -- them what the bytes from k on give.
-use Prim.Native.Nat.{◌-◌, ◌<◌, ◌≤◌, ℕ}
-use Rattle.binary.proofs.Loops.{next-byte, no_byte, onto, onto-none, read-end, read_more, read-refused}
+use Prim.Native.Nat.{◌-◌, ◌≤◌}
+use Rattle.binary.proofs.Loops.{onto}
 use Rattle.binary.specs.Binary.{element}
-use Rattle.table.specs.Result.{every, good}
+use Rattle.table.specs.Result.{every}
 use Rattle.table.specs.Shape.{Truths}
-use borrow.Author.Rules.{rules, sfits_of}
-use borrow.Author.Tests.{le-ltb, lt-ltb}
-use lib.ListN.{drop, length, length-set, take}
-use mathlib.Core.List.{List}
-use mathlib.Core.Path.{◌∙◌, ◌≡◌, ap, refl, sym}
-use mir.Facts.{to_z_pos}
-use mir.Syntax.{w64}
-use native.Mathlib.Omega.{arith}
+use lib.ListN.{drop, length, take}
+use mathlib.Core.Path.{◌≡◌}
 use Rattle.binary_reading.proofs.read_truths.Given as goal
 
 abbrev pub invariant-loop-k : goal.invariant-loop-k

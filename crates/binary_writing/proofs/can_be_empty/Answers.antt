@@ -1,6 +1,5 @@
 -- `binary_writing::can_be_empty` meets its contract: in each arm the length is known.
 use Rattle.binary.specs.Binary.{can_be_empty}
-use borrow.Author.Rules.{rules}
 use Rattle.binary_writing.proofs.can_be_empty.Goals as goal
 
 pub returns-in-Fixed : goal.returns-in-Fixed

@@ -1,7 +1,6 @@
 -- `binary_writing::elements_size` meets its contract: in each arm the length is known, and a count takes four bytes.
 use Prim.Native.Nat.{◌+◌, ℕ}
 use Rattle.binary_writing.proofs.Sizes.{elements-bounded, elements-fixed, elements-free, filled-char, filled-other}
-use borrow.Author.Rules.{rules}
 use mathlib.Core.Path.{◌∙◌, ap, sym}
 use native.Mathlib.Omega.{arith}
 use Rattle.binary_writing.proofs.elements_size.Goals as goal

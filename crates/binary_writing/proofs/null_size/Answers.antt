@@ -5,7 +5,6 @@ use Rattle.binary_writing.proofs.Writing.{empty-zeros, null-bound, null-empty, n
 use Rattle.table.specs.Cell.{null_as}
 use Rattle.table.specs.Clauses.{size_of}
 use Rattle.table.specs.Result.{good}
-use borrow.Author.Rules.{rules}
 use lib.ListN.{length}
 use mathlib.Core.List.{[], ◌∷◌}
 use mathlib.Core.Path.{◌∙◌, ap, sym}

@@ -1,20 +1,10 @@
 -- `binary_writing::packed_byte` meets its contract. The loop's invariant: the bits from the j-th on, behind those in b, spell the whole number.
-use Prim.Native.Nat.{◌*◌, ◌+◌, ◌-◌, ◌<◌, ◌^◌, ◌≤◌, ℕ}
-use Rattle.binary_writing.proofs.Writing.{bits-grow, few_bits, packed-exact, packed-next, packed-small}
+use Prim.Native.Nat.{◌+◌, ◌-◌, ◌<◌, ◌^◌, ◌≤◌}
 use Rattle.binary.specs.Binary.{bit_of}
 use Rattle.number.specs.Number.{of_digits}
-use Rattle.table.specs.Outcome.{at}
-use borrow.Author.Rules.{rules, sfits_of}
-use lib.Dec.{lit<}
-use lib.IntN.{pos}
-use lib.ListN.{drop, get_or, take}
+use lib.ListN.{drop, take}
 use mathlib.Core.List.{map}
-use mathlib.Core.Path.{◌∙◌, ◌≡◌, ap, sym}
-use mir.Facts.{to_z-of_z}
-use mir.Syntax.{w64}
-use mir.Val.{of_z, to_z}
-use native.Mathlib.Nat.{add-zero, sub-zero}
-use native.Mathlib.Omega.{arith}
+use mathlib.Core.Path.{◌≡◌}
 use Rattle.binary_writing.proofs.packed_byte.Given as goal
 
 abbrev pub invariant-loop-j : goal.invariant-loop-j

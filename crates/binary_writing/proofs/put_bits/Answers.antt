@@ -1,12 +1,11 @@
 -- `binary_writing::put_bits` meets its contract. The loop's invariant: the bytes of the bits from the 8 * k-th on, put from k on, make the whole.
 -- Fewer than eight that are left stand high in a last byte.
-use Prim.Native.Nat.{◌%◌, ◌*◌, ◌+◌, ◌-◌, ◌/◌, ◌≤◌, ℕ}
+use Prim.Native.Nat.{◌%◌, ◌*◌, ◌+◌, ◌/◌, ℕ}
 use Rattle.binary.proofs.Digits.{some_of}
 use Rattle.binary_writing.proofs.Writing.{length-packed-bits, pack-left, pack-next, pack-none}
 use Rattle.binary.specs.Binary.{bit_bytes, bit_of, pack}
-use Rattle.table.specs.Outcome.{at}
 use lib.Dec.{lit≤}
-use lib.ListN.{drop, length, length-set, take}
+use lib.ListN.{drop, length-set, take}
 use lib.Seq.{sets}
 use mathlib.Core.List.{map}
 use mathlib.Core.Path.{◌∙◌, ◌≡◌, ap, refl, sym}

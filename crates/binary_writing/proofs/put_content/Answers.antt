@@ -8,7 +8,6 @@ use Rattle.number.specs.Clauses.{is_signed, shape_as, width_of}
 use Rattle.number.specs.declared.Elements.{Elements}
 use Rattle.table.proofs.Wrote.{wrote_as, wrote_then_lem}
 use Rattle.table.specs.Shape.{Shape}
-use borrow.Author.Rules.{rules}
 use lib.ListN.{length, take}
 use mathlib.Core.Path.{◌∙◌, ◌≡◌, subst}
 use native.Mathlib.Omega.{arith}

@@ -1,7 +1,6 @@
 -- `binary_writing::put_count` meets its contract: only bounded and free columns have a count.
 use Rattle.binary_writing.proofs.Writing.{count-bounded, count-free}
 use Rattle.binary.specs.Binary.{count_bytes}
-use borrow.Author.Rules.{rules}
 use mathlib.Core.Path.{refl, sym}
 use native.Mathlib.Nat.{add-zero}
 use native.Mathlib.Omega.{arith}

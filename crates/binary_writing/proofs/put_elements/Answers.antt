@@ -6,7 +6,6 @@ use Rattle.binary_writing.proofs.Writing.{elements-as}
 use Rattle.binary.specs.Clauses.{filled_bytes}
 use Rattle.binary_writing.specs.Clauses.{elements_size}
 use Rattle.table.proofs.Wrote.{wrote_as, wrote_then_lem}
-use borrow.Author.Rules.{rules}
 use mathlib.Core.Path.{◌∙◌, ap}
 use native.Mathlib.Omega.{arith}
 use Rattle.binary_writing.proofs.put_elements.Goals as goal

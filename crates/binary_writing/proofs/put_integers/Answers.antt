@@ -1,5 +1,5 @@
 -- `binary_writing::put_integers` meets its contract, once over the width. The loop's invariant: the bytes of the elements from k on, put from o on, make the whole.
-use Prim.Native.Nat.{◌*◌, ◌+◌, ◌-◌, ◌≤◌, ℕ}
+use Prim.Native.Nat.{◌*◌, ◌+◌, ◌-◌, ℕ}
 use Rattle.binary.proofs.Loops.{place-fits}
 use Rattle.binary_writing.proofs.Writing.{integer-next, length-integers-written}
 use Rattle.binary.specs.Binary.{groups}
@@ -7,13 +7,11 @@ use Rattle.number.proofs.Laws.{length_to}
 use Rattle.table.proofs.Wrote.{wrote_as}
 use Rattle.number.specs.Clauses.{size}
 use Rattle.number.specs.Number.{pattern, to_digits}
-use Rattle.table.specs.Outcome.{at}
 use Rattle.table.specs.Wrote.{Wrote}
-use borrow.Author.Rules.{rules, sfits_of}
+use borrow.Author.Rules.{sfits_of}
 use lib.IntN.{pos, ℤ}
-use lib.ListN.{drop, get_or, length, take}
-use lib.Seq.{length-sets, sets}
-use mathlib.Core.List.{map}
+use lib.ListN.{get_or, length}
+use lib.Seq.{length-sets}
 use mathlib.Core.Path.{◌∙◌, ◌≡◌, ap, refl, sym}
 use mir.Facts.{to_z-of_z}
 use mir.Syntax.{w64}

@@ -6,7 +6,6 @@ use Rattle.binary_writing.proofs.Writing.{zeros-as}
 use Rattle.binary.specs.Binary.{content_bytes}
 use Rattle.binary_writing.specs.Clauses.{room_size}
 use Rattle.table.proofs.Wrote.{wrote_as, wrote_then_lem}
-use borrow.Author.Rules.{rules}
 use mathlib.Core.Path.{◌∙◌, ap}
 use native.Mathlib.Omega.{arith}
 use Rattle.binary_writing.proofs.put_null.Goals as goal

@@ -1,12 +1,10 @@
 -- `binary_writing::put_truths` meets its contract. The loop's invariant: the bytes of the elements from k on, put there, make the whole.
-use Prim.Native.Nat.{◌+◌, ◌-◌, ◌≤◌, ℕ}
+use Prim.Native.Nat.{◌+◌, ◌-◌, ℕ}
 use Rattle.binary_writing.proofs.Writing.{truth-next}
 use Rattle.table.specs.Cell.{truth_byte}
-use Rattle.table.specs.Outcome.{at}
-use borrow.Author.Rules.{rules, sfits_of}
-use lib.ListN.{drop, length, length-map, length-set, take}
-use lib.Seq.{length-take-le, sets}
-use mathlib.Core.List.{map}
+use borrow.Author.Rules.{sfits_of}
+use lib.ListN.{length-map, length-set, take}
+use lib.Seq.{length-take-le}
 use mathlib.Core.Path.{◌∙◌, ◌≡◌, ap, refl, sym}
 use mir.Facts.{to_z-of_z}
 use mir.Syntax.{w64}

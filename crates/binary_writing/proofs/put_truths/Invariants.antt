@@ -1,17 +1,10 @@
 -- `binary_writing::put_truths` meets its contract. The loop's invariant: the bytes of the elements from k on, put there, make the whole.
-use Prim.Native.Nat.{◌+◌, ◌-◌, ◌≤◌, ℕ}
-use Rattle.binary_writing.proofs.Writing.{truth-next}
+use Prim.Native.Nat.{◌+◌, ◌-◌, ◌≤◌}
 use Rattle.table.specs.Cell.{truth_byte}
-use Rattle.table.specs.Outcome.{at}
-use borrow.Author.Rules.{rules, sfits_of}
-use lib.ListN.{drop, length, length-map, length-set, take}
-use lib.Seq.{length-take-le, sets}
+use lib.ListN.{drop, length, take}
+use lib.Seq.{sets}
 use mathlib.Core.List.{map}
-use mathlib.Core.Path.{◌∙◌, ◌≡◌, ap, refl, sym}
-use mir.Facts.{to_z-of_z}
-use mir.Syntax.{w64}
-use native.Mathlib.Nat.{add-zero, sub-zero}
-use native.Mathlib.Omega.{arith}
+use mathlib.Core.Path.{◌≡◌}
 use Rattle.binary_writing.proofs.put_truths.Given as goal
 
 abbrev pub invariant-loop-k : goal.invariant-loop-k

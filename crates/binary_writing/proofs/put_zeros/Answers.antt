@@ -1,10 +1,7 @@
 -- `binary_writing::put_zeros` meets its contract. The loop's invariant: the zeros that are left, put from o on, make the whole.
-use Prim.Native.Nat.{◌+◌, ◌-◌, ◌≤◌, ℕ}
+use Prim.Native.Nat.{◌+◌, ◌-◌, ℕ}
 use Rattle.binary_writing.proofs.Writing.{zero-next}
-use Rattle.table.specs.Outcome.{at}
-use borrow.Author.Rules.{rules}
-use lib.ListN.{length, length-replicate, length-set, replicate}
-use lib.Seq.{sets}
+use lib.ListN.{length-replicate, length-set}
 use mathlib.Core.Path.{◌∙◌, ◌≡◌, ap, refl, sym}
 use native.Mathlib.Omega.{arith}
 use Rattle.binary_writing.proofs.put_zeros.Goals as goal

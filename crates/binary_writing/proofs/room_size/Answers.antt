@@ -1,8 +1,6 @@
 -- `binary_writing::room_size` meets its contract: in each arm the length is known, and a count takes four bytes.
 use Prim.Native.Nat.{◌+◌, ℕ}
 use Rattle.binary_writing.proofs.Sizes.{room-bounded, room-fixed, room-free}
-use Rattle.table.specs.Outcome.{at}
-use borrow.Author.Rules.{rules}
 use mathlib.Core.Path.{◌∙◌, ap, sym}
 use native.Mathlib.Omega.{arith}
 use Rattle.binary_writing.proofs.room_size.Goals as goal

@@ -3,7 +3,6 @@ use Rattle.binary_writing.proofs.Sizes.{held-length}
 use Rattle.binary_writing.proofs.Writing.{write-empty, write-null, write-shown}
 use Rattle.table.specs.Clauses.{size_of}
 use Rattle.table.specs.Result.{good}
-use borrow.Author.Rules.{rules}
 use mathlib.Core.Path.{◌∙◌, ap, sym}
 use Rattle.binary_writing.proofs.size_binary.Goals as goal
 

@@ -1,7 +1,6 @@
 -- `binary_writing::size_binary2` meets its contract: null as zeros, or the elements.
 use Rattle.binary_writing.proofs.Sizes.{held-length, zeros-length}
 use Rattle.binary_writing.proofs.Writing.{write2-null, write2-shown}
-use borrow.Author.Rules.{rules}
 use lib.ListN.{length}
 use mathlib.Core.Path.{◌∙◌, ap, sym}
 use Rattle.binary_writing.proofs.size_binary2.Goals as goal

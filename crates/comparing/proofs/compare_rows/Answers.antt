@@ -14,7 +14,7 @@ use Rattle.comparing.proofs.compare_rows.Goals as goal
 pub returns-then-p-ne0 : goal.returns-then-p-ne0
 returns-then-p-ne0 c =
     let first_walk : c.pass_rows-p.result ≡ answer_of (passed 0 (read c.args.from (listed c.args.cols) c.args.first.now)) =
-        c.pass_rows-p.ensures.value ∙ ap answer_of (sym c.count_differing-s.ensures.counts.first-passed.ahead) in
+    c.pass_rows-p.ensures.value ∙ ap answer_of (sym c.count_differing-s.ensures.counts.first-passed.ahead) in
     let p = c.pass_rows-p in
     let refusal = first-refused (listed c.args.cols) c.args.from c.args.first.now c.args.kind c.args.second.now c.args.places.now p.result
     (walk_refused c.args.from (listed c.args.cols) c.args.first.now p.result first_walk c.if-p-ne0.true) in
@@ -26,13 +26,13 @@ returns-then-p-ne0 c =
 pub returns-then-q-ne0 : goal.returns-then-q-ne0
 returns-then-q-ne0 c =
     let first_walk : c.pass_rows-p.result ≡ answer_of (passed 0 (read c.args.from (listed c.args.cols) c.args.first.now)) =
-        c.pass_rows-p.ensures.value ∙ ap answer_of (sym c.count_differing-s.ensures.counts.first-passed.ahead) in
+    c.pass_rows-p.ensures.value ∙ ap answer_of (sym c.count_differing-s.ensures.counts.first-passed.ahead) in
     let second_walk : c.pass_rows-q.result ≡ answer_of (passed 0 (read c.args.kind (listed c.args.cols) c.args.second.now)) =
-        c.pass_rows-q.ensures.value ∙ ap answer_of (sym c.count_differing-s.ensures.counts.second-passed.ahead) in
+    c.pass_rows-q.ensures.value ∙ ap answer_of (sym c.count_differing-s.ensures.counts.second-passed.ahead) in
     let first_read : c.pass_rows-p.result.number ≡ 0 → (rows_shown 0 (read c.args.from (listed c.args.cols) c.args.first.now) ≡ good
-        (in_order (read c.args.from (listed c.args.cols) c.args.first.now)))
-        × (c.pass_rows-p.result.rows ≡ length (in_order (read c.args.from (listed c.args.cols) c.args.first.now))) =
-        λ h. walk-read c.args.from (listed c.args.cols) c.args.first.now c.pass_rows-p.result first_walk h in
+    (in_order (read c.args.from (listed c.args.cols) c.args.first.now)))
+    × (c.pass_rows-p.result.rows ≡ length (in_order (read c.args.from (listed c.args.cols) c.args.first.now))) =
+    λ h. walk-read c.args.from (listed c.args.cols) c.args.first.now c.pass_rows-p.result first_walk h in
     let q = c.pass_rows-q in
     let refusal = second-refused (listed c.args.cols) c.args.from c.args.first.now c.args.kind c.args.second.now c.args.places.now
     (first_read c.if-p-ne0.false).0 q.result
@@ -49,13 +49,13 @@ fill-requires c =
 pub returns : goal.returns
 returns c =
     let first_walk : c.pass_rows-p.result ≡ answer_of (passed 0 (read c.args.from (listed c.args.cols) c.args.first.now)) =
-        c.pass_rows-p.ensures.value ∙ ap answer_of (sym c.count_differing-s.ensures.counts.first-passed.ahead) in
+    c.pass_rows-p.ensures.value ∙ ap answer_of (sym c.count_differing-s.ensures.counts.first-passed.ahead) in
     let second_walk : c.pass_rows-q.result ≡ answer_of (passed 0 (read c.args.kind (listed c.args.cols) c.args.second.now)) =
-        c.pass_rows-q.ensures.value ∙ ap answer_of (sym c.count_differing-s.ensures.counts.second-passed.ahead) in
+    c.pass_rows-q.ensures.value ∙ ap answer_of (sym c.count_differing-s.ensures.counts.second-passed.ahead) in
     let first_read : c.pass_rows-p.result.number ≡ 0 → (rows_shown 0 (read c.args.from (listed c.args.cols) c.args.first.now) ≡ good
-        (in_order (read c.args.from (listed c.args.cols) c.args.first.now)))
-        × (c.pass_rows-p.result.rows ≡ length (in_order (read c.args.from (listed c.args.cols) c.args.first.now))) =
-        λ h. walk-read c.args.from (listed c.args.cols) c.args.first.now c.pass_rows-p.result first_walk h in
+    (in_order (read c.args.from (listed c.args.cols) c.args.first.now)))
+    × (c.pass_rows-p.result.rows ≡ length (in_order (read c.args.from (listed c.args.cols) c.args.first.now))) =
+    λ h. walk-read c.args.from (listed c.args.cols) c.args.first.now c.pass_rows-p.result first_walk h in
     let f = c.fill in
     let p = c.pass_rows-p in
     let q = c.pass_rows-q in

@@ -14,7 +14,7 @@ use Rattle.comparing.proofs.step_rows.Given as goal
 abbrev pub invariant-loop-cols : goal.invariant-loop-cols
 invariant-loop-cols l =
     SteppedTo l.from l.kind (listed l.cols) l.first l.second l.initial.here l.initial.places l.places l.differing l.here l.same × (length l.places ≡ length l.initial.places)
-        × (length l.a ≡ length l.initial.a) × (length l.b ≡ length l.initial.b)
+    × (length l.a ≡ length l.initial.a) × (length l.b ≡ length l.initial.b)
 
 abbrev pub decreases-loop-cols : goal.decreases-loop-cols
 decreases-loop-cols l = length l.first - l.here.first

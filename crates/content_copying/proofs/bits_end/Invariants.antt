@@ -1,11 +1,8 @@
 -- `content_copying::bits_end` meets its contract: the bytes passed over are bits, eight more at a turn.
-use Prim.Native.Nat.{◌+◌, ◌-◌}
-use native.Mathlib.Omega.{arith}
+use Prim.Native.Nat.{◌-◌}
 use lib.ListN.{length}
-use Rattle.content_copying.proofs.Runs.{pass-eight, pass-more, pass-none}
 use Rattle.content_copying.specs.Passing.{PassTo}
 use Rattle.integer_reading.specs.Figures.{is_bit}
-use borrow.Author.Rules.{rules}
 use Rattle.content_copying.proofs.bits_end.Given as goal
 
 abbrev pub invariant-loop-at : goal.invariant-loop-at

@@ -1,17 +1,15 @@
 -- `content_copying::copy_integers` meets its contract, once over the width: before each turn the words passed over stand in the buffer, a space behind each.
-use Prim.Native.Nat.{◌+◌, ◌-◌}
+use Prim.Native.Nat.{◌+◌}
 use native.Mathlib.Omega.{arith}
 use mathlib.Core.List.{[]}
 use mathlib.Core.Path.{◌∙◌, subst}
-use lib.ListN.{length}
-use Rattle.content_copying.proofs.Spaced.{Between, Worded, WordsTo, whole-worded, words-between, words-few, words_more, words-moved, words-start}
+use Rattle.content_copying.proofs.Spaced.{Worded, WordsTo, whole-worded, words-between, words-few, words_more, words-moved, words-start}
 use Rattle.content_copying.specs.Wording.{CopiesWord, WordCopied}
 use Rattle.moving.proofs.Puts.{puts-before, puts_then}
 use Rattle.moving.specs.Puts.{Puts}
 use Rattle.number.specs.Clauses.{is_signed, width_of}
 use Rattle.number.specs.Number.{shortest}
 use Rattle.number.specs.declared.Integer.{Integer}
-use Rattle.table.specs.Shape.{Shape, Whole}
 use borrow.Author.Rules.{rules}
 use Rattle.content_copying.proofs.copy_integers.Goals as goal
 use Rattle.content_copying.proofs.copy_integers.Invariants.{kind}
@@ -49,7 +47,7 @@ overflow_add-count c =
     let how : Worded (kind c.args.integer) shortest = worded c.args.integer in
     let one : WordCopied c.args.integer c.args.s.now c.loop-row.at c.loop-row.row c.loop-row.o c.copy_word.new.row c.in-Is.next c.in-Is.e = c.in-Is.ensures in
     let copied : let a = c.args in WordsTo (kind a.integer) shortest a.s.now a.from c.in-Is.next a.row.now a.first c.copy_word.new.row c.in-Is.e (c.loop-row.count + 1) =
-        words_more how c.loop-row.invariant one.reads one.puts in
+    words_more how c.loop-row.invariant one.reads one.puts in
     let r = copied in let h = words-few r in let k = r.puts.room in search rules
 
 pub shape_of-row-then-s-next : goal.shape_of-row-then-s-next
@@ -57,7 +55,7 @@ shape_of-row-then-s-next c =
     let how : Worded (kind c.args.integer) shortest = worded c.args.integer in
     let one : WordCopied c.args.integer c.args.s.now c.loop-row.at c.loop-row.row c.loop-row.o c.copy_word.new.row c.in-Is.next c.in-Is.e = c.in-Is.ensures in
     let copied : let a = c.args in WordsTo (kind a.integer) shortest a.s.now a.from c.in-Is.next a.row.now a.first c.copy_word.new.row c.in-Is.e (c.loop-row.count + 1) =
-        words_more how c.loop-row.invariant one.reads one.puts in
+    words_more how c.loop-row.invariant one.reads one.puts in
     copied.puts.long
 
 pub returns-then-s-next : goal.returns-then-s-next
@@ -65,7 +63,7 @@ returns-then-s-next c =
     let how : Worded (kind c.args.integer) shortest = worded c.args.integer in
     let one : WordCopied c.args.integer c.args.s.now c.loop-row.at c.loop-row.row c.loop-row.o c.copy_word.new.row c.in-Is.next c.in-Is.e = c.in-Is.ensures in
     let copied : let a = c.args in WordsTo (kind a.integer) shortest a.s.now a.from c.in-Is.next a.row.now a.first c.copy_word.new.row c.in-Is.e (c.loop-row.count + 1) =
-        words_more how c.loop-row.invariant one.reads one.puts in
+    words_more how c.loop-row.invariant one.reads one.puts in
     puts-before copied.puts
 
 pub overflow_sub-result : goal.overflow_sub-result
@@ -73,7 +71,7 @@ overflow_sub-result c =
     let how : Worded (kind c.args.integer) shortest = worded c.args.integer in
     let one : WordCopied c.args.integer c.args.s.now c.loop-row.at c.loop-row.row c.loop-row.o c.copy_word.new.row c.in-Is.next c.in-Is.e = c.in-Is.ensures in
     let copied : let a = c.args in WordsTo (kind a.integer) shortest a.s.now a.from c.in-Is.next a.row.now a.first c.copy_word.new.row c.in-Is.e (c.loop-row.count + 1) =
-        words_more how c.loop-row.invariant one.reads one.puts in
+    words_more how c.loop-row.invariant one.reads one.puts in
     omega (arith, words-few copied)
 
 pub shape_of-row-then-s-next-ne32 : goal.shape_of-row-then-s-next-ne32
@@ -81,7 +79,7 @@ shape_of-row-then-s-next-ne32 c =
     let how : Worded (kind c.args.integer) shortest = worded c.args.integer in
     let one : WordCopied c.args.integer c.args.s.now c.loop-row.at c.loop-row.row c.loop-row.o c.copy_word.new.row c.in-Is.next c.in-Is.e = c.in-Is.ensures in
     let copied : let a = c.args in WordsTo (kind a.integer) shortest a.s.now a.from c.in-Is.next a.row.now a.first c.copy_word.new.row c.in-Is.e (c.loop-row.count + 1) =
-        words_more how c.loop-row.invariant one.reads one.puts in
+    words_more how c.loop-row.invariant one.reads one.puts in
     copied.puts.long
 
 pub returns-then-s-next-ne32 : goal.returns-then-s-next-ne32
@@ -89,7 +87,7 @@ returns-then-s-next-ne32 c =
     let how : Worded (kind c.args.integer) shortest = worded c.args.integer in
     let one : WordCopied c.args.integer c.args.s.now c.loop-row.at c.loop-row.row c.loop-row.o c.copy_word.new.row c.in-Is.next c.in-Is.e = c.in-Is.ensures in
     let copied : let a = c.args in WordsTo (kind a.integer) shortest a.s.now a.from c.in-Is.next a.row.now a.first c.copy_word.new.row c.in-Is.e (c.loop-row.count + 1) =
-        words_more how c.loop-row.invariant one.reads one.puts in
+    words_more how c.loop-row.invariant one.reads one.puts in
     words-moved how copied (omega arith)
 
 pub loop-row-smaller : goal.loop-row-smaller
@@ -102,5 +100,5 @@ loop-row-preserved c =
     let how : Worded (kind c.args.integer) shortest = worded c.args.integer in
     let one : WordCopied c.args.integer c.args.s.now c.loop-row.at c.loop-row.row c.loop-row.o c.copy_word.new.row c.in-Is.next c.in-Is.e = c.in-Is.ensures in
     let copied : let a = c.args in WordsTo (kind a.integer) shortest a.s.now a.from c.in-Is.next a.row.now a.first c.copy_word.new.row c.in-Is.e (c.loop-row.count + 1) =
-        words_more how c.loop-row.invariant one.reads one.puts in
+    words_more how c.loop-row.invariant one.reads one.puts in
     words-between how copied (omega arith) c.if-s-next-ne32.false

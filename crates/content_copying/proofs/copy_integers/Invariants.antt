@@ -1,18 +1,11 @@
 -- `content_copying::copy_integers` meets its contract, once over the width: before each turn the words passed over stand in the buffer, a space behind each.
-use Prim.Native.Nat.{◌+◌, ◌-◌}
-use native.Mathlib.Omega.{arith}
-use mathlib.Core.List.{[]}
-use mathlib.Core.Path.{◌∙◌, subst}
+use Prim.Native.Nat.{◌-◌}
 use lib.ListN.{length}
-use Rattle.content_copying.proofs.Spaced.{Between, Worded, WordsTo, whole-worded, words-between, words-few, words_more, words-moved, words-start}
-use Rattle.content_copying.specs.Wording.{CopiesWord, WordCopied}
-use Rattle.moving.proofs.Puts.{puts-before, puts_then}
-use Rattle.moving.specs.Puts.{Puts}
+use Rattle.content_copying.proofs.Spaced.{Between}
 use Rattle.number.specs.Clauses.{is_signed, width_of}
 use Rattle.number.specs.Number.{shortest}
 use Rattle.number.specs.declared.Integer.{Integer}
 use Rattle.table.specs.Shape.{Shape, Whole}
-use borrow.Author.Rules.{rules}
 use Rattle.content_copying.proofs.copy_integers.Given as goal
 
 abbrev pub kind : Integer → Shape

@@ -1,7 +1,7 @@
 -- `content_copying::copy_text` meets its contract: before each turn the characters passed over stand in the buffer as they are written.
 use Prim.Native.Nat.{◌+◌, ◌-◌, ◌≤◌}
 use native.Mathlib.Omega.{arith}
-use mathlib.Core.Path.{◌∙◌, subst}
+use mathlib.Core.Path.{◌∙◌}
 use lib.ListN.{length}
 use Rattle.content_copying.proofs.Runs.{pass-copied}
 use Rattle.content_copying.proofs.Texts.{TextTo, text-letter, text-moved, text-run, text-start}
@@ -50,7 +50,7 @@ copy_wide-e-requires c =
 pub overflow_add-count : goal.overflow_add-count
 overflow_add-count c =
     let copied : let a = c.args in TextTo a.s.now a.from c.itself_end-end.result a.row.now a.first c.copy_wide-e.new.row c.copy_wide-e.result
-        (c.loop-from.count + (c.itself_end-end.result - c.loop-from.at)) = text-run c.loop-from.invariant c.itself_end-end.ensures c.copy_wide-e.ensures in
+    (c.loop-from.count + (c.itself_end-end.result - c.loop-from.at)) = text-run c.loop-from.invariant c.itself_end-end.ensures c.copy_wide-e.ensures in
     let r = copied in let h = r.few in let k = r.spells.inside in search rules
 
 pub bounds-s-end : goal.bounds-s-end
@@ -59,25 +59,25 @@ bounds-s-end c = let p = c.itself_end-end.ensures in omega (arith, p.high)
 pub shape_of-row-then-count-eq0 : goal.shape_of-row-then-count-eq0
 shape_of-row-then-count-eq0 c =
     let copied : let a = c.args in TextTo a.s.now a.from c.itself_end-end.result a.row.now a.first c.copy_wide-e.new.row c.copy_wide-e.result
-        (c.loop-from.count + (c.itself_end-end.result - c.loop-from.at)) = text-run c.loop-from.invariant c.itself_end-end.ensures c.copy_wide-e.ensures in
+    (c.loop-from.count + (c.itself_end-end.result - c.loop-from.at)) = text-run c.loop-from.invariant c.itself_end-end.ensures c.copy_wide-e.ensures in
     copied.puts.long
 
 pub returns-then-count-eq0 : goal.returns-then-count-eq0
 returns-then-count-eq0 c =
     let copied : let a = c.args in TextTo a.s.now a.from c.itself_end-end.result a.row.now a.first c.copy_wide-e.new.row c.copy_wide-e.result
-        (c.loop-from.count + (c.itself_end-end.result - c.loop-from.at)) = text-run c.loop-from.invariant c.itself_end-end.ensures c.copy_wide-e.ensures in
+    (c.loop-from.count + (c.itself_end-end.result - c.loop-from.at)) = text-run c.loop-from.invariant c.itself_end-end.ensures c.copy_wide-e.ensures in
     puts-before copied.puts
 
 pub shape_of-row-then-s-end-eq60 : goal.shape_of-row-then-s-end-eq60
 shape_of-row-then-s-end-eq60 c =
     let copied : let a = c.args in TextTo a.s.now a.from c.itself_end-end.result a.row.now a.first c.copy_wide-e.new.row c.copy_wide-e.result
-        (c.loop-from.count + (c.itself_end-end.result - c.loop-from.at)) = text-run c.loop-from.invariant c.itself_end-end.ensures c.copy_wide-e.ensures in
+    (c.loop-from.count + (c.itself_end-end.result - c.loop-from.at)) = text-run c.loop-from.invariant c.itself_end-end.ensures c.copy_wide-e.ensures in
     copied.puts.long
 
 pub returns-then-s-end-eq60 : goal.returns-then-s-end-eq60
 returns-then-s-end-eq60 c =
     let copied : let a = c.args in TextTo a.s.now a.from c.itself_end-end.result a.row.now a.first c.copy_wide-e.new.row c.copy_wide-e.result
-        (c.loop-from.count + (c.itself_end-end.result - c.loop-from.at)) = text-run c.loop-from.invariant c.itself_end-end.ensures c.copy_wide-e.ensures in
+    (c.loop-from.count + (c.itself_end-end.result - c.loop-from.at)) = text-run c.loop-from.invariant c.itself_end-end.ensures c.copy_wide-e.ensures in
     text-moved copied
 
 pub other_letter-requires : goal.other_letter-requires
@@ -86,13 +86,13 @@ other_letter-requires c = let p = c.itself_end-end.ensures in omega (arith, p.hi
 pub shape_of-row-in_default : goal.shape_of-row-in_default
 shape_of-row-in_default c =
     let copied : let a = c.args in TextTo a.s.now a.from c.itself_end-end.result a.row.now a.first c.copy_wide-e.new.row c.copy_wide-e.result
-        (c.loop-from.count + (c.itself_end-end.result - c.loop-from.at)) = text-run c.loop-from.invariant c.itself_end-end.ensures c.copy_wide-e.ensures in
+    (c.loop-from.count + (c.itself_end-end.result - c.loop-from.at)) = text-run c.loop-from.invariant c.itself_end-end.ensures c.copy_wide-e.ensures in
     copied.puts.long
 
 pub returns-in_default : goal.returns-in_default
 returns-in_default c =
     let copied : let a = c.args in TextTo a.s.now a.from c.itself_end-end.result a.row.now a.first c.copy_wide-e.new.row c.copy_wide-e.result
-        (c.loop-from.count + (c.itself_end-end.result - c.loop-from.at)) = text-run c.loop-from.invariant c.itself_end-end.ensures c.copy_wide-e.ensures in
+    (c.loop-from.count + (c.itself_end-end.result - c.loop-from.at)) = text-run c.loop-from.invariant c.itself_end-end.ensures c.copy_wide-e.ensures in
     puts-before copied.puts
 
 pub put_reference-o-requires : goal.put_reference-o-requires
@@ -103,19 +103,19 @@ put_reference-o-requires c =
 pub shape_of-row-then-o-e : goal.shape_of-row-then-o-e
 shape_of-row-then-o-e c =
     let copied : let a = c.args in TextTo a.s.now a.from c.itself_end-end.result a.row.now a.first c.copy_wide-e.new.row c.copy_wide-e.result
-        (c.loop-from.count + (c.itself_end-end.result - c.loop-from.at)) = text-run c.loop-from.invariant c.itself_end-end.ensures c.copy_wide-e.ensures in
+    (c.loop-from.count + (c.itself_end-end.result - c.loop-from.at)) = text-run c.loop-from.invariant c.itself_end-end.ensures c.copy_wide-e.ensures in
     c.put_reference-o.ensures.long ∙ copied.puts.long
 
 pub returns-then-o-e : goal.returns-then-o-e
 returns-then-o-e c =
     let copied : let a = c.args in TextTo a.s.now a.from c.itself_end-end.result a.row.now a.first c.copy_wide-e.new.row c.copy_wide-e.result
-        (c.loop-from.count + (c.itself_end-end.result - c.loop-from.at)) = text-run c.loop-from.invariant c.itself_end-end.ensures c.copy_wide-e.ensures in
+    (c.loop-from.count + (c.itself_end-end.result - c.loop-from.at)) = text-run c.loop-from.invariant c.itself_end-end.ensures c.copy_wide-e.ensures in
     puts-before (puts_then copied.puts c.put_reference-o.ensures)
 
 pub overflow_add-count-in-loop-from : goal.overflow_add-count-in-loop-from
 overflow_add-count-in-loop-from c =
     let copied : let a = c.args in TextTo a.s.now a.from c.itself_end-end.result a.row.now a.first c.copy_wide-e.new.row c.copy_wide-e.result
-        (c.loop-from.count + (c.itself_end-end.result - c.loop-from.at)) = text-run c.loop-from.invariant c.itself_end-end.ensures c.copy_wide-e.ensures in
+    (c.loop-from.count + (c.itself_end-end.result - c.loop-from.at)) = text-run c.loop-from.invariant c.itself_end-end.ensures c.copy_wide-e.ensures in
     let letter : LetterIs c.args.s.now c.itself_end-end.result (Letter.Is c.in-Is.c c.in-Is.next) = c.in-Is.ensures in
     let r = copied in
     let l = letter in
@@ -130,6 +130,6 @@ loop-from-smaller c =
 pub loop-from-preserved : goal.loop-from-preserved
 loop-from-preserved c =
     let copied : let a = c.args in TextTo a.s.now a.from c.itself_end-end.result a.row.now a.first c.copy_wide-e.new.row c.copy_wide-e.result
-        (c.loop-from.count + (c.itself_end-end.result - c.loop-from.at)) = text-run c.loop-from.invariant c.itself_end-end.ensures c.copy_wide-e.ensures in
+    (c.loop-from.count + (c.itself_end-end.result - c.loop-from.at)) = text-run c.loop-from.invariant c.itself_end-end.ensures c.copy_wide-e.ensures in
     let letter : LetterIs c.args.s.now c.itself_end-end.result (Letter.Is c.in-Is.c c.in-Is.next) = c.in-Is.ensures in
     text-letter copied letter c.if-o-e.false c.put_reference-o.ensures

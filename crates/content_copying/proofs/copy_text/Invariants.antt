@@ -1,14 +1,7 @@
 -- `content_copying::copy_text` meets its contract: before each turn the characters passed over stand in the buffer as they are written.
-use Prim.Native.Nat.{◌+◌, ◌-◌, ◌≤◌}
-use native.Mathlib.Omega.{arith}
-use mathlib.Core.Path.{◌∙◌, subst}
+use Prim.Native.Nat.{◌-◌}
 use lib.ListN.{length}
-use Rattle.content_copying.proofs.Runs.{pass-copied}
-use Rattle.content_copying.proofs.Texts.{TextTo, text-letter, text-moved, text-run, text-start}
-use Rattle.content_reading.specs.Letters.{LetterIs}
-use Rattle.content_reading.specs.declared.Letter.{Letter}
-use Rattle.moving.proofs.Puts.{puts-before, puts_then}
-use borrow.Author.Rules.{rules}
+use Rattle.content_copying.proofs.Texts.{TextTo}
 use Rattle.content_copying.proofs.copy_text.Given as goal
 
 abbrev pub invariant-loop-from : goal.invariant-loop-from

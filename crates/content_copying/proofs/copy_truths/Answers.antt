@@ -1,15 +1,14 @@
 -- `content_copying::copy_truths` meets its contract: before each turn the words passed over stand in the buffer, a space behind each.
-use Prim.Native.Nat.{◌+◌, ◌-◌}
+use Prim.Native.Nat.{◌+◌}
 use native.Mathlib.Omega.{arith}
 use mathlib.Core.List.{[], ◌++◌, ◌∷◌}
-use mathlib.Core.Path.{◌≡◌, ap, subst}
+use mathlib.Core.Path.{◌≡◌, ap}
 use lib.IntN.{ℤ}
-use lib.ListN.{length}
 use mir.Syntax.{w64}
 use mir.Val.{of_z, to_z}
-use Rattle.content_copying.proofs.Spaced.{Between, WordsTo, truths-worded, words-between, words-few, words_more, words-moved, words-start}
+use Rattle.content_copying.proofs.Spaced.{WordsTo, truths-worded, words-between, words-few, words_more, words-moved, words-start}
 use Rattle.moving.proofs.Puts.{puts-as, puts-before}
-use Rattle.moving.specs.Contents.{FindsOne, InText}
+use Rattle.moving.specs.Contents.{InText}
 use Rattle.table.specs.Shape.{Truths}
 use Rattle.tabledata.specs.TableData.{truth_text}
 use borrow.Author.Rules.{rules}
@@ -50,7 +49,7 @@ overflow_add-count c =
     let z : ℤ = c.in-Element.z in
     let read : InText Truths c.args.s.now c.loop-z.at c.in-Element.next (z ∷ []) = c.in-Element.ensures in
     let copied : let a = c.args in WordsTo Truths truth_text a.s.now a.from c.in-Element.next a.row.now a.first c.put_truth-o.new.row c.put_truth-o.result (c.loop-z.count + 1) =
-        (let e : to_z w64 (of_z w64 z) ≡ z = search rules in
+    (let e : to_z w64 (of_z w64 z) ≡ z = search rules in
     words_more truths-worded c.loop-z.invariant read (puts-as (ap (λ (y : ℤ). truth_text y ++ (32 ∷ [])) e) c.put_truth-o.ensures)) in
     let r = copied in let h = words-few r in let k = r.puts.room in search rules
 
@@ -62,7 +61,7 @@ overflow_sub-result c =
     let z : ℤ = c.in-Element.z in
     let read : InText Truths c.args.s.now c.loop-z.at c.in-Element.next (z ∷ []) = c.in-Element.ensures in
     let copied : let a = c.args in WordsTo Truths truth_text a.s.now a.from c.in-Element.next a.row.now a.first c.put_truth-o.new.row c.put_truth-o.result (c.loop-z.count + 1) =
-        (let e : to_z w64 (of_z w64 z) ≡ z = search rules in
+    (let e : to_z w64 (of_z w64 z) ≡ z = search rules in
     words_more truths-worded c.loop-z.invariant read (puts-as (ap (λ (y : ℤ). truth_text y ++ (32 ∷ [])) e) c.put_truth-o.ensures)) in
     omega (arith, words-few copied)
 
@@ -71,7 +70,7 @@ shape_of-row-then-s-next-ne32 c =
     let z : ℤ = c.in-Element.z in
     let read : InText Truths c.args.s.now c.loop-z.at c.in-Element.next (z ∷ []) = c.in-Element.ensures in
     let copied : let a = c.args in WordsTo Truths truth_text a.s.now a.from c.in-Element.next a.row.now a.first c.put_truth-o.new.row c.put_truth-o.result (c.loop-z.count + 1) =
-        (let e : to_z w64 (of_z w64 z) ≡ z = search rules in
+    (let e : to_z w64 (of_z w64 z) ≡ z = search rules in
     words_more truths-worded c.loop-z.invariant read (puts-as (ap (λ (y : ℤ). truth_text y ++ (32 ∷ [])) e) c.put_truth-o.ensures)) in
     copied.puts.long
 
@@ -80,7 +79,7 @@ returns-then-s-next-ne32 c =
     let z : ℤ = c.in-Element.z in
     let read : InText Truths c.args.s.now c.loop-z.at c.in-Element.next (z ∷ []) = c.in-Element.ensures in
     let copied : let a = c.args in WordsTo Truths truth_text a.s.now a.from c.in-Element.next a.row.now a.first c.put_truth-o.new.row c.put_truth-o.result (c.loop-z.count + 1) =
-        (let e : to_z w64 (of_z w64 z) ≡ z = search rules in
+    (let e : to_z w64 (of_z w64 z) ≡ z = search rules in
     words_more truths-worded c.loop-z.invariant read (puts-as (ap (λ (y : ℤ). truth_text y ++ (32 ∷ [])) e) c.put_truth-o.ensures)) in
     words-moved truths-worded copied (omega arith)
 
@@ -98,6 +97,6 @@ loop-z-preserved c =
     let z : ℤ = c.in-Element.z in
     let read : InText Truths c.args.s.now c.loop-z.at c.in-Element.next (z ∷ []) = c.in-Element.ensures in
     let copied : let a = c.args in WordsTo Truths truth_text a.s.now a.from c.in-Element.next a.row.now a.first c.put_truth-o.new.row c.put_truth-o.result (c.loop-z.count + 1) =
-        (let e : to_z w64 (of_z w64 z) ≡ z = search rules in
+    (let e : to_z w64 (of_z w64 z) ≡ z = search rules in
     words_more truths-worded c.loop-z.invariant read (puts-as (ap (λ (y : ℤ). truth_text y ++ (32 ∷ [])) e) c.put_truth-o.ensures)) in
     words-between truths-worded copied (omega arith) c.if-s-next-ne32.false

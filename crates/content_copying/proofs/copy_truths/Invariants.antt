@@ -1,18 +1,9 @@
 -- `content_copying::copy_truths` meets its contract: before each turn the words passed over stand in the buffer, a space behind each.
-use Prim.Native.Nat.{◌+◌, ◌-◌}
-use native.Mathlib.Omega.{arith}
-use mathlib.Core.List.{[], ◌++◌, ◌∷◌}
-use mathlib.Core.Path.{◌≡◌, ap, subst}
-use lib.IntN.{ℤ}
+use Prim.Native.Nat.{◌-◌}
 use lib.ListN.{length}
-use mir.Syntax.{w64}
-use mir.Val.{of_z, to_z}
-use Rattle.content_copying.proofs.Spaced.{Between, WordsTo, truths-worded, words-between, words-few, words_more, words-moved, words-start}
-use Rattle.moving.proofs.Puts.{puts-as, puts-before}
-use Rattle.moving.specs.Contents.{FindsOne, InText}
+use Rattle.content_copying.proofs.Spaced.{Between}
 use Rattle.table.specs.Shape.{Truths}
 use Rattle.tabledata.specs.TableData.{truth_text}
-use borrow.Author.Rules.{rules}
 use Rattle.content_copying.proofs.copy_truths.Given as goal
 
 abbrev pub invariant-loop-z : goal.invariant-loop-z

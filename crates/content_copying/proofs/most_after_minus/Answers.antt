@@ -2,7 +2,6 @@
 use native.Mathlib.Omega.{arith}
 use mathlib.Core.Path.{refl}
 use lib.Dec.{lit≤}
-use borrow.Author.Rules.{rules}
 use Rattle.content_copying.proofs.most_after_minus.Goals as goal
 
 pub returns-in-UnsignedByte : goal.returns-in-UnsignedByte

@@ -1,6 +1,5 @@
 -- `content_copying::most_digits` meets its contract: by the largest integer of each kind.
 use lib.Dec.{lit≤}
-use borrow.Author.Rules.{rules}
 use Rattle.content_copying.proofs.most_digits.Goals as goal
 
 pub returns-in-UnsignedByte : goal.returns-in-UnsignedByte

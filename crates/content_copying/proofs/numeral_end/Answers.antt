@@ -2,7 +2,6 @@
 use native.Mathlib.Omega.{arith}
 use mathlib.Core.Path.{refl}
 use Rattle.content_copying.proofs.Own.{first-large}
-use borrow.Author.Rules.{rules}
 use Rattle.content_copying.proofs.numeral_end.Goals as goal
 
 pub overflow_sub-n : goal.overflow_sub-n

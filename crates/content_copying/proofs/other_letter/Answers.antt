@@ -1,7 +1,6 @@
 -- `content_copying::other_letter` meets its contract: a `>` spells itself.
 use native.Mathlib.Omega.{arith}
 use Rattle.content_copying.proofs.Texts.{bare-letter}
-use borrow.Author.Rules.{rules}
 use Rattle.content_copying.proofs.other_letter.Goals as goal
 
 pub returns-then-s-at-eq62 : goal.returns-then-s-at-eq62

@@ -1,12 +1,11 @@
 -- `content_copying::other_word` meets its contract: the word's integer is read, and put as it is written.
 use native.Mathlib.Omega.{arith}
 use mathlib.Core.List.{[], ◌++◌, ◌∷◌}
-use mathlib.Core.Path.{◌≡◌, ap, subst}
+use mathlib.Core.Path.{◌≡◌, ap}
 use lib.IntN.{ℤ}
 use mir.Syntax.{w64}
 use mir.Val.{of_z, to_z}
 use Rattle.moving.proofs.Puts.{puts-as, puts_none}
-use Rattle.moving.specs.Contents.{FindsOne}
 use Rattle.number.specs.Number.{shortest}
 use borrow.Author.Rules.{rules}
 use Rattle.content_copying.proofs.other_word.Goals as goal

@@ -7,7 +7,6 @@ use mir.Facts.{to_z-of_z}
 use Rattle.content_showing.proofs.Stores.{puts-byte}
 use Rattle.moving.proofs.Puts.{puts-as, puts_then}
 use Rattle.tabledata.specs.TableData.{truth_text}
-use borrow.Author.Rules.{rules}
 use Rattle.content_copying.proofs.put_truth.Goals as goal
 
 pub bounds-row-next : goal.bounds-row-next

@@ -2,7 +2,6 @@
 use native.Mathlib.Omega.{arith}
 use mathlib.Core.Path.{refl}
 use Rattle.content_copying.proofs.Own.{first-large, own-down, own-up}
-use borrow.Author.Rules.{rules}
 use Rattle.content_copying.proofs.word_end.Goals as goal
 
 pub returns-then-s-at-ne45 : goal.returns-then-s-at-ne45

@@ -5,7 +5,6 @@ use mir.Facts.{to_z-of_z}
 use mir.Syntax.{w64}
 use Rattle.number.specs.Clauses.{is_signed, width_of}
 use Rattle.content_passing.proofs.Ones.{integer-found}
-use borrow.Author.Rules.{rules}
 use Rattle.content_passing.proofs.binary_integer.Goals as goal
 
 pub overflow_add-result : goal.overflow_add-result

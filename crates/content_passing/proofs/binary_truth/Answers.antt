@@ -6,7 +6,7 @@ use mir.Facts.{to_z_pos}
 use mir.Syntax.{w64}
 use Rattle.content_passing.proofs.Letters.{flag-le, value_of}
 use Rattle.content_passing.proofs.Ones.{truth-found}
-use borrow.Author.Rules.{rules, sfits_of}
+use borrow.Author.Rules.{sfits_of}
 use Rattle.content_passing.proofs.binary_truth.Goals as goal
 
 pub overflow_mul-value : goal.overflow_mul-value

@@ -1,12 +1,7 @@
 -- `content_passing::copy_many` meets its contract: before each turn the first k bytes are put.
-use Prim.Native.Nat.{◌+◌, ◌-◌, ◌≤◌, ℕ}
-use native.Mathlib.Omega.{arith}
-use mathlib.Core.Path.{◌≡◌, subst, sym}
+use Prim.Native.Nat.{◌+◌, ◌-◌, ◌≤◌}
 use lib.ListN.{drop, take}
-use Rattle.content_passing.proofs.Copies.{next-taken, puts_one, puts-start}
-use Rattle.moving.proofs.Puts.{puts-as}
 use Rattle.moving.specs.Puts.{Puts}
-use borrow.Author.Rules.{rules}
 use Rattle.content_passing.proofs.copy_many.Given as goal
 
 abbrev pub invariant-loop-k : goal.invariant-loop-k

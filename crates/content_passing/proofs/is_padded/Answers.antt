@@ -4,7 +4,6 @@ use native.Mathlib.Omega.{arith}
 use Rattle.binary.proofs.Digits.{some_of, unit-some}
 use Rattle.binary.specs.Binary.{bit_bytes}
 use Rattle.content_passing.proofs.Padding.{none-spare, spare-at}
-use borrow.Author.Rules.{rules}
 use Rattle.content_passing.proofs.is_padded.Goals as goal
 
 pub returns-then-spare-eq0 : goal.returns-then-spare-eq0

@@ -1,5 +1,5 @@
 -- `content_passing::letters_in` meets its contract: before each turn all that was passed over are letters.
-use Prim.Native.Nat.{◌+◌, ◌-◌, ◌<◌, ◌≤◌, min, ℕ}
+use Prim.Native.Nat.{◌+◌, ◌≤◌, min, ℕ}
 use native.Mathlib.Nat.{add-zero}
 use native.Mathlib.Omega.{arith}
 use mathlib.Core.List.{List}
@@ -8,7 +8,6 @@ use lib.ListN.{drop}
 use lib.Seq.{drop-drop}
 use Rattle.content_passing.proofs.Texts.{run_drop, run_take}
 use Rattle.eights.specs.Marks.{is_letter, run}
-use borrow.Author.Rules.{rules}
 use Rattle.content_passing.proofs.letters_in.Goals as goal
 
 pub loop-k-init : goal.loop-k-init
@@ -17,21 +16,21 @@ loop-k-init c = let a = c.args in (omega arith, omega (arith, ap (λ (j : ℕ). 
 pub returns-then-n-k : goal.returns-then-n-k
 returns-then-n-k c =
     let eight : let a = c.args in c.letters_ahead-ahead.result ≡ min 8 (run is_letter (drop (a.at + c.loop-k.k) a.s.now)) = let a = c.args in
-        c.letters_ahead-ahead.ensures ∙ run_take is_letter 8 (drop (a.at + c.loop-k.k) a.s.now) in
+    c.letters_ahead-ahead.ensures ∙ run_take is_letter 8 (drop (a.at + c.loop-k.k) a.s.now) in
     let a = c.args in
     omega (arith, eight, run_take is_letter a.n (drop a.at a.s.now))
 
 pub returns-then-ahead-lt8 : goal.returns-then-ahead-lt8
 returns-then-ahead-lt8 c =
     let eight : let a = c.args in c.letters_ahead-ahead.result ≡ min 8 (run is_letter (drop (a.at + c.loop-k.k) a.s.now)) = let a = c.args in
-        c.letters_ahead-ahead.ensures ∙ run_take is_letter 8 (drop (a.at + c.loop-k.k) a.s.now) in
+    c.letters_ahead-ahead.ensures ∙ run_take is_letter 8 (drop (a.at + c.loop-k.k) a.s.now) in
     let a = c.args in
     omega (arith, eight, run_take is_letter a.n (drop a.at a.s.now))
 
 pub loop-k-preserved : goal.loop-k-preserved
 loop-k-preserved c =
     let eight : let a = c.args in c.letters_ahead-ahead.result ≡ min 8 (run is_letter (drop (a.at + c.loop-k.k) a.s.now)) = let a = c.args in
-        c.letters_ahead-ahead.ensures ∙ run_take is_letter 8 (drop (a.at + c.loop-k.k) a.s.now) in
+    c.letters_ahead-ahead.ensures ∙ run_take is_letter 8 (drop (a.at + c.loop-k.k) a.s.now) in
     let a = c.args in let k = c.loop-k.k in
     let s : List ℕ = a.s.now in
     let more : 8 ≤ run is_letter (drop (a.at + k) s) = omega (arith, eight) in

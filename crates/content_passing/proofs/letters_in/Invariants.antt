@@ -1,14 +1,8 @@
 -- `content_passing::letters_in` meets its contract: before each turn all that was passed over are letters.
-use Prim.Native.Nat.{◌+◌, ◌-◌, ◌<◌, ◌≤◌, min, ℕ}
-use native.Mathlib.Nat.{add-zero}
-use native.Mathlib.Omega.{arith}
-use mathlib.Core.List.{List}
-use mathlib.Core.Path.{◌∙◌, ◌≡◌, ap}
+use Prim.Native.Nat.{◌+◌, ◌-◌, ◌<◌}
+use mathlib.Core.Path.{◌≡◌}
 use lib.ListN.{drop}
-use lib.Seq.{drop-drop}
-use Rattle.content_passing.proofs.Texts.{run_drop, run_take}
 use Rattle.eights.specs.Marks.{is_letter, run}
-use borrow.Author.Rules.{rules}
 use Rattle.content_passing.proofs.letters_in.Given as goal
 
 abbrev pub invariant-loop-k : goal.invariant-loop-k

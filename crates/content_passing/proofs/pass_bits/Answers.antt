@@ -1,13 +1,11 @@
 -- `content_passing::pass_bits` meets its contract: bytes whose padding is 0 are put as they stand.
 use native.Mathlib.Omega.{arith}
 use mathlib.Core.Path.{◌∙◌, refl, sym}
-use borrow.Author.Tests.{not-false}
 use Rattle.binary.specs.Binary.{bit_bytes}
 use Rattle.content_passing.proofs.Padding.{bits-moved}
 use Rattle.eights.proofs.Fronts.{are-bytes}
 use Rattle.moving.proofs.Puts.{puts_none}
 use Rattle.table.specs.All.{AreBytes}
-use borrow.Author.Rules.{rules}
 use Rattle.content_passing.proofs.pass_bits.Goals as goal
 
 pub returns-then-not-is_padded : goal.returns-then-not-is_padded

@@ -7,14 +7,13 @@ use Rattle.number.proofs.Laws.{shape_of}
 use Rattle.number.specs.Clauses.{shape_as}
 use Rattle.number.specs.declared.Elements.{Elements}
 use Rattle.table.specs.Shape.{Shape}
-use borrow.Author.Rules.{rules}
 use Rattle.content_passing.proofs.pass_content.Goals as goal
 
 pub pass_integers-requires : goal.pass_integers-requires
 unfolding content_bytes
 pass_integers-requires c =
     let fits : (e : Elements) → c.elements_of.result ≡ e → let a = c.args in
-        (a.at + content_bytes (shape_as e) a.n + 8 ≤ length a.s.now) × (a.o + content_bytes (shape_as e) a.n + 8 ≤ length a.row.now) = λ _ told. (let a = c.args in
+    (a.at + content_bytes (shape_as e) a.n + 8 ≤ length a.s.now) × (a.o + content_bytes (shape_as e) a.n + 8 ≤ length a.row.now) = λ _ told. (let a = c.args in
     subst (λ (k : Shape). (a.at + content_bytes k a.n + 8 ≤ length a.s.now) × (a.o + content_bytes k a.n + 8 ≤ length a.row.now)) (shape_of c.elements_of.ensures told)
     (c.requires.1, c.requires.2)) in
     let room = fits _ c.in-Whole.is in
@@ -24,7 +23,7 @@ pub pass_truths-requires : goal.pass_truths-requires
 unfolding content_bytes
 pass_truths-requires c =
     let fits : (e : Elements) → c.elements_of.result ≡ e → let a = c.args in
-        (a.at + content_bytes (shape_as e) a.n + 8 ≤ length a.s.now) × (a.o + content_bytes (shape_as e) a.n + 8 ≤ length a.row.now) = λ _ told. (let a = c.args in
+    (a.at + content_bytes (shape_as e) a.n + 8 ≤ length a.s.now) × (a.o + content_bytes (shape_as e) a.n + 8 ≤ length a.row.now) = λ _ told. (let a = c.args in
     subst (λ (k : Shape). (a.at + content_bytes k a.n + 8 ≤ length a.s.now) × (a.o + content_bytes k a.n + 8 ≤ length a.row.now)) (shape_of c.elements_of.ensures told)
     (c.requires.1, c.requires.2)) in
     fits _ c.in-Truths.is
@@ -33,7 +32,7 @@ pub pass_bits-requires : goal.pass_bits-requires
 unfolding content_bytes
 pass_bits-requires c =
     let fits : (e : Elements) → c.elements_of.result ≡ e → let a = c.args in
-        (a.at + content_bytes (shape_as e) a.n + 8 ≤ length a.s.now) × (a.o + content_bytes (shape_as e) a.n + 8 ≤ length a.row.now) = λ _ told. (let a = c.args in
+    (a.at + content_bytes (shape_as e) a.n + 8 ≤ length a.s.now) × (a.o + content_bytes (shape_as e) a.n + 8 ≤ length a.row.now) = λ _ told. (let a = c.args in
     subst (λ (k : Shape). (a.at + content_bytes k a.n + 8 ≤ length a.s.now) × (a.o + content_bytes k a.n + 8 ≤ length a.row.now)) (shape_of c.elements_of.ensures told)
     (c.requires.1, c.requires.2)) in
     let room = fits _ c.in-Bits.is in
@@ -43,7 +42,7 @@ pub pass_text-requires : goal.pass_text-requires
 unfolding content_bytes
 pass_text-requires c =
     let fits : (e : Elements) → c.elements_of.result ≡ e → let a = c.args in
-        (a.at + content_bytes (shape_as e) a.n + 8 ≤ length a.s.now) × (a.o + content_bytes (shape_as e) a.n + 8 ≤ length a.row.now) = λ _ told. (let a = c.args in
+    (a.at + content_bytes (shape_as e) a.n + 8 ≤ length a.s.now) × (a.o + content_bytes (shape_as e) a.n + 8 ≤ length a.row.now) = λ _ told. (let a = c.args in
     subst (λ (k : Shape). (a.at + content_bytes k a.n + 8 ≤ length a.s.now) × (a.o + content_bytes k a.n + 8 ≤ length a.row.now)) (shape_of c.elements_of.ensures told)
     (c.requires.1, c.requires.2)) in
     fits _ c.in-Text.is

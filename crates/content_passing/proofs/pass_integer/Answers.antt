@@ -8,7 +8,6 @@ use Rattle.moving.proofs.Puts.{puts-as, puts-wrote}
 use Rattle.number.proofs.Laws.{length_to, size-le}
 use Rattle.number.specs.Clauses.{is_signed, size, width_of}
 use Rattle.number.specs.Number.{pattern, to_digits}
-use borrow.Author.Rules.{rules}
 use Rattle.content_passing.proofs.pass_integer.Goals as goal
 
 pub write_integer-requires : goal.write_integer-requires

@@ -6,7 +6,6 @@ use Rattle.content_passing.proofs.Wholes.{whole-moved}
 use Rattle.eights.proofs.Fronts.{are-bytes}
 use Rattle.number.specs.Clauses.{is_signed, size, width_of}
 use Rattle.table.specs.All.{AreBytes}
-use borrow.Author.Rules.{rules}
 use Rattle.content_passing.proofs.pass_integers.Goals as goal
 
 pub overflow_mul-bytes : goal.overflow_mul-bytes

@@ -7,7 +7,6 @@ use Rattle.eights.proofs.Fronts.{are-bytes}
 use Rattle.eights.specs.Marks.{is_letter}
 use Rattle.moving.proofs.Puts.{puts_none}
 use Rattle.table.specs.All.{AreBytes}
-use borrow.Author.Rules.{rules}
 use Rattle.content_passing.proofs.pass_text.Goals as goal
 
 pub overflow_add-at : goal.overflow_add-at

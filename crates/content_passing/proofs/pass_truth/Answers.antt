@@ -7,7 +7,6 @@ use mir.Facts.{to_z-of_z}
 use Rattle.content_passing.proofs.Ones.{truths-form}
 use Rattle.moving.proofs.Puts.{puts-as, puts-wrote}
 use Rattle.table.specs.Cell.{truth_byte}
-use borrow.Author.Rules.{rules}
 use Rattle.content_passing.proofs.pass_truth.Goals as goal
 
 pub returns : goal.returns

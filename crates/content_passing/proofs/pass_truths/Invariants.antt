@@ -1,15 +1,11 @@
 -- `content_passing::pass_truths` meets its contract: before each turn the letters of the first k bytes are put, and 0 stands for all having one.
 use Prim.Native.Nat.{◌+◌, ◌-◌, ◌≤◌}
-use native.Mathlib.Omega.{arith}
 use mathlib.Core.List.{map}
-use mathlib.Core.Path.{◌≡◌, refl}
+use mathlib.Core.Path.{◌≡◌}
 use lib.ListN.{drop, take}
-use Rattle.content_passing.proofs.Copies.{puts_one, puts-start}
-use Rattle.content_passing.proofs.Truths.{HasLetter, letter, next-found, next-letters, truths-moved}
-use Rattle.moving.proofs.Puts.{puts-as, puts-before}
+use Rattle.content_passing.proofs.Truths.{HasLetter, letter}
 use Rattle.moving.specs.Puts.{Puts}
 use Rattle.table.specs.All.{All}
-use borrow.Author.Rules.{rules}
 use Rattle.content_passing.proofs.pass_truths.Given as goal
 
 abbrev pub invariant-loop-k : goal.invariant-loop-k

@@ -1,7 +1,6 @@
 -- `content_passing::truth_letter` meets its contract: what the tests sum to is the letter, of every byte.
 use native.Mathlib.Omega.{arith}
 use Rattle.content_passing.proofs.Letters.{flag-le, is_false, is_true, is_unknown, letter-is}
-use borrow.Author.Rules.{rules}
 use Rattle.content_passing.proofs.truth_letter.Goals as goal
 
 pub overflow_mul-result : goal.overflow_mul-result

@@ -3,7 +3,6 @@ use Prim.Native.Nat.{◌*◌, ◌-◌, ◌/◌, ℕ}
 use native.Mathlib.Omega.{arith}
 use lib.Bits.{and_le_l, bit_and}
 use Rattle.integer_reading.proofs.Figures.{binary-law}
-use borrow.Author.Rules.{rules}
 use Rattle.content_reading.proofs.binary_of.Goals as goal
 
 pub overflow_mul-a : goal.overflow_mul-a

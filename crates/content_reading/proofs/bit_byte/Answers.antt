@@ -1,7 +1,6 @@
 -- `content_reading::bit_byte` meets its contract: the bits at the front are read and shifted to the top of the byte.
 use native.Mathlib.Omega.{arith}
 use Rattle.content_reading.proofs.Packing.{bit_byte}
-use borrow.Author.Rules.{rules}
 use Rattle.content_reading.proofs.bit_byte.Goals as goal
 
 pub returns : goal.returns

@@ -6,7 +6,6 @@ use Rattle.eights.proofs.Fronts.{are-bytes}
 use Rattle.table.specs.All.{AreBytes}
 use Rattle.tabledata.specs.TableData.{is_text}
 use Rattle.table.specs.Bytes.{between}
-use borrow.Author.Rules.{rules}
 use Rattle.content_reading.proofs.letter_at.Goals as goal
 
 pub returns-then-x-eq644641851 : goal.returns-then-x-eq644641851

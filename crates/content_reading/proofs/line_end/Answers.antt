@@ -1,7 +1,6 @@
 -- `content_reading::line_end` meets its contract: a tab and a line's end stand for themselves.
 use native.Mathlib.Omega.{arith}
 use Rattle.content_reading.proofs.Chars.{low-letter}
-use borrow.Author.Rules.{rules}
 use Rattle.content_reading.proofs.line_end.Goals as goal
 
 pub returns-then-c-eq10 : goal.returns-then-c-eq10

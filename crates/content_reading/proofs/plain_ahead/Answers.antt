@@ -5,7 +5,6 @@ use mathlib.Core.List.{List}
 use Rattle.integer_reading.proofs.Runs.{passes-ahead}
 use Rattle.eights.proofs.Fronts.{are-bytes}
 use Rattle.table.specs.All.{AreBytes}
-use borrow.Author.Rules.{rules}
 use Rattle.content_reading.proofs.plain_ahead.Goals as goal
 
 pub returns : goal.returns

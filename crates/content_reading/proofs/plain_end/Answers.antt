@@ -2,7 +2,6 @@
 use Prim.Native.Nat.{◌+◌, ◌-◌, ◌≤◌, ℕ}
 use mathlib.Core.Path.{◌≡◌, refl, subst}
 use native.Mathlib.Omega.{arith}
-use lib.ListN.{length}
 use Rattle.integer_reading.proofs.Runs.{passes_none, passes_then}
 use Rattle.integer_reading.specs.Runs.{Passes}
 use Rattle.tabledata.specs.Clauses.{is_plain}
@@ -24,8 +23,8 @@ overflow_add-result c = let h = c.plain_ahead-n.ensures.0.inside in search rules
 pub returns-then-n-lt8 : goal.returns-then-n-lt8
 returns-then-n-lt8 c =
     let more : (next : ℕ) → next ≡ c.loop-at.at + c.plain_ahead-n.result → let a = c.args in
-        (a.from ≤ next) × Passes is_plain a.s.now a.from (next - a.from) = λ next e. let i = c.loop-at.invariant in
-        (omega (arith, i.0), passes_then i.1 c.plain_ahead-n.ensures.0 (omega (arith, i.0)) (omega (arith, i.0))) in
+    (a.from ≤ next) × Passes is_plain a.s.now a.from (next - a.from) = λ next e. let i = c.loop-at.invariant in
+    (omega (arith, i.0), passes_then i.1 c.plain_ahead-n.ensures.0 (omega (arith, i.0)) (omega (arith, i.0))) in
     more _ refl
 
 pub overflow_add-at : goal.overflow_add-at
@@ -41,8 +40,8 @@ loop-at-smaller c =
 pub loop-at-preserved : goal.loop-at-preserved
 loop-at-preserved c =
     let more : (next : ℕ) → next ≡ c.loop-at.at + c.plain_ahead-n.result → let a = c.args in
-        (a.from ≤ next) × Passes is_plain a.s.now a.from (next - a.from) = λ next e. let i = c.loop-at.invariant in
-        (omega (arith, i.0), passes_then i.1 c.plain_ahead-n.ensures.0 (omega (arith, i.0)) (omega (arith, i.0))) in
+    (a.from ≤ next) × Passes is_plain a.s.now a.from (next - a.from) = λ next e. let i = c.loop-at.invariant in
+    (omega (arith, i.0), passes_then i.1 c.plain_ahead-n.ensures.0 (omega (arith, i.0)) (omega (arith, i.0))) in
     let eight : c.plain_ahead-n.result ≡ 8 = omega (arith, c.plain_ahead-n.ensures.1) in
     more _ (omega (arith, eight))
 

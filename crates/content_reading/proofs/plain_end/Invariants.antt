@@ -1,12 +1,8 @@
 -- `content_reading::plain_end` meets its contract: the bytes passed over stand for themselves, eight more at a turn.
-use Prim.Native.Nat.{◌+◌, ◌-◌, ◌≤◌, ℕ}
-use mathlib.Core.Path.{◌≡◌, refl, subst}
-use native.Mathlib.Omega.{arith}
+use Prim.Native.Nat.{◌-◌, ◌≤◌}
 use lib.ListN.{length}
-use Rattle.integer_reading.proofs.Runs.{passes_none, passes_then}
 use Rattle.integer_reading.specs.Runs.{Passes}
 use Rattle.tabledata.specs.Clauses.{is_plain}
-use borrow.Author.Rules.{rules}
 use Rattle.content_reading.proofs.plain_end.Given as goal
 
 abbrev pub invariant-loop-at : goal.invariant-loop-at

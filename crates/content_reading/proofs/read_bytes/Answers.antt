@@ -1,5 +1,5 @@
 -- `content_reading::read_bytes` meets its contract: before each turn the words passed over stand in the buffer, one byte each.
-use Prim.Native.Nat.{◌+◌, ◌-◌, ◌≤◌, ℕ}
+use Prim.Native.Nat.{◌+◌, ◌≤◌, ℕ}
 use native.Mathlib.Omega.{arith}
 use mathlib.Core.Bool.{false}
 use mathlib.Core.List.{[], ◌∷◌}
@@ -7,14 +7,13 @@ use mathlib.Core.Path.{◌∙◌}
 use lib.ListN.{length, set}
 use Rattle.binary.specs.Binary.{number}
 use Rattle.integer_reading.proofs.Digits.{run-in-text}
-use Rattle.content_reading.proofs.Words.{WordsTo, byte-puts, whole-form, whole_words, words_more, words-moved, words-start}
+use Rattle.content_reading.proofs.Words.{byte-puts, whole-form, whole_words, words_more, words-moved, words-start}
 use Rattle.moving.proofs.Puts.{puts-before}
 use Rattle.moving.specs.Contents.{InText}
 use Rattle.moving.specs.Puts.{Puts}
 use Rattle.number.specs.Number.{to_digits, with_sign}
 use Rattle.number.specs.declared.Integer.TheVariants.{UnsignedByte}
 use Rattle.table.specs.Shape.{W1, Whole}
-use Rattle.tabledata.specs.TableData.{integer_word}
 use borrow.Author.Rules.{rules}
 use Rattle.content_reading.proofs.read_bytes.Goals as goal
 
@@ -55,7 +54,7 @@ pub overflow_add-o : goal.overflow_add-o
 overflow_add-o c =
     let value : ℕ = c.three_at-run.result.number in
     let put : let l = c.loop-at in Puts l.row l.o (to_digits 256 1 (number (Whole false W1) (with_sign false value))) (set l.row l.o value) (l.o + 1) =
-        byte-puts c.loop-at.row c.loop-at.o value (omega arith) (omega arith) in
+    byte-puts c.loop-at.row c.loop-at.o value (omega arith) (omega arith) in
     let h = put.room in search rules
 
 pub overflow_add-count : goal.overflow_add-count
@@ -83,7 +82,7 @@ pub shape_of-row-then-s-at-ne32 : goal.shape_of-row-then-s-at-ne32
 shape_of-row-then-s-at-ne32 c =
     let value : ℕ = c.three_at-run.result.number in
     let put : let l = c.loop-at in Puts l.row l.o (to_digits 256 1 (number (Whole false W1) (with_sign false value))) (set l.row l.o value) (l.o + 1) =
-        byte-puts c.loop-at.row c.loop-at.o value (omega arith) (omega arith) in
+    byte-puts c.loop-at.row c.loop-at.o value (omega arith) (omega arith) in
     put.long ∙ c.loop-at.invariant.puts.long
 
 pub returns-then-s-at-ne32 : goal.returns-then-s-at-ne32
@@ -91,9 +90,9 @@ returns-then-s-at-ne32 c =
     let digits : ℕ = c.three_at-run.result.count in
     let value : ℕ = c.three_at-run.result.number in
     let found : InText (Whole false W1) c.args.s.now c.loop-at.at (c.loop-at.at + digits) (with_sign false value ∷ []) = let run = c.three_at-run.ensures in
-        run-in-text run.0 c.if-digits-eq0.false (omega (arith, run.1)) UnsignedByte (omega arith) in
+    run-in-text run.0 c.if-digits-eq0.false (omega (arith, run.1)) UnsignedByte (omega arith) in
     let put : let l = c.loop-at in Puts l.row l.o (to_digits 256 1 (number (Whole false W1) (with_sign false value))) (set l.row l.o value) (l.o + 1) =
-        byte-puts c.loop-at.row c.loop-at.o value (omega arith) (omega arith) in
+    byte-puts c.loop-at.row c.loop-at.o value (omega arith) (omega arith) in
     words-moved (whole_words false W1) c.loop-at.invariant found put (whole-form false W1)
 
 pub overflow_add-at-in-loop-at : goal.overflow_add-at-in-loop-at
@@ -119,8 +118,8 @@ loop-at-preserved c =
     let digits : ℕ = c.three_at-run.result.count in
     let value : ℕ = c.three_at-run.result.number in
     let found : InText (Whole false W1) c.args.s.now c.loop-at.at (c.loop-at.at + digits) (with_sign false value ∷ []) = let run = c.three_at-run.ensures in
-        run-in-text run.0 c.if-digits-eq0.false (omega (arith, run.1)) UnsignedByte (omega arith) in
+    run-in-text run.0 c.if-digits-eq0.false (omega (arith, run.1)) UnsignedByte (omega arith) in
     let put : let l = c.loop-at in Puts l.row l.o (to_digits 256 1 (number (Whole false W1) (with_sign false value))) (set l.row l.o value) (l.o + 1) =
-        byte-puts c.loop-at.row c.loop-at.o value (omega arith) (omega arith) in
+    byte-puts c.loop-at.row c.loop-at.o value (omega arith) (omega arith) in
     let room : c.loop-at.at + digits + 1 ≤ length c.args.s.now = omega (arith, c.three_at-run.ensures.1, c.loop-at.invariant.spells.inside) in
     words_more (whole_words false W1) c.loop-at.invariant found put (omega (arith, room)) c.if-s-at-ne32.false (omega arith)

@@ -4,7 +4,6 @@ use Rattle.number.proofs.Laws.{shape_of}
 use Rattle.number.specs.Clauses.{shape_as}
 use Rattle.number.specs.declared.Elements.{Elements}
 use Rattle.table.specs.Shape.{shape}
-use borrow.Author.Rules.{rules}
 use Rattle.content_reading.proofs.read_content.Goals as goal
 
 pub returns-in-Truths : goal.returns-in-Truths

@@ -1,5 +1,5 @@
 -- `content_reading::read_integers` meets its contract: before each turn the words passed over stand in the buffer, each in the bytes of its kind.
-use Prim.Native.Nat.{◌-◌, ◌<◌, ℕ}
+use Prim.Native.Nat.{◌<◌, ℕ}
 use native.Mathlib.Omega.{arith}
 use mathlib.Core.List.{[], ◌∷◌}
 use mathlib.Core.Path.{◌∙◌, ◌≡◌, subst}
@@ -8,10 +8,9 @@ use lib.ListN.{length}
 use mir.Syntax.{w64}
 use mir.Val.{of_z, to_z}
 use Rattle.binary.specs.Binary.{number}
-use Rattle.content_reading.proofs.Words.{WordsTo, whole-form, whole-puts, whole_words, words_more, words-moved, words-start}
-use Rattle.integer_reading.specs.Figures.{EndsBefore}
+use Rattle.content_reading.proofs.Words.{whole-form, whole-puts, whole_words, words_more, words-moved, words-start}
 use Rattle.moving.proofs.Puts.{puts-before}
-use Rattle.moving.specs.Contents.{FindsOne, InText}
+use Rattle.moving.specs.Contents.{InText}
 use Rattle.moving.specs.Puts.{Puts}
 use Rattle.number.proofs.Laws.{size-le}
 use Rattle.number.specs.Clauses.{is_signed, size, width_of}
@@ -19,7 +18,6 @@ use Rattle.number.specs.Number.{pattern, to_digits}
 use Rattle.number.specs.declared.Integer.{Integer}
 use Rattle.table.specs.Shape.{Whole}
 use Rattle.table.specs.Wrote.{Wrote}
-use Rattle.tabledata.specs.TableData.{integer_word}
 use borrow.Author.Rules.{rules}
 use Rattle.content_reading.proofs.read_integers.Goals as goal
 

@@ -1,5 +1,5 @@
 -- `content_reading::read_text` meets its contract: before each turn the characters passed over stand in the buffer.
-use Prim.Native.Nat.{◌-◌, ◌<◌}
+use Prim.Native.Nat.{◌<◌}
 use native.Mathlib.Omega.{arith}
 use mathlib.Core.Path.{subst}
 use lib.ListN.{length}
@@ -53,31 +53,31 @@ bounds-s-end c = let p = c.plain_end-end.ensures in omega (arith, p.0, p.1.insid
 pub shape_of-row-then-o-first : goal.shape_of-row-then-o-first
 shape_of-row-then-o-first c =
     let copied : let a = c.args in TextTo a.s.now a.from c.plain_end-end.result a.row.now a.first c.copy_wide-o.new.row c.copy_wide-o.result =
-        text-run c.loop-from.invariant c.plain_end-end.ensures.0 c.plain_end-end.ensures.1 c.copy_wide-o.ensures in
+    text-run c.loop-from.invariant c.plain_end-end.ensures.0 c.plain_end-end.ensures.1 c.copy_wide-o.ensures in
     copied.puts.long
 
 pub returns-then-o-first : goal.returns-then-o-first
 returns-then-o-first c =
     let copied : let a = c.args in TextTo a.s.now a.from c.plain_end-end.result a.row.now a.first c.copy_wide-o.new.row c.copy_wide-o.result =
-        text-run c.loop-from.invariant c.plain_end-end.ensures.0 c.plain_end-end.ensures.1 c.copy_wide-o.ensures in
+    text-run c.loop-from.invariant c.plain_end-end.ensures.0 c.plain_end-end.ensures.1 c.copy_wide-o.ensures in
     puts-before copied.puts
 
 pub overflow_sub-result : goal.overflow_sub-result
 overflow_sub-result c =
     let copied : let a = c.args in TextTo a.s.now a.from c.plain_end-end.result a.row.now a.first c.copy_wide-o.new.row c.copy_wide-o.result =
-        text-run c.loop-from.invariant c.plain_end-end.ensures.0 c.plain_end-end.ensures.1 c.copy_wide-o.ensures in
+    text-run c.loop-from.invariant c.plain_end-end.ensures.0 c.plain_end-end.ensures.1 c.copy_wide-o.ensures in
     omega (arith, copied.puts.next-is)
 
 pub shape_of-row-then-s-end-eq60 : goal.shape_of-row-then-s-end-eq60
 shape_of-row-then-s-end-eq60 c =
     let copied : let a = c.args in TextTo a.s.now a.from c.plain_end-end.result a.row.now a.first c.copy_wide-o.new.row c.copy_wide-o.result =
-        text-run c.loop-from.invariant c.plain_end-end.ensures.0 c.plain_end-end.ensures.1 c.copy_wide-o.ensures in
+    text-run c.loop-from.invariant c.plain_end-end.ensures.0 c.plain_end-end.ensures.1 c.copy_wide-o.ensures in
     copied.puts.long
 
 pub returns-then-s-end-eq60 : goal.returns-then-s-end-eq60
 returns-then-s-end-eq60 c =
     let copied : let a = c.args in TextTo a.s.now a.from c.plain_end-end.result a.row.now a.first c.copy_wide-o.new.row c.copy_wide-o.result =
-        text-run c.loop-from.invariant c.plain_end-end.ensures.0 c.plain_end-end.ensures.1 c.copy_wide-o.ensures in
+    text-run c.loop-from.invariant c.plain_end-end.ensures.0 c.plain_end-end.ensures.1 c.copy_wide-o.ensures in
     text-moved copied
 
 pub letter_at-requires : goal.letter_at-requires
@@ -86,13 +86,13 @@ letter_at-requires c = let p = c.plain_end-end.ensures in omega (arith, p.0, p.1
 pub shape_of-row-in_default : goal.shape_of-row-in_default
 shape_of-row-in_default c =
     let copied : let a = c.args in TextTo a.s.now a.from c.plain_end-end.result a.row.now a.first c.copy_wide-o.new.row c.copy_wide-o.result =
-        text-run c.loop-from.invariant c.plain_end-end.ensures.0 c.plain_end-end.ensures.1 c.copy_wide-o.ensures in
+    text-run c.loop-from.invariant c.plain_end-end.ensures.0 c.plain_end-end.ensures.1 c.copy_wide-o.ensures in
     copied.puts.long
 
 pub returns-in_default : goal.returns-in_default
 returns-in_default c =
     let copied : let a = c.args in TextTo a.s.now a.from c.plain_end-end.result a.row.now a.first c.copy_wide-o.new.row c.copy_wide-o.result =
-        text-run c.loop-from.invariant c.plain_end-end.ensures.0 c.plain_end-end.ensures.1 c.copy_wide-o.ensures in
+    text-run c.loop-from.invariant c.plain_end-end.ensures.0 c.plain_end-end.ensures.1 c.copy_wide-o.ensures in
     puts-before copied.puts
 
 pub bounds-row-o : goal.bounds-row-o
@@ -104,7 +104,7 @@ bounds-row-o c =
 pub overflow_add-o : goal.overflow_add-o
 overflow_add-o c =
     let copied : let a = c.args in TextTo a.s.now a.from c.plain_end-end.result a.row.now a.first c.copy_wide-o.new.row c.copy_wide-o.result =
-        text-run c.loop-from.invariant c.plain_end-end.ensures.0 c.plain_end-end.ensures.1 c.copy_wide-o.ensures in
+    text-run c.loop-from.invariant c.plain_end-end.ensures.0 c.plain_end-end.ensures.1 c.copy_wide-o.ensures in
     let h = copied.puts.room in search rules
 
 pub loop-from-smaller : goal.loop-from-smaller
@@ -116,7 +116,7 @@ loop-from-smaller c =
 pub loop-from-preserved : goal.loop-from-preserved
 loop-from-preserved c =
     let copied : let a = c.args in TextTo a.s.now a.from c.plain_end-end.result a.row.now a.first c.copy_wide-o.new.row c.copy_wide-o.result =
-        text-run c.loop-from.invariant c.plain_end-end.ensures.0 c.plain_end-end.ensures.1 c.copy_wide-o.ensures in
+    text-run c.loop-from.invariant c.plain_end-end.ensures.0 c.plain_end-end.ensures.1 c.copy_wide-o.ensures in
     let letter : LetterIs c.args.s.now c.plain_end-end.result (Letter.Is c.in-Is.c c.in-Is.next) = subst (LetterIs _ _) c.in-Is.is c.letter_at.ensures in
     let room : c.copy_wide-o.result < length c.copy_wide-o.new.row = (let q = c.copy_wide-o.ensures in
     omega (arith, passes-length c.plain_end-end.ensures.1, q.next-is, q.long)) in

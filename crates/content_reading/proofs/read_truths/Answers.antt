@@ -1,13 +1,13 @@
 -- `content_reading::read_truths` meets its contract: before each turn the words passed over stand in the buffer, one byte each.
-use Prim.Native.Nat.{◌+◌, ◌-◌, ℕ}
+use Prim.Native.Nat.{◌+◌, ℕ}
 use native.Mathlib.Omega.{arith}
 use mathlib.Core.List.{[], ◌∷◌}
 use mathlib.Core.Path.{◌∙◌, ◌≡◌, ap}
 use lib.IntN.{pos}
-use lib.ListN.{get_or, length, set}
+use lib.ListN.{get_or, set}
 use Rattle.binary.specs.Binary.{number}
 use Rattle.content_reading.proofs.Singles.{truth-in-text, truth-small}
-use Rattle.content_reading.proofs.Words.{WordsTo, truth-form, truth-puts, truth-words, words_more, words-moved, words-start}
+use Rattle.content_reading.proofs.Words.{truth-form, truth-puts, truth-words, words_more, words-moved, words-start}
 use Rattle.content_reading.specs.Letters.{truth_number}
 use Rattle.moving.proofs.Puts.{puts-before}
 use Rattle.moving.specs.Contents.{InText}
@@ -15,7 +15,6 @@ use Rattle.moving.specs.Puts.{Puts}
 use Rattle.number.specs.Number.{to_digits}
 use Rattle.table.specs.Cell.{truth_byte}
 use Rattle.table.specs.Shape.{Truths}
-use Rattle.tabledata.specs.TableData.{truth_word}
 use borrow.Author.Rules.{rules}
 use Rattle.content_reading.proofs.read_truths.Goals as goal
 

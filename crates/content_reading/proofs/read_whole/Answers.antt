@@ -1,5 +1,4 @@
 -- `content_reading::read_whole` meets its contract: bytes have a way of their own.
-use borrow.Author.Rules.{rules}
 use Rattle.content_reading.proofs.read_whole.Goals as goal
 
 pub returns-in-UnsignedByte : goal.returns-in-UnsignedByte

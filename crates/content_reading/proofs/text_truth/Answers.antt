@@ -12,7 +12,6 @@ use mathlib.Core.List.{[], ◌∷◌}
 use Rattle.content_reading.proofs.Singles.{truth-in-text, truth-small}
 use Rattle.moving.specs.Contents.{InText}
 use Rattle.table.specs.Shape.{Truths}
-use borrow.Author.Rules.{rules}
 use Rattle.content_reading.proofs.text_truth.Goals as goal
 
 pub returns : goal.returns

@@ -4,7 +4,6 @@ use native.Mathlib.Omega.{arith}
 use lib.Dec.{eqb}
 use mir.Val.{bool_byte}
 use Rattle.content_reading.proofs.Singles.{lies, sum_is, sum-small, truths}
-use borrow.Author.Rules.{rules}
 use Rattle.content_reading.proofs.truth_number.Goals as goal
 
 pub overflow_add-truth : goal.overflow_add-truth

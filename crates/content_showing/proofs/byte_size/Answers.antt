@@ -3,7 +3,6 @@ use lib.Dec.{leb}
 use Rattle.content_showing.proofs.Text.{bit_le}
 use Rattle.content_showing.proofs.Words.{byte-size-is}
 use native.Mathlib.Omega.{arith}
-use borrow.Author.Rules.{rules}
 use Rattle.content_showing.proofs.byte_size.Goals as goal
 
 pub returns : goal.returns

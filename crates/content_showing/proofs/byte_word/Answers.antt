@@ -3,7 +3,6 @@ use lib.Dec.{leb}
 use Rattle.content_showing.proofs.Text.{bit_le}
 use Rattle.content_showing.proofs.Words.{byte-word-is}
 use native.Mathlib.Omega.{arith}
-use borrow.Author.Rules.{rules}
 use Rattle.content_showing.proofs.byte_word.Goals as goal
 
 pub overflow_sub-result : goal.overflow_sub-result

@@ -3,7 +3,6 @@ use Prim.Native.Nat.{◌*◌, ◌+◌, ◌-◌, ◌/◌}
 use Rattle.binary.proofs.Digits.{unit-some}
 use Rattle.content_showing.proofs.Bits.{bit-bytes, padded}
 use native.Mathlib.Omega.{arith}
-use borrow.Author.Rules.{rules}
 use Rattle.content_showing.proofs.is_padded.Goals as goal
 
 pub overflow_add-last : goal.overflow_add-last

@@ -1,12 +1,11 @@
 -- `content_showing::put_bits` meets its contract: before each turn the bits of the first k bytes are put.
-use Prim.Native.Nat.{◌*◌, ◌+◌, ◌-◌, ◌<◌, ◌≤◌, ℕ}
+use Prim.Native.Nat.{◌*◌, ◌+◌, ◌<◌, ◌≤◌, ℕ}
 use mathlib.Core.Path.{◌≡◌, refl, subst}
 use lib.ListN.{drop, length, take}
 use Rattle.content_showing.proofs.Bits.{bits-start, byte_more}
 use Rattle.content_showing.specs.Showing.{bit_letters}
 use Rattle.moving.specs.Puts.{Puts}
 use native.Mathlib.Omega.{arith}
-use borrow.Author.Rules.{rules}
 use Rattle.content_showing.proofs.put_bits.Goals as goal
 
 pub loop-k-init : goal.loop-k-init

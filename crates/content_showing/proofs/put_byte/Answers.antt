@@ -1,7 +1,6 @@
 -- `content_showing::put_byte` meets its contract: of the four bytes that are stored as many count as the byte's word has.
 use Rattle.content_showing.proofs.Words.{byte_put}
 use native.Mathlib.Omega.{arith}
-use borrow.Author.Rules.{rules}
 use Rattle.content_showing.proofs.put_byte.Goals as goal
 
 pub returns : goal.returns

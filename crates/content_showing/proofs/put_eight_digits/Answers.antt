@@ -1,6 +1,5 @@
 -- `content_showing::put_eight_digits` meets its contract: the bytes of the number that is stored are characters for its digits.
 use Rattle.content_showing.proofs.Digits.{eight-put, shown-fits}
-use borrow.Author.Rules.{rules}
 use Rattle.content_showing.proofs.put_eight_digits.Goals as goal
 
 pub overflow_add-eight_digits : goal.overflow_add-eight_digits

@@ -8,7 +8,6 @@ use Rattle.decimals.specs.Clauses.{numerals}
 use Rattle.moving.proofs.Puts.{puts-as, puts_then}
 use Rattle.number.specs.Number.{digits}
 use native.Mathlib.Omega.{arith}
-use borrow.Author.Rules.{rules}
 use Rattle.content_showing.proofs.put_long.Goals as goal
 
 pub put_first-next-requires : goal.put_first-next-requires

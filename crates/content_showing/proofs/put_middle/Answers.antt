@@ -3,7 +3,6 @@ use mathlib.Core.Path.{sym}
 use Rattle.content_showing.proofs.Digits.{middle-none, middle-some}
 use Rattle.moving.proofs.Puts.{puts-as, puts_none}
 use native.Mathlib.Omega.{arith}
-use borrow.Author.Rules.{rules}
 use Rattle.content_showing.proofs.put_middle.Goals as goal
 
 pub returns-then-v-lt10000000000000000 : goal.returns-then-v-lt10000000000000000

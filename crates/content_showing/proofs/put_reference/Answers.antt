@@ -1,6 +1,5 @@
 -- `content_showing::put_reference` meets its contract: of the eight bytes that are stored as many count as the reference has.
 use Rattle.content_showing.proofs.Text.{reference-put}
-use borrow.Author.Rules.{rules}
 use Rattle.content_showing.proofs.put_reference.Goals as goal
 
 pub returns : goal.returns

@@ -5,7 +5,6 @@ use lib.Bits.{bit_or}
 use lib.Count.{count_leading_zeros}
 use Rattle.content_showing.proofs.Digits.{short-put, shown-fits, zeros-lt}
 use native.Mathlib.Omega.{arith}
-use borrow.Author.Rules.{rules}
 use Rattle.content_showing.proofs.put_short.Goals as goal
 
 pub overflow_add-t : goal.overflow_add-t

@@ -5,7 +5,6 @@ use Rattle.content_showing.proofs.Stores.{puts-byte, puts-no-byte}
 use Rattle.moving.proofs.Puts.{puts-as}
 use Rattle.number.proofs.Signed.{down, up}
 use mir.Syntax.{w64}
-use borrow.Author.Rules.{rules}
 use Rattle.content_showing.proofs.put_sign.Goals as goal
 
 pub returns-then-z-ge0 : goal.returns-then-z-ge0

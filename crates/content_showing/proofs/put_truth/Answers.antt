@@ -6,7 +6,6 @@ use lib.ListN.{length-set}
 use Rattle.content_showing.proofs.Stores.{puts-two}
 use Rattle.moving.proofs.Puts.{puts-as}
 use native.Mathlib.Omega.{arith}
-use borrow.Author.Rules.{rules}
 use Rattle.content_showing.proofs.put_truth.Goals as goal
 
 pub bounds-row-o-2 : goal.bounds-row-o-2

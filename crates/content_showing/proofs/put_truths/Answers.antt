@@ -1,11 +1,10 @@
 -- `content_showing::put_truths` meets its contract: before each turn the letters of the first k bytes are put.
-use Prim.Native.Nat.{◌*◌, ◌+◌, ◌-◌, ◌<◌, ◌≤◌, ℕ}
+use Prim.Native.Nat.{◌*◌, ◌+◌, ◌<◌, ◌≤◌, ℕ}
 use mathlib.Core.Path.{◌≡◌, refl, subst}
 use lib.ListN.{drop, length, take}
 use Rattle.content_showing.proofs.Truths.{truth-more, truths-start}
 use Rattle.content_showing.specs.Showing.{TruthsPut}
 use native.Mathlib.Omega.{arith}
-use borrow.Author.Rules.{rules}
 use Rattle.content_showing.proofs.put_truths.Goals as goal
 
 pub loop-k-init : goal.loop-k-init

@@ -10,7 +10,6 @@ use Rattle.moving.proofs.Puts.{puts-as, puts_then}
 use Rattle.number.proofs.Decimal.{shortest-most}
 use Rattle.number.specs.Number.{shortest}
 use native.Mathlib.Omega.{arith}
-use borrow.Author.Rules.{rules}
 use Rattle.content_showing.proofs.put_word.Goals as goal
 
 pub bounds-row-next : goal.bounds-row-next

@@ -2,7 +2,6 @@
 use lib.Dec.{eqb}
 use Rattle.content_showing.proofs.Text.{bit_le, size_is, size-le}
 use native.Mathlib.Omega.{arith}
-use borrow.Author.Rules.{rules}
 use Rattle.content_showing.proofs.reference_size.Goals as goal
 
 pub overflow_add-result-5 : goal.overflow_add-result-5

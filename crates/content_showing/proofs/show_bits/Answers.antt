@@ -1,10 +1,8 @@
 -- `content_showing::show_bits` meets its contract: all bits of the bytes are put, and the first n count.
 use mathlib.Core.Path.{◌∙◌, sym}
-use borrow.Author.Tests.{not-false}
 use Rattle.content_showing.proofs.Bits.{bit-bytes, bits-moved}
 use Rattle.moving.proofs.Puts.{puts_none}
 use native.Mathlib.Omega.{arith}
-use borrow.Author.Rules.{rules}
 use Rattle.content_showing.proofs.show_bits.Goals as goal
 
 pub returns-then-row-o : goal.returns-then-row-o

@@ -1,11 +1,9 @@
 -- `content_showing::show_bytes` meets its contract: before each turn the first k bytes are put, a space behind each, in at most four bytes each.
-use Prim.Native.Nat.{◌*◌, ◌+◌, ◌-◌, ◌<◌, ◌≤◌}
+use Prim.Native.Nat.{◌<◌}
 use mathlib.Core.Path.{refl}
-use Rattle.content_showing.proofs.Words.{IntegersPut, byte_more, bytes-moved, bytes-start, integers-some}
+use Rattle.content_showing.proofs.Words.{byte_more, bytes-moved, bytes-start, integers-some}
 use Rattle.moving.proofs.Puts.{puts_none}
-use Rattle.number.specs.declared.Integer.TheVariants.{UnsignedByte}
 use native.Mathlib.Omega.{arith}
-use borrow.Author.Rules.{rules}
 use Rattle.content_showing.proofs.show_bytes.Goals as goal
 
 pub returns-then-row-o : goal.returns-then-row-o

@@ -6,7 +6,6 @@ use Rattle.number.proofs.Laws.{shape_of}
 use Rattle.number.specs.Clauses.{is_signed, width_of}
 use Rattle.table.specs.Shape.{Bits, Text, Truths, Whole, shape}
 use native.Mathlib.Omega.{arith}
-use borrow.Author.Rules.{rules}
 use Rattle.content_showing.proofs.show_content.Goals as goal
 
 pub returns-then-n-eq0 : goal.returns-then-n-eq0
@@ -15,8 +14,7 @@ returns-then-n-eq0 c = none-moved _ _ _ _ _ _ c.if-n-eq0.true c.requires.2
 pub show_truths-requires : goal.show_truths-requires
 unfolding content_bytes
 show_truths-requires c =
-    let truths-kind : shape c.args.kind ≡ Truths = shape_of c.elements_of.ensures c.in-Truths.is in
-    (
+    let truths-kind : shape c.args.kind ≡ Truths = shape_of c.elements_of.ensures c.in-Truths.is in (
       omega (arith, c.if-n-eq0.false),
       c.requires.0,
       omega (arith, bytes-as Truths (shape c.args.kind) c.args.n truths-kind, c.requires.1),
@@ -26,8 +24,7 @@ show_truths-requires c =
 pub show_bits-requires : goal.show_bits-requires
 unfolding content_bytes
 show_bits-requires c =
-    let bits-kind : shape c.args.kind ≡ Bits = shape_of c.elements_of.ensures c.in-Bits.is in
-    (
+    let bits-kind : shape c.args.kind ≡ Bits = shape_of c.elements_of.ensures c.in-Bits.is in (
       omega (arith, c.if-n-eq0.false),
       c.requires.0,
       omega (arith, bytes-as Bits (shape c.args.kind) c.args.n bits-kind, c.requires.1),
@@ -43,8 +40,7 @@ show_text-requires c =
 pub show_whole-requires : goal.show_whole-requires
 unfolding content_bytes
 show_whole-requires c =
-    let whole-kind : shape c.args.kind ≡ Whole (is_signed c.in-Whole.integer) (width_of c.in-Whole.integer) = shape_of c.elements_of.ensures c.in-Whole.is in
-    (
+    let whole-kind : shape c.args.kind ≡ Whole (is_signed c.in-Whole.integer) (width_of c.in-Whole.integer) = shape_of c.elements_of.ensures c.in-Whole.is in (
       omega (arith, c.if-n-eq0.false),
       c.requires.0,
       omega (arith, bytes-as _ (shape c.args.kind) c.args.n whole-kind, c.requires.1),

@@ -11,7 +11,6 @@ use Rattle.content_showing.specs.Showing.{sign}
 use Rattle.moving.proofs.Puts.{puts-as, puts_then}
 use Rattle.number.specs.Number.{digits}
 use native.Mathlib.Omega.{arith}
-use borrow.Author.Rules.{rules}
 use Rattle.content_showing.proofs.show_integer.Goals as goal
 
 pub put_number-requires : goal.put_number-requires

@@ -5,7 +5,7 @@ use lib.ListN.{length}
 use mir.Facts.{to_z-of_z}
 use mir.Syntax.{w64}
 use Rattle.binary.proofs.Loops.{place-fits}
-use Rattle.content_showing.proofs.Words.{IntegersPut, integer-more, integers-moved, integers-some, integers-start}
+use Rattle.content_showing.proofs.Words.{integer-more, integers-moved, integers-some, integers-start}
 use Rattle.moving.proofs.Puts.{puts-before}
 use Rattle.number.specs.Clauses.{size}
 use native.Mathlib.Omega.{arith}

@@ -1,15 +1,6 @@
 -- `content_showing::show_integers` meets its contract, once over the width: before each turn the first k integers are put, a space behind each.
-use Prim.Native.Nat.{◌*◌, ◌+◌, ◌-◌, ◌≤◌, ℕ}
-use mathlib.Core.Path.{◌∙◌}
-use lib.ListN.{length}
-use mir.Facts.{to_z-of_z}
-use mir.Syntax.{w64}
-use Rattle.binary.proofs.Loops.{place-fits}
-use Rattle.content_showing.proofs.Words.{IntegersPut, integer-more, integers-moved, integers-some, integers-start}
-use Rattle.moving.proofs.Puts.{puts-before}
-use Rattle.number.specs.Clauses.{size}
-use native.Mathlib.Omega.{arith}
-use borrow.Author.Rules.{rules}
+use Prim.Native.Nat.{◌-◌, ◌≤◌}
+use Rattle.content_showing.proofs.Words.{IntegersPut}
 use Rattle.content_showing.proofs.show_integers.Given as goal
 
 abbrev pub invariant-loop-k : goal.invariant-loop-k

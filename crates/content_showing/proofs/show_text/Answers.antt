@@ -51,7 +51,7 @@ copy_wide-e-requires c =
 pub overflow_add-k : goal.overflow_add-k
 overflow_add-k c =
     let after_run : let a = c.args in let copied = c.copy_wide-e in TextPut (take a.n (drop a.at a.s.now)) a.row.now a.o copied.new.row copied.result (c.loop-row.k + c.text_run-run.result) =
-        (let a = c.args in
+    (let a = c.args in
     let found = c.text_run-run in
     put-run a.s.now a.at a.n (omega arith) found.result found.ensures c.copy_wide-e.ensures c.loop-row.invariant.1) in
     let within-run : c.loop-row.k + c.text_run-run.result ≤ c.args.n = (let a = c.args in
@@ -64,7 +64,7 @@ overflow_add-result c = search rules
 pub shape_of-row-then-k-n : goal.shape_of-row-then-k-n
 shape_of-row-then-k-n c =
     let after_run : let a = c.args in let copied = c.copy_wide-e in TextPut (take a.n (drop a.at a.s.now)) a.row.now a.o copied.new.row copied.result (c.loop-row.k + c.text_run-run.result) =
-        (let a = c.args in
+    (let a = c.args in
     let found = c.text_run-run in
     put-run a.s.now a.at a.n (omega arith) found.result found.ensures c.copy_wide-e.ensures c.loop-row.invariant.1) in
     after_run.puts.long
@@ -72,7 +72,7 @@ shape_of-row-then-k-n c =
 pub returns-then-k-n : goal.returns-then-k-n
 returns-then-k-n c =
     let after_run : let a = c.args in let copied = c.copy_wide-e in TextPut (take a.n (drop a.at a.s.now)) a.row.now a.o copied.new.row copied.result (c.loop-row.k + c.text_run-run.result) =
-        (let a = c.args in
+    (let a = c.args in
     let found = c.text_run-run in
     put-run a.s.now a.at a.n (omega arith) found.result found.ensures c.copy_wide-e.ensures c.loop-row.invariant.1) in
     let a = c.args in
@@ -81,7 +81,7 @@ returns-then-k-n c =
 pub overflow_add-b : goal.overflow_add-b
 overflow_add-b c =
     let after_run : let a = c.args in let copied = c.copy_wide-e in TextPut (take a.n (drop a.at a.s.now)) a.row.now a.o copied.new.row copied.result (c.loop-row.k + c.text_run-run.result) =
-        (let a = c.args in
+    (let a = c.args in
     let found = c.text_run-run in
     put-run a.s.now a.at a.n (omega arith) found.result found.ensures c.copy_wide-e.ensures c.loop-row.invariant.1) in
     let within-run : c.loop-row.k + c.text_run-run.result ≤ c.args.n = (let a = c.args in
@@ -91,7 +91,7 @@ overflow_add-b c =
 pub bounds-s-at : goal.bounds-s-at
 bounds-s-at c =
     let after_run : let a = c.args in let copied = c.copy_wide-e in TextPut (take a.n (drop a.at a.s.now)) a.row.now a.o copied.new.row copied.result (c.loop-row.k + c.text_run-run.result) =
-        (let a = c.args in
+    (let a = c.args in
     let found = c.text_run-run in
     put-run a.s.now a.at a.n (omega arith) found.result found.ensures c.copy_wide-e.ensures c.loop-row.invariant.1) in
     let within-run : c.loop-row.k + c.text_run-run.result ≤ c.args.n = (let a = c.args in
@@ -104,7 +104,7 @@ overflow_add-result-then-b-eq0 c = search rules
 pub shape_of-row-then-b-eq0 : goal.shape_of-row-then-b-eq0
 shape_of-row-then-b-eq0 c =
     let after_run : let a = c.args in let copied = c.copy_wide-e in TextPut (take a.n (drop a.at a.s.now)) a.row.now a.o copied.new.row copied.result (c.loop-row.k + c.text_run-run.result) =
-        (let a = c.args in
+    (let a = c.args in
     let found = c.text_run-run in
     put-run a.s.now a.at a.n (omega arith) found.result found.ensures c.copy_wide-e.ensures c.loop-row.invariant.1) in
     after_run.puts.long
@@ -112,7 +112,7 @@ shape_of-row-then-b-eq0 c =
 pub returns-then-b-eq0 : goal.returns-then-b-eq0
 returns-then-b-eq0 c =
     let after_run : let a = c.args in let copied = c.copy_wide-e in TextPut (take a.n (drop a.at a.s.now)) a.row.now a.o copied.new.row copied.result (c.loop-row.k + c.text_run-run.result) =
-        (let a = c.args in
+    (let a = c.args in
     let found = c.text_run-run in
     put-run a.s.now a.at a.n (omega arith) found.result found.ensures c.copy_wide-e.ensures c.loop-row.invariant.1) in
     let within-run : c.loop-row.k + c.text_run-run.result ≤ c.args.n = (let a = c.args in
@@ -132,7 +132,7 @@ put_reference-next-requires c =
 pub shape_of-row-then-next-e : goal.shape_of-row-then-next-e
 shape_of-row-then-next-e c =
     let after_run : let a = c.args in let copied = c.copy_wide-e in TextPut (take a.n (drop a.at a.s.now)) a.row.now a.o copied.new.row copied.result (c.loop-row.k + c.text_run-run.result) =
-        (let a = c.args in
+    (let a = c.args in
     let found = c.text_run-run in
     put-run a.s.now a.at a.n (omega arith) found.result found.ensures c.copy_wide-e.ensures c.loop-row.invariant.1) in
     c.put_reference-next.ensures.long ∙ after_run.puts.long
@@ -140,7 +140,7 @@ shape_of-row-then-next-e c =
 pub returns-then-next-e : goal.returns-then-next-e
 returns-then-next-e c =
     let after_run : let a = c.args in let copied = c.copy_wide-e in TextPut (take a.n (drop a.at a.s.now)) a.row.now a.o copied.new.row copied.result (c.loop-row.k + c.text_run-run.result) =
-        (let a = c.args in
+    (let a = c.args in
     let found = c.text_run-run in
     put-run a.s.now a.at a.n (omega arith) found.result found.ensures c.copy_wide-e.ensures c.loop-row.invariant.1) in
     puts-before (puts_then after_run.puts c.put_reference-next.ensures)
@@ -148,7 +148,7 @@ returns-then-next-e c =
 pub overflow_add-k-in-loop-row : goal.overflow_add-k-in-loop-row
 overflow_add-k-in-loop-row c =
     let after_run : let a = c.args in let copied = c.copy_wide-e in TextPut (take a.n (drop a.at a.s.now)) a.row.now a.o copied.new.row copied.result (c.loop-row.k + c.text_run-run.result) =
-        (let a = c.args in
+    (let a = c.args in
     let found = c.text_run-run in
     put-run a.s.now a.at a.n (omega arith) found.result found.ensures c.copy_wide-e.ensures c.loop-row.invariant.1) in
     let within-run : c.loop-row.k + c.text_run-run.result ≤ c.args.n = (let a = c.args in
@@ -159,7 +159,7 @@ overflow_add-k-in-loop-row c =
 pub loop-row-smaller : goal.loop-row-smaller
 loop-row-smaller c =
     let after_run : let a = c.args in let copied = c.copy_wide-e in TextPut (take a.n (drop a.at a.s.now)) a.row.now a.o copied.new.row copied.result (c.loop-row.k + c.text_run-run.result) =
-        (let a = c.args in
+    (let a = c.args in
     let found = c.text_run-run in
     put-run a.s.now a.at a.n (omega arith) found.result found.ensures c.copy_wide-e.ensures c.loop-row.invariant.1) in
     let within-run : c.loop-row.k + c.text_run-run.result ≤ c.args.n = (let a = c.args in
@@ -170,7 +170,7 @@ loop-row-smaller c =
 pub loop-row-preserved : goal.loop-row-preserved
 loop-row-preserved c =
     let after_run : let a = c.args in let copied = c.copy_wide-e in TextPut (take a.n (drop a.at a.s.now)) a.row.now a.o copied.new.row copied.result (c.loop-row.k + c.text_run-run.result) =
-        (let a = c.args in
+    (let a = c.args in
     let found = c.text_run-run in
     put-run a.s.now a.at a.n (omega arith) found.result found.ensures c.copy_wide-e.ensures c.loop-row.invariant.1) in
     let within-run : c.loop-row.k + c.text_run-run.result ≤ c.args.n = (let a = c.args in

@@ -6,7 +6,6 @@ use mir.Facts.{to_z-of_z}
 use Rattle.content_showing.proofs.Stores.{puts-byte}
 use Rattle.moving.proofs.Puts.{puts-as}
 use Rattle.table.specs.Cell.{truth_byte}
-use borrow.Author.Rules.{rules}
 use Rattle.content_showing.proofs.show_truth.Goals as goal
 
 pub returns : goal.returns

@@ -2,7 +2,6 @@
 use Rattle.content_showing.proofs.Truths.{truths-moved}
 use Rattle.moving.proofs.Puts.{puts-before, puts_none}
 use native.Mathlib.Omega.{arith}
-use borrow.Author.Rules.{rules}
 use Rattle.content_showing.proofs.show_truths.Goals as goal
 
 pub returns-then-row-o : goal.returns-then-row-o

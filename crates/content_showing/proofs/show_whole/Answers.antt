@@ -6,7 +6,6 @@ use Rattle.number.specs.Clauses.{is_signed, size, width_of}
 use Rattle.number.specs.declared.Integer.{Integer}
 use Rattle.table.specs.Shape.{Shape, Whole}
 use native.Mathlib.Omega.{arith}
-use borrow.Author.Rules.{rules}
 use Rattle.content_showing.proofs.show_whole.Goals as goal
 
 abbrev whole_of : Integer → Shape

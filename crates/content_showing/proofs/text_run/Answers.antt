@@ -1,5 +1,5 @@
 -- `content_showing::text_run` meets its contract: before each turn the first k bytes are written as themselves.
-use Prim.Native.Nat.{◌+◌, ◌-◌, ◌<◌, ◌≤◌, ℕ}
+use Prim.Native.Nat.{◌+◌, ◌≤◌, ℕ}
 use mathlib.Core.Path.{ap}
 use mathlib.Core.List.{List}
 use lib.ListN.{drop, take}
@@ -8,7 +8,6 @@ use Rattle.content_showing.proofs.Marked.{run-front, run_more}
 use Rattle.content_showing.specs.Showing.{is_itself}
 use Rattle.eights.specs.Marks.{run}
 use native.Mathlib.Omega.{arith}
-use borrow.Author.Rules.{rules}
 use Rattle.content_showing.proofs.text_run.Goals as goal
 
 pub loop-k-init : goal.loop-k-init

@@ -4,7 +4,6 @@ use lib.Dec.{eqb}
 use Rattle.content_showing.proofs.Text.{bit_le}
 use Rattle.content_showing.proofs.Truths.{letter-is}
 use native.Mathlib.Omega.{arith}
-use borrow.Author.Rules.{rules}
 use Rattle.content_showing.proofs.truth_letter.Goals as goal
 
 pub overflow_add-result-2 : goal.overflow_add-result-2

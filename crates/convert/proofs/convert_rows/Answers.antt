@@ -72,8 +72,7 @@ loop-i-init c =
     let within : (c.rows.cursor.at ≤ body_at) × (body_at ≤ length s-at) = (
     let g = c.begin_row-b in
     begun-within from_at (listed cols-at) cols-at.count (listed-length cols-at) s-at c.rows.cursor.at g.result g.ensures flags-at body_at
-    c.in-Row.is) in
-    (
+    c.in-Row.is) in (
       read-start from_at (listed cols-at) _ s-at body_at within.1,
       measured-start to_at (listed cols-at) c.rows.scratch c.start-m.result
           c.start-m.ensures,
@@ -338,7 +337,7 @@ moved-more-requires c =
     let cursor-moves : c.after.result.at ≡ next-at = omega (arith, onward.0, c.after.ensures) in
     let out-behind : List ℕ = c.put_row.new.out in
     let row-behind : (o : List ℕ) → RowsDone from_at to_at (listed cols-at) s-at o c.rows.out c.rows.cursor.at c.rows.p.rows c.rows.p.bytes
-        → RowsDone from_at to_at (listed cols-at) s-at o out-behind c.after.result.at c.after-in-rows.result.rows c.after-in-rows.result.bytes = λ o d. (
+    → RowsDone from_at to_at (listed cols-at) s-at o out-behind c.after.result.at c.after-in-rows.result.rows c.after-in-rows.result.bytes = λ o d. (
     let l = c.loop-i in
     let n = onward in
     let w = c.put_row.ensures in
@@ -407,7 +406,7 @@ rows-smaller c =
     let cursor-moves : c.after.result.at ≡ next-at = omega (arith, onward.0, c.after.ensures) in
     let out-behind : List ℕ = c.put_row.new.out in
     let row-behind : (o : List ℕ) → RowsDone from_at to_at (listed cols-at) s-at o c.rows.out c.rows.cursor.at c.rows.p.rows c.rows.p.bytes
-        → RowsDone from_at to_at (listed cols-at) s-at o out-behind c.after.result.at c.after-in-rows.result.rows c.after-in-rows.result.bytes = λ o d. (
+    → RowsDone from_at to_at (listed cols-at) s-at o out-behind c.after.result.at c.after-in-rows.result.rows c.after-in-rows.result.bytes = λ o d. (
     let l = c.loop-i in
     let n = onward in
     let w = c.put_row.ensures in
@@ -418,7 +417,7 @@ rows-smaller c =
     (w.wrote.now-is ∙ ap (λ (y : Holding). sets c.rows.out c.rows.p.bytes (row-held y)) h) _ _ _ cursor-moves c.after-in-rows.ensures.0
     (c.after-in-rows.ensures.1 ∙ ap (λ (k : ℕ). c.rows.p.bytes + k) (sym size-at))) in
     let more-done : let m = c.moved-more in RowsFurther from_at to_at (listed cols-at) s-at out-behind c.after.result.at c.after-in-rows.result.rows c.after-in-rows.result.bytes m.new.out
-        m.result.place m.result.rows m.result.bytes = (
+    m.result.place m.result.rows m.result.bytes = (
     let d = row-behind out_at done_at in
     rows-further c.moved-more.ensures.moves_rows.moved are d.inside d.fewer) in
     let n = onward in
@@ -477,7 +476,7 @@ rows-preserved c =
     let cursor-moves : c.after.result.at ≡ next-at = omega (arith, onward.0, c.after.ensures) in
     let out-behind : List ℕ = c.put_row.new.out in
     let row-behind : (o : List ℕ) → RowsDone from_at to_at (listed cols-at) s-at o c.rows.out c.rows.cursor.at c.rows.p.rows c.rows.p.bytes
-        → RowsDone from_at to_at (listed cols-at) s-at o out-behind c.after.result.at c.after-in-rows.result.rows c.after-in-rows.result.bytes = λ o d. (
+    → RowsDone from_at to_at (listed cols-at) s-at o out-behind c.after.result.at c.after-in-rows.result.rows c.after-in-rows.result.bytes = λ o d. (
     let l = c.loop-i in
     let n = onward in
     let w = c.put_row.ensures in
@@ -489,7 +488,7 @@ rows-preserved c =
     (c.after-in-rows.ensures.1 ∙ ap (λ (k : ℕ). c.rows.p.bytes + k) (sym size-at))) in
     let scratch-behind : length c.put_row.new.scratch ≡ length c.rows.scratch = c.put_row.ensures.scratch_len_unchanged ∙ c.loop-i.invariant.3 in
     let more-done : let m = c.moved-more in RowsFurther from_at to_at (listed cols-at) s-at out-behind c.after.result.at c.after-in-rows.result.rows c.after-in-rows.result.bytes m.new.out
-        m.result.place m.result.rows m.result.bytes = (
+    m.result.place m.result.rows m.result.bytes = (
     let d = row-behind out_at done_at in
     rows-further c.moved-more.ensures.moves_rows.moved are d.inside d.fewer) in
     let m = c.moved-more.ensures in
@@ -540,8 +539,8 @@ returns-in-Refused c =
     c.rows.invariant.0.further out_at (f.further out_at (rows_start from_at to_at (listed cols-at) s-at out_at _ _ _ n.ensures z.ensures))) in
     let left : at_end from_at (drop c.rows.cursor.at s-at) ≡ false = sym c.at_end.ensures ∙ c.rows-test.true in
     let stopped : (n k : ℕ) → read_row from_at (listed cols-at) (drop c.rows.cursor.at s-at) ≡ bad (at k n)
-        → Finished from_at to_at (listed cols-at) s-at out_at c.rows.out
-        (record { number = n; row = c.rows.p.rows; column = k; rows = c.rows.p.rows; bytes = c.rows.p.bytes }) c.rows.cursor.at = λ n k e. (
+    → Finished from_at to_at (listed cols-at) s-at out_at c.rows.out
+    (record { number = n; row = c.rows.p.rows; column = k; rows = c.rows.p.rows; bytes = c.rows.p.bytes }) c.rows.cursor.at = λ n k e. (
     read-refusal from_at to_at (listed cols-at) are s-at out_at c.rows.out c.rows.cursor.at c.rows.p.rows c.rows.p.bytes done_at left (at k n) e) in
     let g = c.begin_row-b in
     let d = stopped _ 0 (row-unbegun from_at (listed cols-at) cols-at.count (listed-length cols-at) s-at c.rows.cursor.at g.result g.ensures
@@ -571,8 +570,8 @@ returns-in-Refused-t c =
     let column-at : Column = get_or cols-at.list c.loop-i.i no_column in
     let next-column : drop c.loop-i.i (listed cols-at) ≡ column-at ∷ drop (suc c.loop-i.i) (listed cols-at) = listed_next cols-at c.loop-i.i c.loop-i-test.true in
     let stopped : (n k : ℕ) → read_row from_at (listed cols-at) (drop c.rows.cursor.at s-at) ≡ bad (at k n)
-        → Finished from_at to_at (listed cols-at) s-at out_at c.rows.out
-        (record { number = n; row = c.rows.p.rows; column = k; rows = c.rows.p.rows; bytes = c.rows.p.bytes }) c.rows.cursor.at = λ n k e. (
+    → Finished from_at to_at (listed cols-at) s-at out_at c.rows.out
+    (record { number = n; row = c.rows.p.rows; column = k; rows = c.rows.p.rows; bytes = c.rows.p.bytes }) c.rows.cursor.at = λ n k e. (
     read-refusal from_at to_at (listed cols-at) are s-at out_at c.rows.out c.rows.cursor.at c.rows.p.rows c.rows.p.bytes done_at left (at k n) e) in
     let l = c.loop-i in
     let f = c.flag_of-flagged in
@@ -602,8 +601,8 @@ returns-in-Refused-e c =
     row-begun from_at (listed cols-at) cols-at.count (listed-length cols-at) s-at c.rows.cursor.at g.result g.ensures flags-at body_at
     c.in-Row.is) in
     let stopped : (n k : ℕ) → read_row from_at (listed cols-at) (drop c.rows.cursor.at s-at) ≡ bad (at k n)
-        → Finished from_at to_at (listed cols-at) s-at out_at c.rows.out
-        (record { number = n; row = c.rows.p.rows; column = k; rows = c.rows.p.rows; bytes = c.rows.p.bytes }) c.rows.cursor.at = λ n k e. (
+    → Finished from_at to_at (listed cols-at) s-at out_at c.rows.out
+    (record { number = n; row = c.rows.p.rows; column = k; rows = c.rows.p.rows; bytes = c.rows.p.bytes }) c.rows.cursor.at = λ n k e. (
     read-refusal from_at to_at (listed cols-at) are s-at out_at c.rows.out c.rows.cursor.at c.rows.p.rows c.rows.p.bytes done_at left (at k n) e) in
     let past : length (listed cols-at) ≤ c.loop-i.i = omega (arith, listed-length cols-at, c.loop-i-test.false) in
     let all_read : read_cells from_at (listed cols-at) (flags_in from_at cols-at.count flags-at) 0 (drop body_at s-at) ≡ good (c.loop-i.invariant.0.acc, drop c.loop-i.at s-at) = (
@@ -611,7 +610,7 @@ returns-in-Refused-e c =
     let e = c.end_row-e in
     let q = cells_open from_at (listed cols-at) _ s-at body_at _ _ all_read e.result e.ensures c.in-Refused-e.n c.in-Refused-e.is in
     let d = stopped _ cols-at.count (begun ∙ q ∙ ap (λ (k : ℕ). bad (at k c.in-Refused-e.n)) (listed-length cols-at)) in
-        record { answer_value = d.answers; place_value = d.stands; out_after = d.leaves }
+    record { answer_value = d.answers; place_value = d.stands; out_after = d.leaves }
 
 pub returns-then-m-ne-NONE : goal.returns-then-m-ne-NONE
 unfolding at

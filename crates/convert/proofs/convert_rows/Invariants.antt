@@ -38,7 +38,7 @@ use Rattle.convert.proofs.convert_rows.Given as goal
 abbrev pub invariant-loop-i : goal.invariant-loop-i
 invariant-loop-i l =
     (k : RowRead l.from (listed l.cols) (flags_in l.from l.count l.flags) l.s l.body l.at l.i) × RowMeasured l.to (listed l.cols) k.acc l.scratch l.m l.i × (l.stop ≡ l.initial.stop)
-        × (length l.scratch ≡ length l.initial.scratch)
+    × (length l.scratch ≡ length l.initial.scratch)
 
 abbrev pub decreases-loop-i : goal.decreases-loop-i
 decreases-loop-i l = l.count - l.i

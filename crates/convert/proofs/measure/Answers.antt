@@ -136,7 +136,7 @@ returns-in-Shown c =
     let long : length now-held ≡ length old = back_long place old read fits same (to_z w64 count) in
     let part : take (length now-held - (place + 1)) (drop (place + 1) now-held) ≡ read = back-part place old read fits same (to_z w64 count) in
     let counted : to_z w64 count ∷ take count read ≡ held_cell (shown (take count read)) =
-        ap (λ (z : ℤ). z ∷ take count read) (to_z_pos w64 (omega (arith, few)) ∙ ap pos (sym (length-take-le count read within.2))) in
+    ap (λ (z : ℤ). z ∷ take count read) (to_z_pos w64 (omega (arith, few)) ∙ ap pos (sym (length-take-le count read within.2))) in
     let f = c.read_cell-found.ensures in
     let x = shown (take count read) in
     let t : length (take count read) ≡ count = length-take-le count read within.2 in

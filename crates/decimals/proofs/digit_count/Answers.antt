@@ -4,7 +4,6 @@ use mathlib.Core.Path.{◌∙◌, ap, sym}
 use Rattle.number.proofs.Decimal.{count-above}
 use Rattle.number.proofs.Laws.{digits_are}
 use native.Mathlib.Omega.{arith}
-use borrow.Author.Rules.{rules}
 use Rattle.decimals.proofs.digit_count.Goals as goal
 
 pub overflow_add-result : goal.overflow_add-result

@@ -1,12 +1,11 @@
 -- `decimals::put_digits` meets its contract. The loop stores the last two digits first: what is still to store, with what is there, makes all.
-use Prim.Native.Nat.{◌≤◌, ℕ}
+use Prim.Native.Nat.{ℕ}
 use native.Mathlib.Omega.{arith}
 use mathlib.Core.Path.{◌∙◌, ◌≡◌, ap, sym}
-use lib.ListN.{length, length-set}
+use lib.ListN.{length-set}
 use lib.Seq.{sets}
 use Rattle.decimals.specs.Clauses.{numerals}
 use Rattle.decimals.proofs.Numerals.{numerals-none, numerals-one, numerals-pair}
-use borrow.Author.Rules.{rules}
 use Rattle.decimals.proofs.put_digits.Goals as goal
 
 pub bounds-out-at-in-loop-left : goal.bounds-out-at-in-loop-left

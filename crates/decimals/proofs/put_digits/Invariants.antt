@@ -1,12 +1,9 @@
 -- `decimals::put_digits` meets its contract. The loop stores the last two digits first: what is still to store, with what is there, makes all.
-use Prim.Native.Nat.{◌≤◌, ℕ}
-use native.Mathlib.Omega.{arith}
-use mathlib.Core.Path.{◌∙◌, ◌≡◌, ap, sym}
-use lib.ListN.{length, length-set}
+use Prim.Native.Nat.{◌≤◌}
+use mathlib.Core.Path.{◌≡◌}
+use lib.ListN.{length}
 use lib.Seq.{sets}
 use Rattle.decimals.specs.Clauses.{numerals}
-use Rattle.decimals.proofs.Numerals.{numerals-none, numerals-one, numerals-pair}
-use borrow.Author.Rules.{rules}
 use Rattle.decimals.proofs.put_digits.Given as goal
 
 abbrev pub invariant-loop-left : goal.invariant-loop-left

@@ -5,7 +5,6 @@ use lib.Seq.{sets}
 use Rattle.decimals.specs.Clauses.{numerals}
 use Rattle.decimals.proofs.Numerals.{digits-numerals}
 use native.Mathlib.Omega.{arith}
-use borrow.Author.Rules.{rules}
 use Rattle.decimals.proofs.write_digits.Goals as goal
 
 pub put_digits-requires : goal.put_digits-requires

@@ -11,7 +11,6 @@ use Rattle.number.proofs.Decimal.{shortest-down, shortest-up}
 use Rattle.table.proofs.Wrote.{wrote_after, wrote_as}
 use Rattle.number.proofs.Signed.{down, up}
 use native.Mathlib.Omega.{arith}
-use borrow.Author.Rules.{rules}
 use Rattle.decimals.proofs.write_shortest.Goals as goal
 
 pub write_digits-requires : goal.write_digits-requires

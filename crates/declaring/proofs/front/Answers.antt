@@ -1,7 +1,6 @@
 -- declaring::front: the declarations' answer where they are refused, 6 for the input's size, and else the columns; each way out is a law of Front.
 use native.Mathlib.Omega.{arith}
 use mathlib.Core.Path.{◌∙◌, ap, sym}
-use borrow.Author.Rules.{rules}
 use Rattle.fields.proofs.Front.{front-declared, front-oversized, front-undeclared}
 use Rattle.fields.proofs.Refusals.{declare-fails}
 use Rattle.table.specs.Outcome.{most_input}

@@ -1,5 +1,4 @@
 -- declaring::no_columns: a list of columns that are none.
-use borrow.Author.Rules.{rules}
 use Rattle.declaring.proofs.no_columns.Goals as goal
 
 pub returns : goal.returns

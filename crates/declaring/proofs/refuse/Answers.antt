@@ -1,7 +1,6 @@
 -- declaring::refuse: a refusal hands out no column.
 use Rattle.declaring.specs.Clauses.{answered}
 use Rattle.table.specs.Outcome.{at}
-use borrow.Author.Rules.{rules}
 use Rattle.declaring.proofs.refuse.Goals as goal
 
 pub returns : goal.returns

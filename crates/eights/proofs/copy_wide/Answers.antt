@@ -1,7 +1,7 @@
 -- `eights::copy_wide` meets its contract: before each turn the first k bytes stand in the buffer; the last turn may copy more than are asked for.
-use Prim.Native.Nat.{◌+◌, ◌-◌, ◌<◌, ◌≤◌, ℕ}
+use Prim.Native.Nat.{◌+◌, ◌<◌, ◌≤◌, ℕ}
 use native.Mathlib.Nat.{add-zero}
-use mathlib.Core.List.{◌++◌, append-nil}
+use mathlib.Core.List.{append-nil}
 use mathlib.Core.Path.{◌∙◌, ◌≡◌, ap, refl, sym}
 use lib.ListN.{drop, length, length-drop, take}
 use lib.Seq.{length-take-le}

@@ -12,7 +12,6 @@ use Rattle.eights.specs.Marks.{mark}
 use Rattle.eights.proofs.Lanes.{marks-bytes}
 use Rattle.eights.proofs.Lowest.{first-is}
 use Rattle.eights.proofs.Turning.{turned_round}
-use borrow.Author.Rules.{rules}
 use Rattle.eights.proofs.first_of.Goals as goal
 
 marks-turned : {m r : ℕ} → TurnedRound m r → (test : ℕ → Bool) (ds : List ℕ) → length ds ≡ 8 → m ≡ of_digits 256 0 (map (mark test) ds) → r ≡ of_lowest (map (mark test) ds)

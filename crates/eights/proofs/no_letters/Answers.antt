@@ -1,7 +1,6 @@
 -- `eights::no_letters` meets its contract: byte by byte, and of a byte by computation.
 use lib.Bits.{and_le_r}
 use Rattle.eights.proofs.Lanes.{letters-marked}
-use borrow.Author.Rules.{rules}
 use native.Mathlib.Omega.{arith}
 use Rattle.eights.proofs.no_letters.Goals as goal
 

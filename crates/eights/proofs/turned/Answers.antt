@@ -1,5 +1,4 @@
 -- `eights::turned` meets its contract: neighbours change places, then pairs, then fours (turned_round); what a mask leaves has room where it is moved.
-use borrow.Author.Rules.{rules}
 use Rattle.eights.proofs.Turning.{bytes_fit, bytes_turned, fours-fit, pairs-fit, pairs_turned, turned_round}
 use Rattle.eights.proofs.turned.Goals as goal
 

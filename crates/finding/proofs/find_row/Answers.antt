@@ -20,12 +20,11 @@ pub overflow_cast-entry : goal.overflow_cast-entry
 overflow_cast-entry c = omega (arith, c.shared_slice_known-3-1.given (c.args.row / 64))
 
 pub find_from-requires : goal.find_from-requires
-find_from-requires c =
-    (
-      c.requires,
-      subst⁻¹ (λ (n : ℕ). n ≤ length c.args.s.now) c.within-start.ensures (within-inside c.args.s.now (get_or c.args.index.now (c.args.row / 64) 0)),
-      search rules,
-    )
+find_from-requires c = (
+  c.requires,
+  subst⁻¹ (λ (n : ℕ). n ≤ length c.args.s.now) c.within-start.ensures (within-inside c.args.s.now (get_or c.args.index.now (c.args.row / 64) 0)),
+  search rules,
+)
 
 pub returns : goal.returns
 returns c =

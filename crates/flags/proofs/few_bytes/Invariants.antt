@@ -1,13 +1,8 @@
 -- `flags::few_bytes` meets its contract. The loop's invariant: the bytes from the k-th on, behind those in x, spell the whole number.
 use Prim.Native.Nat.{◌+◌, ◌-◌, ◌<◌, ◌^◌, ◌≤◌}
-use Rattle.flags.proofs.FlagLaws.{byte_next, bytes_fit, bytes-grow}
 use Rattle.number.specs.Number.{of_digits}
-use Rattle.table.specs.Outcome.{at}
-use lib.Dec.{lit<}
-use lib.ListN.{drop, get_or, take}
-use mathlib.Core.Path.{◌∙◌, ◌≡◌, sym}
-use native.Mathlib.Nat.{add-zero, sub-zero}
-use native.Mathlib.Omega.{arith}
+use lib.ListN.{drop, take}
+use mathlib.Core.Path.{◌≡◌}
 use Rattle.flags.proofs.few_bytes.Given as goal
 
 abbrev pub invariant-loop-k : goal.invariant-loop-k

@@ -1,7 +1,6 @@
 -- `flags::is_flagged` meets its contract: a digit of the flags.
 use Prim.Native.Nat.{ℕ}
 use Rattle.flags.proofs.FlagLaws.{digit_at}
-use borrow.Author.Rules.{rules}
 use lib.Dec.{eqb}
 use mathlib.Core.Path.{ap, sym}
 use native.Mathlib.Omega.{arith}

@@ -2,8 +2,6 @@
 use Rattle.binary.proofs.Digits.{unit-some}
 use Rattle.flags.proofs.FlagLaws.{are-bytes, flags-short, start-few, start-good, start-spoiled}
 use Rattle.binary.specs.Binary.{bit_bytes}
-use Rattle.table.specs.Outcome.{at}
-use borrow.Author.Rules.{rules}
 use native.Mathlib.Omega.{arith}
 use Rattle.flags.proofs.read_flags.Goals as goal
 

@@ -1,11 +1,9 @@
 -- `flags::write_flags` meets its contract. The loop's invariant: the bytes of the m low digits, put from o on, make the whole.
-use Prim.Native.Nat.{◌+◌, ◌≤◌}
 use Rattle.flags.proofs.FlagLaws.{byte_left, length-flags, write-is}
 use Rattle.binary.specs.Binary.{bit_bytes}
 use Rattle.number.specs.Number.{to_digits}
-use Rattle.table.specs.Outcome.{at}
 use lib.Dec.{lit<}
-use lib.ListN.{length, length-set}
+use lib.ListN.{length-set}
 use lib.Seq.{sets}
 use mathlib.Core.Path.{◌∙◌, ◌≡◌, ap, refl, sym}
 use native.Mathlib.Nat.{mod-lt}

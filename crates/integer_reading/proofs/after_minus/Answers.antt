@@ -1,8 +1,6 @@
 -- `integer_reading::after_minus` meets its contract: a minus is passed over where the kind has a sign.
 use native.Mathlib.Omega.{arith}
-use borrow.Author.Tests.{not-false}
 use Rattle.integer_reading.specs.Figures.{a-minus, no_minus}
-use borrow.Author.Rules.{rules}
 use Rattle.integer_reading.proofs.after_minus.Goals as goal
 
 pub returns-then-s-at-eq45 : goal.returns-then-s-at-eq45

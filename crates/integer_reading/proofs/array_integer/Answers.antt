@@ -19,7 +19,6 @@ use Rattle.number.specs.Number.{with_sign}
 use Rattle.table.specs.All.{AreBytes}
 use Rattle.table.specs.Shape.{Whole}
 use Rattle.words.proofs.WordLaws.{top_lt}
-use borrow.Author.Rules.{rules}
 use Rattle.integer_reading.proofs.array_integer.Goals as goal
 
 pub overflow_sub-minus : goal.overflow_sub-minus

@@ -1,7 +1,6 @@
 -- `integer_reading::few_figures` meets its contract: what is behind the first n is shifted out, in two steps.
 use native.Mathlib.Omega.{arith}
 use Rattle.integer_reading.proofs.Figures.{few-law}
-use borrow.Author.Rules.{rules}
 use Rattle.integer_reading.proofs.few_figures.Goals as goal
 
 pub returns : goal.returns

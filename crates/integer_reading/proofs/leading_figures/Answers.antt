@@ -1,7 +1,6 @@
 -- `integer_reading::leading_figures` meets its contract: what is behind the first n is shifted out.
 use native.Mathlib.Omega.{arith}
 use Rattle.integer_reading.proofs.Figures.{leading-law}
-use borrow.Author.Rules.{rules}
 use Rattle.integer_reading.proofs.leading_figures.Goals as goal
 
 pub returns : goal.returns

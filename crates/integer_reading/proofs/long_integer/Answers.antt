@@ -6,7 +6,7 @@ use mathlib.Core.Path.{◌≡◌, subst, sym}
 use lib.IntN.{ℤ}
 use mir.Syntax.{w64}
 use mir.Val.{of_z, to_z}
-use Rattle.moving.specs.Contents.{FindsOne, InText}
+use Rattle.moving.specs.Contents.{InText}
 use Rattle.number.specs.Clauses.{is_signed, width_of}
 use Rattle.table.specs.Shape.{Whole}
 use borrow.Author.Rules.{rules}

@@ -9,7 +9,6 @@ use Rattle.integer_reading.specs.Figures.{FiguresAt, is_digit}
 use Rattle.integer_reading.specs.Runs.{Passes}
 use Rattle.eights.proofs.Fronts.{are-bytes}
 use Rattle.table.specs.All.{AreBytes}
-use borrow.Author.Rules.{rules}
 use Rattle.integer_reading.proofs.long_run.Goals as goal
 
 pub returns-then-m-gt3 : goal.returns-then-m-gt3
@@ -20,7 +19,7 @@ two_runs-high-requires c =
     let s : List ℕ = c.args.s.now in
     let bytes : AreBytes s = are-bytes s (λ i. omega (arith, c.shared_slice_known-1.given i)) in
     let found : Passes is_digit s (c.args.at + 16) c.first_of-m.result × (c.first_of-m.result ≤ 8) =
-        passes-ahead s (c.args.at + 16) bytes (omega arith) c.eight_bytes.ensures c.no_digits.ensures c.first_of-m.ensures in
+    passes-ahead s (c.args.at + 16) bytes (omega arith) c.eight_bytes.ensures c.no_digits.ensures c.first_of-m.ensures in
     let all : Passes is_digit s c.args.at (16 + c.first_of-m.result) = passes_then c.requires.1 found.0 refl refl in
     (omega arith, passes-front (c.first_of-m.result + 8) all (omega arith), c.requires.2)
 
@@ -34,7 +33,7 @@ overflow_add-result c =
     let s : List ℕ = c.args.s.now in
     let bytes : AreBytes s = are-bytes s (λ i. omega (arith, c.shared_slice_known-1.given i)) in
     let found : Passes is_digit s (c.args.at + 16) c.first_of-m.result × (c.first_of-m.result ≤ 8) =
-        passes-ahead s (c.args.at + 16) bytes (omega arith) c.eight_bytes.ensures c.no_digits.ensures c.first_of-m.ensures in
+    passes-ahead s (c.args.at + 16) bytes (omega arith) c.eight_bytes.ensures c.no_digits.ensures c.first_of-m.ensures in
     let all : Passes is_digit s c.args.at (16 + c.first_of-m.result) = passes_then c.requires.1 found.0 refl refl in
     let m : ℕ = c.first_of-m.result in
     let low : FiguresAt s (c.args.at + m + 8) 8 c.decimal_of-low.result = (let here : c.args.at + (m + 8) ≡ c.args.at + m + 8 = omega arith in
@@ -47,7 +46,7 @@ returns c =
     let s : List ℕ = c.args.s.now in
     let bytes : AreBytes s = are-bytes s (λ i. omega (arith, c.shared_slice_known-1.given i)) in
     let found : Passes is_digit s (c.args.at + 16) c.first_of-m.result × (c.first_of-m.result ≤ 8) =
-        passes-ahead s (c.args.at + 16) bytes (omega arith) c.eight_bytes.ensures c.no_digits.ensures c.first_of-m.ensures in
+    passes-ahead s (c.args.at + 16) bytes (omega arith) c.eight_bytes.ensures c.no_digits.ensures c.first_of-m.ensures in
     let all : Passes is_digit s c.args.at (16 + c.first_of-m.result) = passes_then c.requires.1 found.0 refl refl in
     let m : ℕ = c.first_of-m.result in
     let low : FiguresAt s (c.args.at + m + 8) 8 c.decimal_of-low.result = (let here : c.args.at + (m + 8) ≡ c.args.at + m + 8 = omega arith in

@@ -8,7 +8,6 @@ use Rattle.integer_reading.proofs.Short.{both-figures, counted-few, first-figure
 use Rattle.eights.proofs.Fronts.{are-bytes}
 use Rattle.table.proofs.Laws.{all_drop}
 use Rattle.table.specs.All.{AreBytes}
-use borrow.Author.Rules.{rules}
 use Rattle.integer_reading.proofs.short_run.Goals as goal
 
 pub front_lowest-requires : goal.front_lowest-requires

@@ -16,7 +16,6 @@ use Rattle.table.specs.Shape.{Whole}
 use Rattle.integer_reading.proofs.Digits.{after-le, integer-in-text}
 use Rattle.integer_reading.specs.Figures.{AfterMinus}
 use Rattle.words.proofs.WordLaws.{top_lt}
-use borrow.Author.Rules.{rules}
 use Rattle.integer_reading.proofs.text_integer.Goals as goal
 
 pub digits_at-run-requires : goal.digits_at-run-requires

@@ -1,9 +1,7 @@
 -- `integer_reading::three_at` meets its contract: by whether a second digit follows, and a third.
 use native.Mathlib.Omega.{arith}
 use mathlib.Core.Path.{◌∙◌, sym}
-use borrow.Author.Tests.{not-false}
 use Rattle.integer_reading.proofs.Digits.{figures-none, figures-three}
-use borrow.Author.Rules.{rules}
 use Rattle.integer_reading.proofs.three_at.Goals as goal
 
 pub returns-then-not-is_digit : goal.returns-then-not-is_digit

@@ -4,7 +4,6 @@ use mir.Facts.{to_z_pos}
 use mir.Syntax.{w64}
 use Rattle.number.proofs.Signed.{less-fits, negated}
 use Rattle.number.specs.Number.{with_sign}
-use borrow.Author.Rules.{rules}
 use Rattle.integer_reading.proofs.with_sign.Goals as goal
 
 pub overflow_sub-result : goal.overflow_sub-result

@@ -1,7 +1,6 @@
 -- `integers::eight_bytes` meets its contract: two numbers read one after the other are one.
 use Rattle.integers.proofs.Places.{of-join}
 use native.Mathlib.Omega.{arith}
-use borrow.Author.Rules.{rules}
 use Rattle.integers.proofs.eight_bytes.Goals as goal
 
 pub returns : goal.returns

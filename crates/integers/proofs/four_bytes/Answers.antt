@@ -3,7 +3,6 @@ use Prim.Native.Nat.{◌+◌}
 use mathlib.Core.Path.{sym}
 use Rattle.integers.proofs.Places.{of-next, of_one}
 use native.Mathlib.Omega.{arith}
-use borrow.Author.Rules.{rules}
 use Rattle.integers.proofs.four_bytes.Goals as goal
 
 pub overflow_cast-result : goal.overflow_cast-result

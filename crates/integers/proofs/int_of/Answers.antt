@@ -3,7 +3,6 @@ use mathlib.Core.Path.{◌∙◌, refl, sym}
 use mir.Syntax.{w32}
 use mir.Facts.{to_z_pos}
 use Rattle.number.proofs.Signed.{lower-is, upper_fits, upper_is}
-use borrow.Author.Rules.{rules}
 use Rattle.integers.proofs.int_of.Goals as goal
 
 pub overflow_sub-result-else-x-lt2147483648 : goal.overflow_sub-result-else-x-lt2147483648

@@ -11,7 +11,6 @@ use Rattle.number.specs.Number.{of_pattern}
 use Rattle.number.specs.declared.Integer.{Integer}
 use Rattle.number.proofs.Signed.{widened, widens}
 use native.Mathlib.Omega.{arith}
-use borrow.Author.Rules.{rules}
 use Rattle.integers.proofs.of_low_bytes.Goals as goal
 
 -- what the low bytes of a number stand for at a kind

@@ -5,7 +5,6 @@ use lib.Dec.{lit<}
 use Rattle.number.proofs.Laws.{digits-join, length_to}
 use Rattle.table.proofs.Wrote.{wrote_as, wrote_then_lem}
 use native.Mathlib.Omega.{arith}
-use borrow.Author.Rules.{rules}
 use Rattle.integers.proofs.put_eight.Goals as goal
 
 pub put_four-requires : goal.put_four-requires

@@ -5,7 +5,6 @@ use lib.Dec.{lit<}
 use Rattle.number.proofs.Laws.{digits-join, length_to}
 use Rattle.table.proofs.Wrote.{wrote_as, wrote_then_lem}
 use native.Mathlib.Omega.{arith}
-use borrow.Author.Rules.{rules}
 use Rattle.integers.proofs.put_four.Goals as goal
 
 pub put_two-requires : goal.put_two-requires

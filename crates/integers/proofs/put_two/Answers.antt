@@ -2,7 +2,6 @@
 use lib.ListN.{length-set}
 use Rattle.integers.proofs.Places.{store_two}
 use native.Mathlib.Omega.{arith}
-use borrow.Author.Rules.{rules}
 use Rattle.integers.proofs.put_two.Goals as goal
 
 pub bounds-out-at-2 : goal.bounds-out-at-2

@@ -10,7 +10,6 @@ use Rattle.number.specs.declared.Integer.{Integer}
 use Rattle.number.specs.Clauses.{is_signed, size}
 use Rattle.number.specs.Number.{of_digits, of_pattern}
 use native.Mathlib.Omega.{arith}
-use borrow.Author.Rules.{rules}
 use Rattle.integers.proofs.read_integer.Goals as goal
 
 -- the integer of a kind at a place, so that an arm may be said of its own kind

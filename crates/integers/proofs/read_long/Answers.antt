@@ -3,7 +3,6 @@ use mathlib.Core.Path.{◌∙◌, ap}
 use mir.Syntax.{w64}
 use mir.Facts.{to_z-of_z}
 use Rattle.number.specs.Number.{of_pattern}
-use borrow.Author.Rules.{rules}
 use Rattle.integers.proofs.read_long.Goals as goal
 
 pub returns : goal.returns

@@ -3,7 +3,6 @@ use mathlib.Core.Path.{◌∙◌, ap}
 use mir.Syntax.{w16}
 use Rattle.number.specs.Number.{of_pattern}
 use Rattle.number.proofs.Signed.{widened, widens}
-use borrow.Author.Rules.{rules}
 use Rattle.integers.proofs.read_short.Goals as goal
 
 pub overflow_cast-result : goal.overflow_cast-result

@@ -6,7 +6,6 @@ use mir.Facts.{to_z_pos}
 use Rattle.number.specs.Number.{of_pattern}
 use Rattle.integers.proofs.Places.{of_one}
 use native.Mathlib.Omega.{arith}
-use borrow.Author.Rules.{rules}
 use Rattle.integers.proofs.read_unsigned_byte.Goals as goal
 
 pub overflow_cast-result : goal.overflow_cast-result

@@ -9,7 +9,6 @@ use Rattle.number.specs.Clauses.{size}
 use Rattle.number.specs.Number.{pattern, to_digits}
 use Rattle.table.proofs.Wrote.{wrote_as}
 use native.Mathlib.Omega.{arith}
-use borrow.Author.Rules.{rules}
 use Rattle.integers.proofs.write_integer.Goals as goal
 
 pub write_unsigned_byte-requires : goal.write_unsigned_byte-requires
@@ -27,27 +26,27 @@ write_long-requires c = omega (arith, ap size c.in-Long.is)
 pub returns-in-UnsignedByte : goal.returns-in-UnsignedByte
 returns-in-UnsignedByte c =
     let written : (kind : Integer) → c.args.kind ≡ kind → to_digits 256 (size kind) (pattern 8 (to_z w64 (of_z w64 c.args.z))) ≡ to_digits 256 (size c.args.kind) (pattern 8 c.args.z) =
-        λ kind e. ap (λ (z : ℤ). to_digits 256 (size kind) (pattern 8 z)) (to_z-of_z c.ranges.z) ∙ sym (ap (λ (k : Integer). to_digits 256 (size k) (pattern 8 c.args.z)) e) in
+    λ kind e. ap (λ (z : ℤ). to_digits 256 (size kind) (pattern 8 z)) (to_z-of_z c.ranges.z) ∙ sym (ap (λ (k : Integer). to_digits 256 (size k) (pattern 8 c.args.z)) e) in
     wrote_as (written _ c.in-UnsignedByte.is)
     c.write_unsigned_byte.ensures
 
 pub returns-in-Short : goal.returns-in-Short
 returns-in-Short c =
     let written : (kind : Integer) → c.args.kind ≡ kind → to_digits 256 (size kind) (pattern 8 (to_z w64 (of_z w64 c.args.z))) ≡ to_digits 256 (size c.args.kind) (pattern 8 c.args.z) =
-        λ kind e. ap (λ (z : ℤ). to_digits 256 (size kind) (pattern 8 z)) (to_z-of_z c.ranges.z) ∙ sym (ap (λ (k : Integer). to_digits 256 (size k) (pattern 8 c.args.z)) e) in
+    λ kind e. ap (λ (z : ℤ). to_digits 256 (size kind) (pattern 8 z)) (to_z-of_z c.ranges.z) ∙ sym (ap (λ (k : Integer). to_digits 256 (size k) (pattern 8 c.args.z)) e) in
     wrote_as (written _ c.in-Short.is)
     c.write_short.ensures
 
 pub returns-in-Int : goal.returns-in-Int
 returns-in-Int c =
     let written : (kind : Integer) → c.args.kind ≡ kind → to_digits 256 (size kind) (pattern 8 (to_z w64 (of_z w64 c.args.z))) ≡ to_digits 256 (size c.args.kind) (pattern 8 c.args.z) =
-        λ kind e. ap (λ (z : ℤ). to_digits 256 (size kind) (pattern 8 z)) (to_z-of_z c.ranges.z) ∙ sym (ap (λ (k : Integer). to_digits 256 (size k) (pattern 8 c.args.z)) e) in
+    λ kind e. ap (λ (z : ℤ). to_digits 256 (size kind) (pattern 8 z)) (to_z-of_z c.ranges.z) ∙ sym (ap (λ (k : Integer). to_digits 256 (size k) (pattern 8 c.args.z)) e) in
     wrote_as (written _ c.in-Int.is)
     c.write_int.ensures
 
 pub returns-in-Long : goal.returns-in-Long
 returns-in-Long c =
     let written : (kind : Integer) → c.args.kind ≡ kind → to_digits 256 (size kind) (pattern 8 (to_z w64 (of_z w64 c.args.z))) ≡ to_digits 256 (size c.args.kind) (pattern 8 c.args.z) =
-        λ kind e. ap (λ (z : ℤ). to_digits 256 (size kind) (pattern 8 z)) (to_z-of_z c.ranges.z) ∙ sym (ap (λ (k : Integer). to_digits 256 (size k) (pattern 8 c.args.z)) e) in
+    λ kind e. ap (λ (z : ℤ). to_digits 256 (size kind) (pattern 8 z)) (to_z-of_z c.ranges.z) ∙ sym (ap (λ (k : Integer). to_digits 256 (size k) (pattern 8 c.args.z)) e) in
     wrote_as (written _ c.in-Long.is)
     c.write_long.ensures

@@ -3,7 +3,6 @@ use mathlib.Core.Path.{◌∙◌, ap}
 use mir.Facts.{to_z-of_z}
 use Rattle.number.specs.Number.{pattern, to_digits}
 use Rattle.table.proofs.Wrote.{wrote_as}
-use borrow.Author.Rules.{rules}
 use Rattle.integers.proofs.write_long.Goals as goal
 
 pub returns : goal.returns

@@ -5,7 +5,6 @@ use mir.Facts.{to_z-of_z}
 use Rattle.number.specs.Number.{pattern, to_digits}
 use Rattle.number.proofs.Laws.{digits_low}
 use Rattle.table.proofs.Wrote.{wrote_as}
-use borrow.Author.Rules.{rules}
 use Rattle.integers.proofs.write_short.Goals as goal
 
 pub returns : goal.returns

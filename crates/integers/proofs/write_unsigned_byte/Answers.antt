@@ -4,7 +4,6 @@ use mathlib.Core.Path.{◌∙◌, ap}
 use mir.Facts.{to_z-of_z}
 use Rattle.number.specs.Number.{pattern}
 use Rattle.integers.proofs.Places.{store-one}
-use borrow.Author.Rules.{rules}
 use Rattle.integers.proofs.write_unsigned_byte.Goals as goal
 
 pub returns : goal.returns

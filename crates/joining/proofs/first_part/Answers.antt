@@ -1,6 +1,5 @@
 -- joining::first_part: nine numbers in their order.
 use mathlib.Core.Path.{refl}
-use borrow.Author.Rules.{rules}
 use Rattle.parts.specs.Join.{first_part}
 use Rattle.joining.proofs.first_part.Goals as goal
 

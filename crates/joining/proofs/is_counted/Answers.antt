@@ -1,7 +1,5 @@
 -- joining::is_counted: the four sums in turn; at the first that is too much the definition is false.
 use mathlib.Core.Path.{◌∙◌, refl, sym}
-use borrow.Author.Rules.{rules}
-use borrow.Author.Tests.{not-false, not-true}
 use Rattle.parts.specs.Join.{is_counted, most_count}
 use Rattle.joining.proofs.is_counted.Goals as goal
 

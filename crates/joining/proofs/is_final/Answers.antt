@@ -3,7 +3,6 @@ use mathlib.Core.Path.{◌∙◌, ◌≡◌, sym}
 use mathlib.Core.Bool.{true}
 use mathlib.Core.Logic.{◌⊎◌, inl, inr, ⊎_elim}
 use Prim.Native.Nat.{ℕ}
-use borrow.Author.Rules.{rules}
 use Rattle.parts.proofs.Laws.{end-final, full-final, no_end, other-final}
 use Rattle.parts.specs.Join.{at_its_end}
 use Rattle.joining.proofs.is_final.Goals as goal

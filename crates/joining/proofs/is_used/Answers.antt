@@ -1,8 +1,7 @@
 -- joining::is_used: the tests of the definition in its order; at the first that fails it is false.
 use native.Mathlib.Omega.{arith}
 use mathlib.Core.Path.{◌∙◌, refl, sym}
-use borrow.Author.Rules.{rules}
-use borrow.Author.Tests.{eq-eqb, le-leb, lt-leb, ne_eqb, not-false, not-true}
+use borrow.Author.Tests.{eq-eqb, le-leb, lt-leb, ne_eqb}
 use Rattle.parts.specs.Join.{is_used}
 use Rattle.table.specs.Outcome.{most_input}
 use Rattle.joining.proofs.is_used.Goals as goal

@@ -1,13 +1,8 @@
 -- joining::join: the loop over parts. What is joined of all of them is what is joined so far, and then those from here on.
 use Prim.Native.Nat.{◌*◌, ◌-◌, ◌≤◌}
-use native.Mathlib.Omega.{arith}
-use mathlib.Core.Path.{◌∙◌, ◌≡◌, ap, sym}
+use mathlib.Core.Path.{◌≡◌}
 use lib.ListN.{drop}
-use borrow.Author.Rules.{rules}
-use borrow.Author.Tests.{not-false, not-true}
-use borrow.Author.Rules.{part_to_end}
-use Rattle.parts.proofs.Laws.{is-used, joined-all, joined-no-further, joined-one-more, parts_first}
-use Rattle.parts.specs.Join.{join, first_part, parts_in, parts_of}
+use Rattle.parts.specs.Join.{join, parts_in}
 use Rattle.joining.proofs.join.Given as goal
 
 abbrev pub invariant-loop-i : goal.invariant-loop-i

@@ -1,7 +1,6 @@
 -- joining::joined_with: the sums are those that are counted; then the record of the definition, by what is final.
 use native.Mathlib.Omega.{arith}
 use mathlib.Core.Path.{◌∙◌, refl, sym}
-use borrow.Author.Rules.{rules}
 use Rattle.parts.proofs.Laws.{Counted, is-counted}
 use Rattle.parts.specs.Join.{ended_with, gone_on, joined_with, most_count}
 use Rattle.joining.proofs.joined_with.Goals as goal

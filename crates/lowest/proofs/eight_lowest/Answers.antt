@@ -2,7 +2,6 @@
 use Prim.Native.Nat.{◌+◌}
 use Rattle.lowest.proofs.Places.{lowest-join}
 use native.Mathlib.Omega.{arith}
-use borrow.Author.Rules.{rules}
 use Rattle.lowest.proofs.eight_lowest.Goals as goal
 
 pub returns : goal.returns

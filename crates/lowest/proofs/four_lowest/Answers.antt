@@ -2,7 +2,6 @@
 use Prim.Native.Nat.{◌+◌}
 use Rattle.lowest.proofs.Places.{lowest-join, lowest-one}
 use native.Mathlib.Omega.{arith}
-use borrow.Author.Rules.{rules}
 use Rattle.lowest.proofs.four_lowest.Goals as goal
 
 pub overflow_cast-result : goal.overflow_cast-result

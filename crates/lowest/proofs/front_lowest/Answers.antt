@@ -1,6 +1,5 @@
 -- `lowest::front_lowest` meets its contract: two shifts are one by all the bytes behind the first n (front-is).
 use native.Mathlib.Omega.{arith}
-use borrow.Author.Rules.{rules}
 use Rattle.lowest.proofs.Front.{front-is}
 use Rattle.lowest.proofs.front_lowest.Goals as goal
 

@@ -1,5 +1,4 @@
 -- number::elements_of: in each arm the kind is known, and both views of it compute.
-use borrow.Author.Rules.{rules}
 use Rattle.number.proofs.elements_of.Goals as goal
 
 pub returns-in-UnsignedByte : goal.returns-in-UnsignedByte

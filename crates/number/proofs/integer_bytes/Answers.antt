@@ -1,5 +1,4 @@
 -- number::integer_bytes: in each arm the kind is known, so its width is.
-use borrow.Author.Rules.{rules}
 use native.Mathlib.Omega.{arith}
 use Rattle.number.proofs.integer_bytes.Goals as goal
 

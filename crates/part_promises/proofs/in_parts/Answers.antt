@@ -24,8 +24,8 @@ returns c =
     let bytes = bytes-of args.input.now (λ i h. (c.shared_slice_known-2-1.given i).fits) in
     record {
       joined = λ h. two-parts args.decls.now args.from args.to args.input.now args.cut args.out1.now args.out2.now args.out3.now h bytes
-    (faces {f = piece_face args.decls.now args.from args.to _ args.out1.now} first.numbers first.buffer)
-    (faces {f = piece_face args.decls.now args.from args.to _ args.out2.now} second.numbers second.buffer)
-    c.join_both.ensures
-    (faces {f = convert_face args.decls.now args.from args.to args.input.now args.out3.now} whole.numbers whole.buffer);
+          (faces {f = piece_face args.decls.now args.from args.to _ args.out1.now} first.numbers first.buffer)
+          (faces {f = piece_face args.decls.now args.from args.to _ args.out2.now} second.numbers second.buffer)
+          c.join_both.ensures
+          (faces {f = convert_face args.decls.now args.from args.to args.input.now args.out3.now} whole.numbers whole.buffer);
     }

@@ -1,7 +1,6 @@
 -- planning::step_of: by the length of the column.
 use Prim.Native.Nat.{◌≤◌}
 use mathlib.Core.Path.{◌∙◌, subst}
-use borrow.Author.Rules.{rules}
 use Rattle.planning.specs.Plan.{step_for}
 use Rattle.table.specs.Cell.{bound, most_elements}
 use Rattle.table.specs.declared.Len.{Len}

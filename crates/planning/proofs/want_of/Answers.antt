@@ -1,10 +1,8 @@
 -- planning::want_of: by what the elements are, as the definition has it.
-use mathlib.Core.Path.{◌∙◌, ap}
-use borrow.Author.Rules.{rules}
 use borrow.Author.Tests.{eq-eqb, ne_eqb}
 use Rattle.number.specs.declared.Elements.{Elements}
 use Rattle.planning.proofs.Steps.{one-integer, want-by}
-use Rattle.planning.specs.Plan.{one_integer, want_of}
+use Rattle.planning.specs.Plan.{want_of}
 use Rattle.planning.proofs.want_of.Goals as goal
 
 pub returns-then-n-eq0 : goal.returns-then-n-eq0

@@ -11,4 +11,4 @@ returns c =
     let told = c.sailmortar_convert.ensures in
     let face = faces {f = convert_face args.decls.now args.from args.to args.input.now args.out.now} told.numbers told.buffer in
     let bytes = bytes-of args.input.now (λ i h. (c.shared_slice_known-2-1.given i).fits) in
-        record { unnamed = unnamed _ _ _ _ _ face; demand1 = rows-or-refusal _ _ _ _ _ face bytes; demand2 = means-what-was-read _ _ _ _ _ face bytes }
+    record { unnamed = unnamed _ _ _ _ _ face; demand1 = rows-or-refusal _ _ _ _ _ face bytes; demand2 = means-what-was-read _ _ _ _ _ face bytes }

@@ -23,6 +23,6 @@ returns c =
     let back = c.sailmortar_convert-2.ensures in
     record {
       demand2 = there_and_back _ _ _ (faces {f = convert_face _ 0 2 _ _} there.numbers there.buffer)
-    (bytes-of c.args.input.now (λ i h. (c.shared_slice_known-2-1.given i).fits))
-    _ (faces {f = convert_face _ 2 0 _ _} back.numbers back.buffer);
+          (bytes-of c.args.input.now (λ i h. (c.shared_slice_known-2-1.given i).fits))
+          _ (faces {f = convert_face _ 2 0 _ _} back.numbers back.buffer);
     }

@@ -12,8 +12,8 @@ returns c =
     let args = c.args in
     record {
       demand3 = nothing-else _ _ _ _
-    (faces {f = convert_face _ args.from1 args.to args.input1.now args.out1.now} first.numbers first.buffer)
-    (faces {f = convert_face _ args.from2 args.to args.input2.now args.out2.now} second.numbers second.buffer)
-    (bytes-of args.input1.now (λ i h. (c.shared_slice_known-2-1.given i).fits))
-    (bytes-of args.input2.now (λ i h. (c.shared_slice_known-3-1.given i).fits));
+          (faces {f = convert_face _ args.from1 args.to args.input1.now args.out1.now} first.numbers first.buffer)
+          (faces {f = convert_face _ args.from2 args.to args.input2.now args.out2.now} second.numbers second.buffer)
+          (bytes-of args.input1.now (λ i h. (c.shared_slice_known-2-1.given i).fits))
+          (bytes-of args.input2.now (λ i h. (c.shared_slice_known-3-1.given i).fits));
     }

@@ -2,7 +2,6 @@
 use mathlib.Core.Path.{subst, sym}
 use Rattle.row_comparing.proofs.Pairs.{has-elements, paired}
 use Rattle.row_comparing.specs.Clauses.{PairsCell}
-use borrow.Author.Rules.{rules}
 use Rattle.row_comparing.proofs.compare_cell.Goals as goal
 
 pub pair_of-requires : goal.pair_of-requires

@@ -1,20 +1,19 @@
 -- row_comparing::compare_cells: the loop over columns. What is read of each row is what has been read and what is still to come (RowRead, of each
 -- input), and the word's digits say which of the cells so far differ (Differing); then what ends the rows.
-use Prim.Native.Nat.{◌-◌, ◌<◌, ◌≤◌, suc}
+use Prim.Native.Nat.{◌<◌, ◌≤◌, suc}
 use mathlib.Core.Bool.{Bool}
 use mathlib.Core.List.{List, ◌∷◌}
 use mathlib.Core.Path.{◌∙◌, ◌≡◌, refl, subst}
 use lib.ListN.{drop, get_or, length}
-use Rattle.row_comparing.proofs.Pairs.{Differing, cells-paired, differing-more, differing-none, unread-cells}
+use Rattle.row_comparing.proofs.Pairs.{cells-paired, differing-more, differing-none, unread-cells}
 use Rattle.row_comparing.specs.Clauses.{OneUnread, PairsCell}
-use Rattle.row_reading.proofs.Parts.{RowRead, listed-bound, read-end, read_more, read-start, read-stop}
+use Rattle.row_reading.proofs.Parts.{listed-bound, read-end, read_more, read-start, read-stop}
 use Rattle.row_reading.specs.Clauses.{cells_end, flags_in}
 use Rattle.rows.specs.Stream.{read_cell}
 use Rattle.table.proofs.ColumnList.{listed-length, listed_next}
 use Rattle.table.specs.ColumnList.{listed, no_column}
 use Rattle.table.specs.declared.Column.{Column}
 use Rattle.table.specs.declared.Columns.{Columns}
-use borrow.Author.Rules.{rules}
 use native.Mathlib.Omega.{arith}
 use Rattle.row_comparing.proofs.compare_cells.Goals as goal
 
@@ -23,8 +22,7 @@ unfolding read-start
 loop-i-init c =
     let cols-of : Columns = c.args.cols in
     let flags_of : List Bool = flags_in c.args.one.from cols-of.count c.args.flags in
-    let others-of : List Bool = flags_in c.args.two.from cols-of.count c.args.others in
-    (
+    let others-of : List Bool = flags_in c.args.two.from cols-of.count c.args.others in (
       read-start c.args.one.from (listed cols-of) flags_of c.args.first.now c.args.one.at c.requires.1,
       read-start c.args.two.from (listed cols-of) others-of c.args.second.now c.args.two.at c.requires.2,
       differing-none,
@@ -77,10 +75,10 @@ returns-in-Unread c =
     let column : Column = get_or cols-of.list c.loop-i.i no_column in
     let next-column : drop c.loop-i.i (listed cols-of) ≡ column ∷ drop (suc c.loop-i.i) (listed cols-of) = listed_next cols-of c.loop-i.i c.loop-i-test.true in
     let unread : OneUnread (read_cell c.args.one.from column c.flag_of-flag.result (drop c.loop-i.at c.args.first.now))
-        (read_cell c.args.two.from column c.flag_of-other.result (drop c.loop-i.place c.args.second.now))
-        → OneUnread (cells_end c.args.one.from (listed cols-of) flags_of (drop c.args.one.at c.args.first.now))
-        (cells_end c.args.two.from (listed cols-of) others-of (drop c.args.two.at c.args.second.now)) =
-        λ h. (unread-cells c.args.one.from c.args.two.from (listed cols-of) flags_of others-of c.args.first.now c.args.second.now
+    (read_cell c.args.two.from column c.flag_of-other.result (drop c.loop-i.place c.args.second.now))
+    → OneUnread (cells_end c.args.one.from (listed cols-of) flags_of (drop c.args.one.at c.args.first.now))
+    (cells_end c.args.two.from (listed cols-of) others-of (drop c.args.two.at c.args.second.now)) =
+    λ h. (unread-cells c.args.one.from c.args.two.from (listed cols-of) flags_of others-of c.args.first.now c.args.second.now
     c.args.one.at c.args.two.at c.loop-i.i _ _ h
     (λ n e. read-stop c.args.one.from (listed cols-of) flags_of c.args.first.now c.args.one.at c.loop-i.at c.loop-i.i c.loop-i.invariant.0
     column next-column c.flag_of-flag.result c.flag_of-flag.ensures n e)

@@ -1,21 +1,12 @@
 -- row_comparing::compare_cells: the loop over columns. What is read of each row is what has been read and what is still to come (RowRead, of each
 -- input), and the word's digits say which of the cells so far differ (Differing); then what ends the rows.
-use Prim.Native.Nat.{◌-◌, ◌<◌, ◌≤◌, suc}
-use mathlib.Core.Bool.{Bool}
-use mathlib.Core.List.{List, ◌∷◌}
-use mathlib.Core.Path.{◌∙◌, ◌≡◌, refl, subst}
-use lib.ListN.{drop, get_or, length}
-use Rattle.row_comparing.proofs.Pairs.{Differing, cells-paired, differing-more, differing-none, unread-cells}
-use Rattle.row_comparing.specs.Clauses.{OneUnread, PairsCell}
-use Rattle.row_reading.proofs.Parts.{RowRead, listed-bound, read-end, read_more, read-start, read-stop}
-use Rattle.row_reading.specs.Clauses.{cells_end, flags_in}
-use Rattle.rows.specs.Stream.{read_cell}
-use Rattle.table.proofs.ColumnList.{listed-length, listed_next}
-use Rattle.table.specs.ColumnList.{listed, no_column}
-use Rattle.table.specs.declared.Column.{Column}
-use Rattle.table.specs.declared.Columns.{Columns}
-use borrow.Author.Rules.{rules}
-use native.Mathlib.Omega.{arith}
+use Prim.Native.Nat.{◌-◌}
+use mathlib.Core.Path.{◌≡◌}
+use lib.ListN.{length}
+use Rattle.row_comparing.proofs.Pairs.{Differing}
+use Rattle.row_reading.proofs.Parts.{RowRead}
+use Rattle.row_reading.specs.Clauses.{flags_in}
+use Rattle.table.specs.ColumnList.{listed}
 use Rattle.row_comparing.proofs.compare_cells.Given as goal
 
 abbrev pub invariant-loop-i : goal.invariant-loop-i

@@ -5,7 +5,6 @@ use Rattle.row_comparing.specs.Clauses.{unread-first, unread-second}
 use Rattle.row_reading.proofs.Parts.{begun-within, row-begun, row-unbegun}
 use Rattle.table.proofs.ColumnList.{listed-length}
 use Rattle.table.specs.ColumnList.{listed}
-use borrow.Author.Rules.{rules}
 use native.Mathlib.Omega.{arith}
 use Rattle.row_comparing.proofs.compare_row.Goals as goal
 
@@ -53,11 +52,11 @@ returns c =
     let n = listed-length c.args.cols in
     record {
       pairs_row =
-        row-paired c.args.one.from c.args.two.from (listed c.args.cols) _ _ c.args.first.now c.args.second.now c.args.one.at c.args.two.at
-            c.in-Row.body c.in-Row-begin_row.behind c.requires.0
-            (row-begun c.args.one.from (listed c.args.cols) _ n c.args.first.now c.args.one.at g.result g.ensures _ _ c.in-Row.is)
-            (row-begun c.args.two.from (listed c.args.cols) _ n c.args.second.now c.args.two.at h.result h.ensures _ _ c.in-Row-begin_row.is)
-            _ p.result p.ensures.pairs_row;
+          row-paired c.args.one.from c.args.two.from (listed c.args.cols) _ _ c.args.first.now c.args.second.now c.args.one.at c.args.two.at
+          c.in-Row.body c.in-Row-begin_row.behind c.requires.0
+          (row-begun c.args.one.from (listed c.args.cols) _ n c.args.first.now c.args.one.at g.result g.ensures _ _ c.in-Row.is)
+          (row-begun c.args.two.from (listed c.args.cols) _ n c.args.second.now c.args.two.at h.result h.ensures _ _ c.in-Row-begin_row.is)
+          _ p.result p.ensures.pairs_row;
       a_len_unchanged = p.ensures.a_len_unchanged;
       b_len_unchanged = p.ensures.b_len_unchanged;
     }

@@ -3,7 +3,6 @@ use mathlib.Core.Path.{◌∙◌, ap, refl}
 use Rattle.row_comparing.specs.Clauses.{unread-first, unread-second}
 use Rattle.row_reading.proofs.Parts.{closed-within}
 use Rattle.row_reading.specs.Clauses.{close_as}
-use borrow.Author.Rules.{rules}
 use Rattle.row_comparing.proofs.end_rows.Goals as goal
 
 pub returns-in_default : goal.returns-in_default

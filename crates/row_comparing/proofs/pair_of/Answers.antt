@@ -4,7 +4,6 @@ use mathlib.Core.Path.{◌≡◌, ap₂, subst, sym}
 use lib.IntN.{ℤ}
 use Rattle.row_comparing.specs.Clauses.{HasElements, pair_of}
 use Rattle.table.specs.declared.Found.{Found}
-use borrow.Author.Rules.{rules}
 use Rattle.row_comparing.proofs.pair_of.Goals as goal
 
 pub same_elements-requires : goal.same_elements-requires

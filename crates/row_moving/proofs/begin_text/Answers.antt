@@ -29,6 +29,6 @@ returns-then-four_bytes-eq1012159038 c =
     let k = c.if-four_bytes-eq1012159038.true in
     let Starts : ℕ → Type 0 = λ (i : ℕ). f.result ≡ of_digits 256 0 (take 4 (drop i s)) → Begins TableData c.args.count s c.args.at (Begin.Row 0 (i + 4)) in
     elim c.if-s-at-eq10.branch [
-      then-s-at-eq10 w ↦ subst Starts (sym w.start-is) (begins-line c.args.count s c.args.at b c.requires.0 f.result k w.if-s-at-eq10.true) f.ensures
-    | else-s-at-eq10 w ↦ subst Starts (sym w.start-is) (begins-bare c.args.count s c.args.at b c.requires.0 f.result k) f.ensures
+      | then-s-at-eq10 w ↦ subst Starts (sym w.start-is) (begins-line c.args.count s c.args.at b c.requires.0 f.result k w.if-s-at-eq10.true) f.ensures
+      | else-s-at-eq10 w ↦ subst Starts (sym w.start-is) (begins-bare c.args.count s c.args.at b c.requires.0 f.result k) f.ensures
     ]

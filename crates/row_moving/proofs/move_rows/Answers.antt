@@ -97,8 +97,7 @@ move_planned-planned-requires c =
     let next-column : drop c.loop-i.i (listed cols-at) ≡ column-at ∷ drop (suc c.loop-i.i) (listed cols-at) = listed_next cols-at c.loop-i.i c.loop-i-test.true in
     let step_is : get_or c.plan_of-plan.result.list c.loop-i.i no_step ≡ step_of column-at = (
     ap (λ (p : Plan). get_or p.list c.loop-i.i no_step) c.plan_of-plan.ensures ∙ plan-at (listed cols-at) c.loop-i.i column-at next-column) in
-    let l = c.loop-i in
-    (
+    let l = c.loop-i in (
       l.invariant.0.inside,
       omega (arith, l.invariant.1.puts.room, l.invariant.1.puts.long),
       omega (arith, ap (λ (x : Step). x.bytes) step_is, step-most column-at (listed-bound cols-at l.i are c.loop-i-test.true)),
@@ -130,8 +129,7 @@ move_cell-requires c =
     let declined : Puts c.loop-i.row c.loop-i.end [] planned-row c.loop-i.end = (
     let l = c.loop-i in
     subst (MovesCell from_at to_at column-at flag_at s-at l.at l.row l.end planned-row) c.in-Careful.is by-plan) in
-    let l = c.loop-i in
-    (
+    let l = c.loop-i in (
       l.invariant.0.inside,
       listed-bound cols-at l.i are c.loop-i-test.true,
       omega (arith, l.invariant.2, c.rows.invariant.1, c.requires.within.1),
@@ -184,9 +182,9 @@ loop-i-preserved c =
     let by-plan : let l = c.loop-i in MovesCell from_at to_at column-at flag_at s-at l.at l.row l.end planned-row c.move_planned-planned.result = (
     c.move_planned-planned.ensures column-at (listed-bounded cols-at c.loop-i.i are c.loop-i-test.true) step_is) in
     let advance : (new : List ℕ) (next e : ℕ) (null : Bool) (q : ℕ) → let l = c.loop-i in
-        CellMoved from_at to_at column-at flag_at s-at l.at l.row l.end new next e null → to_digits 2 (l.i + 1) q ≡ to_digits 2 l.i l.nulls ++ (flag_bit null ∷ [])
-        → (k : RowRead from_at (listed cols-at) (flags_in from_at cols-at.count flags-at) s-at body_at next (l.i + 1))
-        × RowMoved to_at (listed cols-at) k.acc c.rows.row c.start_size-first.result new e q (l.i + 1) = λ new next e null q x w. (
+    CellMoved from_at to_at column-at flag_at s-at l.at l.row l.end new next e null → to_digits 2 (l.i + 1) q ≡ to_digits 2 l.i l.nulls ++ (flag_bit null ∷ [])
+    → (k : RowRead from_at (listed cols-at) (flags_in from_at cols-at.count flags-at) s-at body_at next (l.i + 1))
+    × RowMoved to_at (listed cols-at) k.acc c.rows.row c.start_size-first.result new e q (l.i + 1) = λ new next e null q x w. (
     let l = c.loop-i in
     let f = c.flag_of-flagged in (
       read_more from_at (listed cols-at) _ s-at body_at l.at l.i l.invariant.0 column-at next-column f.result f.ensures x.cell _
@@ -196,18 +194,18 @@ loop-i-preserved c =
     )) in
     let l = c.loop-i in
     elim c.match-planned.branch [
-      in-Cell w ↦
-        let x = subst (MovesCell from_at to_at column-at flag_at s-at l.at l.row l.end planned-row) w.in-Cell.is by-plan in
-        let a = advance planned-row _ _ _ _ x w.add_flag-nulls.ensures in
-        rw (w.scratch-is, w.row-is, w.at-is, w.end-is, w.nulls-is) (a.0, a.1, l.invariant.2)
-    | in-Careful+in-Cell-move_cell w ↦
-        let declined = subst (MovesCell from_at to_at column-at flag_at s-at l.at l.row l.end planned-row) w.in-Careful.is by-plan in
-        let m = w.move_cell in
-        let n = w.in-Cell-move_cell in
-        let y = subst (SettlesCell from_at to_at column-at flag_at s-at l.at planned-row l.end m.new.row) n.is m.ensures.settles_cell in
-        let x = settled-after from_at to_at column-at flag_at s-at l.at l.row l.end planned-row _ (Moved.Cell n.next n.e n.null) declined y in
-        let a = advance _ _ _ _ _ x w.add_flag-nulls-in-Careful.ensures in
-        rw (w.scratch-is, w.row-is, w.at-is, w.end-is, w.nulls-is) (a.0, a.1, m.ensures.scratch_len_unchanged ∙ l.invariant.2)
+      | in-Cell w ↦
+          let x = subst (MovesCell from_at to_at column-at flag_at s-at l.at l.row l.end planned-row) w.in-Cell.is by-plan in
+          let a = advance planned-row _ _ _ _ x w.add_flag-nulls.ensures in
+          rw (w.scratch-is, w.row-is, w.at-is, w.end-is, w.nulls-is) (a.0, a.1, l.invariant.2)
+      | in-Careful+in-Cell-move_cell w ↦
+          let declined = subst (MovesCell from_at to_at column-at flag_at s-at l.at l.row l.end planned-row) w.in-Careful.is by-plan in
+          let m = w.move_cell in
+          let n = w.in-Cell-move_cell in
+          let y = subst (SettlesCell from_at to_at column-at flag_at s-at l.at planned-row l.end m.new.row) n.is m.ensures.settles_cell in
+          let x = settled-after from_at to_at column-at flag_at s-at l.at l.row l.end planned-row _ (Moved.Cell n.next n.e n.null) declined y in
+          let a = advance _ _ _ _ _ x w.add_flag-nulls-in-Careful.ensures in
+          rw (w.scratch-is, w.row-is, w.at-is, w.end-is, w.nulls-is) (a.0, a.1, m.ensures.scratch_len_unchanged ∙ l.invariant.2)
     ]
 
 pub end_row-requires : goal.end_row-requires

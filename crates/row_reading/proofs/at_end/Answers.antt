@@ -4,7 +4,6 @@ use lib.ListN.{drop}
 use Rattle.table.specs.declared.Rows.{Rows}
 use Rattle.rows.specs.Stream.{at_end, is_empty}
 use Rattle.row_reading.proofs.Ways.{empty-drop}
-use borrow.Author.Rules.{rules}
 use Rattle.row_reading.proofs.at_end.Goals as goal
 
 pub returns-in-TableData : goal.returns-in-TableData

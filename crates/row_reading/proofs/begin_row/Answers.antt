@@ -1,6 +1,5 @@
 -- row_reading::begin_row: by the kind of rows, one law of Ways each.
 use Rattle.row_reading.proofs.Ways.{begun-text, unbegun-text, begun-binary, begun-binary2, unbegun-binary2}
-use borrow.Author.Rules.{rules}
 use Rattle.row_reading.proofs.begin_row.Goals as goal
 
 pub returns-in_default : goal.returns-in_default

@@ -2,7 +2,6 @@
 use mathlib.Core.Path.{refl}
 use Rattle.rows.specs.Stream.{read_end}
 use Rattle.row_reading.proofs.Ways.{closed-text, open-text, closed-here}
-use borrow.Author.Rules.{rules}
 use Rattle.row_reading.proofs.end_row.Goals as goal
 
 pub returns-in_default : goal.returns-in_default

@@ -2,7 +2,6 @@
 use mathlib.Core.Path.{◌∙◌}
 use Rattle.row_reading.specs.Clauses.{flags_in}
 use Rattle.row_reading.proofs.Ways.{flag-binary2, no_flag}
-use borrow.Author.Rules.{rules}
 use Rattle.row_reading.proofs.flag_of.Goals as goal
 
 pub returns-in-TableData : goal.returns-in-TableData

@@ -1,6 +1,5 @@
 -- row_reading::pass_cell: by what was found, each way is one law of Parts.
 use Rattle.row_reading.proofs.Parts.{null-cell, refused-cell, shown-cell}
-use borrow.Author.Rules.{rules}
 use Rattle.row_reading.proofs.pass_cell.Goals as goal
 
 pub returns-in-Refused : goal.returns-in-Refused

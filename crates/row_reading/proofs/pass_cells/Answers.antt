@@ -1,18 +1,17 @@
 -- row_reading::pass_cells: the loop over columns (RowRead: what is read of the row is what has been read and what is still to come), then what
 -- ends the row; each way out is one law of Parts.
-use Prim.Native.Nat.{◌-◌, ◌≤◌, ℕ}
+use Prim.Native.Nat.{◌≤◌, ℕ}
 use mathlib.Core.Bool.{Bool}
 use mathlib.Core.List.{List}
 use mathlib.Core.Path.{◌∙◌, ◌≡◌, ap, refl, subst}
-use lib.ListN.{drop, get_or, length}
+use lib.ListN.{drop, get_or}
 use Rattle.table.proofs.ColumnList.{listed-length, listed_next}
 use Rattle.table.specs.ColumnList.{listed, no_column}
-use Rattle.row_reading.proofs.Parts.{RowRead, cells-closed, cells_open, cells-stopped, closed-within, listed-bound, read-end, read_more, read-start, read-stop}
+use Rattle.row_reading.proofs.Parts.{cells-closed, cells_open, cells-stopped, closed-within, listed-bound, read-end, read_more, read-start, read-stop}
 use Rattle.row_reading.specs.Clauses.{PassesCell, flags_in}
 use Rattle.rows.specs.Stream.{read_cells}
 use Rattle.table.specs.Outcome.{at}
 use Rattle.table.specs.Result.{bad, good}
-use borrow.Author.Rules.{rules}
 use native.Mathlib.Omega.{arith}
 use Rattle.row_reading.proofs.pass_cells.Goals as goal
 
@@ -90,7 +89,7 @@ pub returns-in-Refused-e : goal.returns-in-Refused-e
 returns-in-Refused-e c =
     let flags_of : List Bool = flags_in c.args.from c.args.cols.count c.args.flags in
     let all_read : read_cells c.args.from (listed c.args.cols) flags_of 0 (drop c.args.body c.args.s.now) ≡ good (c.loop-i.invariant.0.acc, drop c.loop-i.at c.args.s.now) =
-        (read-end c.args.from (listed c.args.cols) flags_of c.args.s.now c.args.body c.loop-i.at c.loop-i.i c.loop-i.invariant.0
+    (read-end c.args.from (listed c.args.cols) flags_of c.args.s.now c.args.body c.loop-i.at c.loop-i.i c.loop-i.invariant.0
     (omega (arith, listed-length c.args.cols, c.loop-i-test.false))) in
     let e = c.end_row-e in
     record {
@@ -107,7 +106,7 @@ pub returns-in-Closed : goal.returns-in-Closed
 returns-in-Closed c =
     let flags_of : List Bool = flags_in c.args.from c.args.cols.count c.args.flags in
     let all_read : read_cells c.args.from (listed c.args.cols) flags_of 0 (drop c.args.body c.args.s.now) ≡ good (c.loop-i.invariant.0.acc, drop c.loop-i.at c.args.s.now) =
-        (read-end c.args.from (listed c.args.cols) flags_of c.args.s.now c.args.body c.loop-i.at c.loop-i.i c.loop-i.invariant.0
+    (read-end c.args.from (listed c.args.cols) flags_of c.args.s.now c.args.body c.loop-i.at c.loop-i.i c.loop-i.invariant.0
     (omega (arith, listed-length c.args.cols, c.loop-i-test.false))) in
     let e = c.end_row-e in
     let k = c.in-Closed.is in

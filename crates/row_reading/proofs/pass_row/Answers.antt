@@ -3,7 +3,6 @@ use mathlib.Core.Path.{refl}
 use Rattle.table.proofs.ColumnList.{listed-length}
 use Rattle.table.specs.ColumnList.{listed}
 use Rattle.row_reading.proofs.Parts.{begun-within, row-passed, row-unbegun}
-use borrow.Author.Rules.{rules}
 use native.Mathlib.Omega.{arith}
 use Rattle.row_reading.proofs.pass_row.Goals as goal
 

@@ -1,15 +1,12 @@
 -- row_reading::pass_rows: the loop over rows (RowsPassed: the count from the start on is the count of going on from here); each way out is one law
 -- of PassedRows.
-use Prim.Native.Nat.{◌-◌}
 use mathlib.Core.Bool.{false}
 use mathlib.Core.Path.{◌∙◌, ◌≡◌, refl, subst, sym}
-use lib.ListN.{drop, length}
+use lib.ListN.{drop}
 use Rattle.table.specs.ColumnList.{listed}
 use Rattle.row_reading.proofs.PassedRows.{pass-end, pass-more, pass-start, pass-stop}
-use Rattle.row_reading.specs.Clauses.{PassesRow, RowsPassed}
+use Rattle.row_reading.specs.Clauses.{PassesRow}
 use Rattle.rows.specs.Stream.{at_end}
-use borrow.Author.Rules.{rules}
-use borrow.Author.Tests.{not-false, not-true}
 use native.Mathlib.Omega.{arith}
 use Rattle.row_reading.proofs.pass_rows.Goals as goal
 

@@ -1,6 +1,5 @@
 -- row_reading::read_cell: the reader of the kind of rows.
 use Rattle.rows.specs.Stream.{read_cell}
-use borrow.Author.Rules.{rules}
 use Rattle.row_reading.proofs.read_cell.Goals as goal
 
 pub returns-in-TableData : goal.returns-in-TableData

@@ -1,6 +1,5 @@
 -- `row_tags::row_ends` meets its contract: white space, then the whole tag.
 use mathlib.Core.Path.{ap}
-use borrow.Author.Rules.{rules}
 use Rattle.table.specs.Bytes.{bytes, tag}
 use Rattle.tabledata.specs.TableData.{close-TR}
 use Rattle.text.proofs.Scan.{tag-from}

@@ -1,5 +1,4 @@
 -- `row_tags::write_row_end` meets its contract: the bytes are the tag's.
-use borrow.Author.Rules.{rules}
 use Rattle.table.proofs.Wrote.{wrote-long}
 use Rattle.tabledata.specs.TableData.{close-TR}
 use Rattle.row_tags.proofs.write_row_end.Goals as goal

@@ -3,7 +3,6 @@ use lib.Dec.{lit≤}
 use mathlib.Core.Path.{refl}
 use Rattle.rows.specs.Stream.{write_end}
 use Rattle.tabledata.specs.TableData.{close-TR}
-use borrow.Author.Rules.{rules}
 use Rattle.row_writing.proofs.end_size.Goals as goal
 
 pub returns-in-TableData : goal.returns-in-TableData

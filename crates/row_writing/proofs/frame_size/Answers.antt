@@ -1,6 +1,5 @@
 -- row_writing::frame_size: what begins the row and what ends it, added.
 use native.Mathlib.Omega.{arith}
-use borrow.Author.Rules.{rules}
 use Rattle.row_writing.proofs.frame_size.Goals as goal
 
 pub returns : goal.returns

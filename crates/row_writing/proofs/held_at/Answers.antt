@@ -9,7 +9,7 @@ use lib.Signed.{mag}
 use mir.Syntax.{w64}
 use native.Mathlib.Omega.{arith}
 use Rattle.number.proofs.Signed.{down, up, up-cast, up-held}
-use borrow.Author.Rules.{rules, sfits_of}
+use borrow.Author.Rules.{sfits_of}
 use Rattle.row_writing.proofs.held_at.Goals as goal
 
 pub overflow_cast-result : goal.overflow_cast-result

@@ -3,7 +3,6 @@ use Prim.Native.Nat.{◌+◌, ◌≤◌, ℕ}
 use mathlib.Core.List.{List}
 use mathlib.Core.Path.{ap, refl, subst, sym}
 use lib.ListN.{drop, length}
-use borrow.Author.Rules.{rules}
 use Rattle.table.specs.ColumnList.{listed}
 use Rattle.table.proofs.Wrote.{wrote_as}
 use Rattle.row_writing.specs.Clauses.{HeldReady, put_form, row_bytes}

@@ -8,7 +8,6 @@ use Rattle.rows.specs.Stream.{read_cell}
 use Rattle.row_reading.proofs.CellsFit.{bytes-of, found-few}
 use Rattle.row_writing.proofs.RowForm.{form-found, rewritten, unwritten}
 use native.Mathlib.Omega.{arith}
-use borrow.Author.Rules.{rules}
 use Rattle.row_writing.proofs.rewrite.Goals as goal
 
 pub write_cell-e-requires : goal.write_cell-e-requires

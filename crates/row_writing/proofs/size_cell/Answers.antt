@@ -12,7 +12,6 @@ use Rattle.rows.specs.Stream.{write_cell}
 use Rattle.binary_writing.proofs.Sizes.{held-few}
 use Rattle.row_writing.proofs.Sizes.{sized}
 use native.Mathlib.Omega.{arith}
-use borrow.Author.Rules.{rules}
 use Rattle.row_writing.proofs.size_cell.Goals as goal
 
 pub size_text-requires : goal.size_text-requires
@@ -30,7 +29,7 @@ unfolding write_cell
 returns-in-TableData c =
     let cell : Cell = held c.args.null c.args.count c.args.scratch.now in
     let small : (to : Rows) (r : Size) → size_as r ≡ size_of (write_cell to c.args.column cell) → (size_as r ≡ size_of (write_cell to c.args.column cell)) × SizeWithin r =
-        λ to r e. sized to c.args.column cell r c.requires.0 (held-few c.args.column c.args.null c.args.count c.args.scratch.now c.requires.1) e in
+    λ to r e. sized to c.args.column cell r c.requires.0 (held-few c.args.column c.args.null c.args.count c.args.scratch.now c.requires.1) e in
     rw c.in-TableData.is (small TableData c.size_text.result c.size_text.ensures)
 
 pub returns-in-Binary : goal.returns-in-Binary
@@ -38,7 +37,7 @@ unfolding write_cell
 returns-in-Binary c =
     let cell : Cell = held c.args.null c.args.count c.args.scratch.now in
     let small : (to : Rows) (r : Size) → size_as r ≡ size_of (write_cell to c.args.column cell) → (size_as r ≡ size_of (write_cell to c.args.column cell)) × SizeWithin r =
-        λ to r e. sized to c.args.column cell r c.requires.0 (held-few c.args.column c.args.null c.args.count c.args.scratch.now c.requires.1) e in
+    λ to r e. sized to c.args.column cell r c.requires.0 (held-few c.args.column c.args.null c.args.count c.args.scratch.now c.requires.1) e in
     rw c.in-Binary.is (small Binary c.size_binary.result c.size_binary.ensures)
 
 pub returns-in-Binary2 : goal.returns-in-Binary2
@@ -46,5 +45,5 @@ unfolding write_cell
 returns-in-Binary2 c =
     let cell : Cell = held c.args.null c.args.count c.args.scratch.now in
     let small : (to : Rows) (r : Size) → size_as r ≡ size_of (write_cell to c.args.column cell) → (size_as r ≡ size_of (write_cell to c.args.column cell)) × SizeWithin r =
-        λ to r e. sized to c.args.column cell r c.requires.0 (held-few c.args.column c.args.null c.args.count c.args.scratch.now c.requires.1) e in
+    λ to r e. sized to c.args.column cell r c.requires.0 (held-few c.args.column c.args.null c.args.count c.args.scratch.now c.requires.1) e in
     rw c.in-Binary2.is (small Binary2 (Bytes c.size_binary2.result) (ap good c.size_binary2.ensures))

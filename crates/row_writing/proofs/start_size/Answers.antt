@@ -5,7 +5,6 @@ use Rattle.row_writing.specs.Clauses.{start_bytes}
 use Rattle.tabledata.specs.TableData.{open-TR}
 use Rattle.row_writing.proofs.Sizes.{start-length-binary2}
 use native.Mathlib.Omega.{arith}
-use borrow.Author.Rules.{rules}
 use Rattle.row_writing.proofs.start_size.Goals as goal
 
 pub returns-in-TableData : goal.returns-in-TableData

@@ -5,17 +5,15 @@ use lib.ListN.{length}
 use Rattle.table.specs.declared.Rows.{Rows}
 use Rattle.table.specs.Clauses.{held}
 use Rattle.row_writing.specs.Clauses.{cell_bytes}
-use borrow.Author.Rules.{rules}
 use Rattle.row_writing.proofs.write_cell.Goals as goal
 
 pub write_text-requires : goal.write_text-requires
 unfolding cell_bytes
-write_text-requires c =
-    (
-      c.requires.len_bound.2,
-      subst (λ (r : Rows). c.args.at + length (cell_bytes r c.args.column (held c.args.null c.args.count c.args.scratch.now)) ≤ length
-          c.args.out.now) c.in-TableData.is c.requires.scratch_in_bounds,
-    )
+write_text-requires c = (
+  c.requires.len_bound.2,
+  subst (λ (r : Rows). c.args.at + length (cell_bytes r c.args.column (held c.args.null c.args.count c.args.scratch.now)) ≤ length
+      c.args.out.now) c.in-TableData.is c.requires.scratch_in_bounds,
+)
 
 pub write_binary-requires : goal.write_binary-requires
 unfolding cell_bytes

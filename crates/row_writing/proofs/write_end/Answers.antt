@@ -6,7 +6,6 @@ use Rattle.rows.specs.Stream.{write_end}
 use Rattle.tabledata.specs.TableData.{close-TR}
 use Rattle.table.proofs.Wrote.{wrote_none}
 use native.Mathlib.Omega.{arith}
-use borrow.Author.Rules.{rules}
 use Rattle.row_writing.proofs.write_end.Goals as goal
 
 pub write_row_end-requires : goal.write_row_end-requires

@@ -11,7 +11,6 @@ use Rattle.row_writing.specs.Clauses.{HeldIs, cell_bytes, held_next}
 use Rattle.table.specs.Cell.{bound, null, shown}
 use Rattle.table.specs.Wrote.{Wrote}
 use native.Mathlib.Omega.{arith}
-use borrow.Author.Rules.{rules}
 use Rattle.row_writing.proofs.write_held_cell.Goals as goal
 
 pub held_at-held-requires : goal.held_at-held-requires

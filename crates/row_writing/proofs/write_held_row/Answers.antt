@@ -1,6 +1,6 @@
 -- row_writing::write_held_row: a row that is held is written: what begins it, then its cells one behind the other (WriteInv: what is left to write gives the whole), then
 -- what ends it.
-use Prim.Native.Nat.{◌+◌, ◌-◌, ◌<◌, ◌≤◌, suc, ℕ}
+use Prim.Native.Nat.{◌+◌, ◌<◌, ◌≤◌, suc, ℕ}
 use mathlib.Core.Bool.{false}
 use mathlib.Core.List.{List, [], ◌∷◌}
 use mathlib.Core.Path.{◌∙◌, ◌≡◌, ap, subst}
@@ -10,7 +10,7 @@ use native.Mathlib.Omega.{arith}
 use Rattle.table.proofs.ColumnList.{listed-length, listed_next}
 use Rattle.table.specs.ColumnList.{listed, no_column}
 use Rattle.row_reading.proofs.Ways.{no_flag}
-use Rattle.row_writing.proofs.RowForm.{WriteInv, write-fits, write-more, write-start, written-end, written-to}
+use Rattle.row_writing.proofs.RowForm.{write-fits, write-more, write-start, written-end, written-to}
 use Rattle.row_reading.proofs.Parts.{listed-bound}
 use Rattle.row_writing.proofs.RowForm.{row-bytes-length, row-stored}
 use Rattle.table.proofs.Wrote.{wrote-long}
@@ -48,8 +48,8 @@ write_held_cell-w-requires c =
     let room-left : first + (length cells + length (write_end c.args.to)) ≤ length headed = (
     omega (arith, same-room, c.requires.scratch_in_bounds, c.write_start-first.ensures.next-is, row-bytes-length c.args.to c.args.cols.count c.args.nulls cells)) in
     let bounds : c.loop-j.j < c.args.cols.count → HeldWithin (get_or c.args.cols.list c.loop-j.j no_column ∷ drop (suc c.loop-j.j) (listed c.args.cols))
-        (drop c.loop-j.w.at c.args.scratch.now) = λ t. subst (λ (cs : List Column). HeldWithin cs (drop c.loop-j.w.at c.args.scratch.now))
-        (listed_next c.args.cols c.loop-j.j t) c.loop-j.invariant.1 in
+    (drop c.loop-j.w.at c.args.scratch.now) = λ t. subst (λ (cs : List Column). HeldWithin cs (drop c.loop-j.w.at c.args.scratch.now))
+    (listed_next c.args.cols c.loop-j.j t) c.loop-j.invariant.1 in
     let cols = c.args.cols in
     let t = c.loop-j-test.true in
     let more : c.loop-j.j < length (listed cols) = omega (arith, listed-length cols, t) in
@@ -71,8 +71,8 @@ pub loop-j-preserved : goal.loop-j-preserved
 loop-j-preserved c =
     let headed : List ℕ = c.write_start-first.new.out in
     let bounds : c.loop-j.j < c.args.cols.count → HeldWithin (get_or c.args.cols.list c.loop-j.j no_column ∷ drop (suc c.loop-j.j) (listed c.args.cols))
-        (drop c.loop-j.w.at c.args.scratch.now) = λ t. subst (λ (cs : List Column). HeldWithin cs (drop c.loop-j.w.at c.args.scratch.now))
-        (listed_next c.args.cols c.loop-j.j t) c.loop-j.invariant.1 in
+    (drop c.loop-j.w.at c.args.scratch.now) = λ t. subst (λ (cs : List Column). HeldWithin cs (drop c.loop-j.w.at c.args.scratch.now))
+    (listed_next c.args.cols c.loop-j.j t) c.loop-j.invariant.1 in
     let cols = c.args.cols in
     let t = c.loop-j-test.true in
     let g = c.write_held_cell-w.ensures in

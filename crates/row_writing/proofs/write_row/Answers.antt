@@ -1,5 +1,5 @@
 -- row_writing::write_row: a row is written: what begins it, then its cells one behind the other (WriteInv: what is left to write gives the whole), then what ends it.
-use Prim.Native.Nat.{ℕ, ◌+◌, ◌-◌, ◌≤◌, ◌<◌}
+use Prim.Native.Nat.{ℕ, ◌+◌, ◌≤◌, ◌<◌}
 use mathlib.Core.List.{List}
 use mathlib.Core.Path.{◌≡◌, refl, ap, ◌∙◌}
 use lib.ListN.{length, drop, get_or}
@@ -10,7 +10,7 @@ use Rattle.rows.specs.Stream.{write_end}
 use Rattle.row_reading.specs.Clauses.{flags_in}
 use Rattle.row_writing.specs.Clauses.{read_form, start_bytes}
 use Rattle.rows.specs.Stream.{read_cell}
-use Rattle.row_writing.proofs.RowForm.{WriteInv, write-start, write-fits, write-more, written-end, written-to}
+use Rattle.row_writing.proofs.RowForm.{write-start, write-fits, write-more, written-end, written-to}
 use Rattle.table.proofs.Wrote.{wrote-long}
 use Rattle.table.proofs.ColumnList.{listed-length, listed_next}
 use Rattle.row_reading.proofs.Parts.{listed-bound}
@@ -19,8 +19,7 @@ use Rattle.row_writing.proofs.write_row.Goals as goal
 
 pub write_start-first-requires : goal.write_start-first-requires
 write_start-first-requires c =
-    let few : c.args.cols.count ≤ 64 = omega (arith, c.requires.within.0.few, listed-length c.args.cols) in
-    (
+    let few : c.args.cols.count ≤ 64 = omega (arith, c.requires.within.0.few, listed-length c.args.cols) in (
       omega (
         arith,
         c.requires.s_in_bounds,

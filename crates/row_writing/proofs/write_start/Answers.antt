@@ -8,7 +8,6 @@ use Rattle.tabledata.specs.TableData.{open-TR}
 use Rattle.row_writing.proofs.Sizes.{start-length-binary2}
 use Rattle.table.proofs.Wrote.{wrote_none}
 use native.Mathlib.Omega.{arith}
-use borrow.Author.Rules.{rules}
 use Rattle.row_writing.proofs.write_start.Goals as goal
 
 pub write_row_start-requires : goal.write_row_start-requires
@@ -18,17 +17,16 @@ write_row_start-requires c =
 
 pub write_flags-requires : goal.write_flags-requires
 unfolding bit_bytes
-write_flags-requires c =
-    (
-      c.requires.1,
-      omega (
-        arith,
-        c.requires.0,
-        ap (λ (r : Rows). length (start_bytes r c.args.count c.args.nulls)) c.in-Binary2.is,
-        start-length-binary2
-            c.args.count c.args.nulls,
-      ),
-    )
+write_flags-requires c = (
+  c.requires.1,
+  omega (
+    arith,
+    c.requires.0,
+    ap (λ (r : Rows). length (start_bytes r c.args.count c.args.nulls)) c.in-Binary2.is,
+    start-length-binary2
+        c.args.count c.args.nulls,
+  ),
+)
 
 pub returns-in-TableData : goal.returns-in-TableData
 unfolding start_bytes

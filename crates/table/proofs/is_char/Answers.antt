@@ -1,5 +1,4 @@
 -- table::is_char: in each arm the kind is known, and the definition computes.
-use borrow.Author.Rules.{rules}
 use mathlib.Core.Path.{ap, sym}
 use Rattle.table.specs.Cell.{is_char}
 use Rattle.table.specs.Shape.{shape}

@@ -3,8 +3,7 @@ use Rattle.table.proofs.Laws.{array-not-null}
 use Rattle.table.proofs.Nulls.{null-many, null-one, scalar-stands}
 use Rattle.table.specs.Cell.{is_null_of_kind}
 use Rattle.table.specs.Shape.{shape}
-use borrow.Author.Rules.{rules, sfits_of}
-use borrow.Author.Tests.{not-false, not-true}
+use borrow.Author.Rules.{sfits_of}
 use mathlib.Core.Path.{◌∙◌, ap, sym}
 use mir.Facts.{to_z-of_z}
 use mir.Syntax.{w64}

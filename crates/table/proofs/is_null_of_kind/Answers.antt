@@ -1,6 +1,5 @@
 -- table::is_null_of_kind: in each arm the kind is known, and the definition asks what the arm asks.
 use Rattle.table.specs.Cell.{is_declared, same_integer}
-use borrow.Author.Rules.{rules}
 use lib.IntN.{pos}
 use mathlib.Core.Path.{◌∙◌, ◌≡◌, ap}
 use mir.Facts.{to_z-of_z}

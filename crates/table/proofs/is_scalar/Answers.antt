@@ -1,5 +1,4 @@
 -- table::is_scalar: by the cases of the column's length.
-use borrow.Author.Rules.{rules}
 use mathlib.Core.Path.{ap, sym}
 use Rattle.table.specs.Cell.{is_one}
 use Rattle.table.proofs.is_scalar.Goals as goal

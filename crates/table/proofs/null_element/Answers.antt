@@ -1,6 +1,5 @@
 -- table::null_element: a scalar has the null of its kind, and no other column has one.
 use Rattle.table.specs.Cell.{null_element}
-use borrow.Author.Rules.{rules}
 use mathlib.Core.Path.{◌∙◌, sym}
 use Rattle.table.proofs.null_element.Goals as goal
 

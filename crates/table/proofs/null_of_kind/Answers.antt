@@ -1,5 +1,4 @@
 -- table::null_of_kind: in each arm the kind is known, and the definition computes.
-use borrow.Author.Rules.{rules}
 use Rattle.table.proofs.null_of_kind.Goals as goal
 
 pub returns-in-Boolean : goal.returns-in-Boolean

@@ -1,6 +1,6 @@
 -- `tabledata::is_plain` meets its contract: `&` and `<` are keys of `match`, 32 to 127 a range.
 use native.Mathlib.Omega.{arith}
-use mathlib.Core.Logic.{inl, inr, ⊎_elim}
+use mathlib.Core.Logic.{⊎_elim}
 use mathlib.Core.Path.{ap, sym}
 use Rattle.tabledata.proofs.Characters.{plain-high, plain-low, plain-yes}
 use Rattle.tabledata.specs.Clauses.{is_plain}

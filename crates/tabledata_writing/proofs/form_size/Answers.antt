@@ -1,8 +1,8 @@
 -- `tabledata_writing::form_size` meets its contract: the escaped are keys of `match`, 9 and 10, 32 to 127 ranges.
 use Prim.Native.Nat.{ℕ}
 use native.Mathlib.Omega.{arith}
-use mathlib.Core.Logic.{inl, inr, ⊎_elim}
-use mathlib.Core.Path.{◌≡◌, ap}
+use mathlib.Core.Logic.{⊎_elim}
+use mathlib.Core.Path.{ap}
 use lib.Dec.{lit≤}
 use lib.IntN.{pos}
 use Rattle.table.specs.Bytes.{between}

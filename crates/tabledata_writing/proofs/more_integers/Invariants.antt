@@ -1,17 +1,9 @@
 -- `tabledata_writing::more_integers` meets its contract. The invariant: what is left of the words, each behind a space, is still to be written here.
-use Prim.Native.Nat.{◌+◌, ◌-◌, ◌≤◌, ℕ}
-use native.Mathlib.Omega.{arith}
-use mathlib.Core.List.{List, ◌++◌, ◌∷◌}
-use mathlib.Core.Path.{◌∙◌, ◌≡◌, ap, sym}
-use lib.IntN.{pos}
-use lib.ListN.{drop, get_or, length, length-set, take}
-use borrow.Author.Rules.{rules, sfits_of}
-use mir.Facts.{to_z-of_z}
-use mir.Syntax.{w64}
-use mir.Val.{of_z, to_z}
+use Prim.Native.Nat.{◌-◌}
+use mathlib.Core.List.{◌∷◌}
+use lib.ListN.{drop, take}
 use Rattle.number.specs.Number.{shortest}
-use Rattle.table.proofs.Wrote.{Left, left-all, left-none, left-room, left_step, wrote_one, wrote_then_lem}
-use Rattle.tabledata_writing.proofs.Writing.{taken-end, taken_more}
+use Rattle.table.proofs.Wrote.{Left}
 use Rattle.tabledata.specs.TableData.{joined}
 use Rattle.tabledata_writing.proofs.more_integers.Given as goal
 

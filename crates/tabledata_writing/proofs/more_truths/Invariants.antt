@@ -1,15 +1,8 @@
 -- `tabledata_writing::more_truths` meets its contract. The invariant: what is left of the words, each behind a space, is still to be written here.
-use Prim.Native.Nat.{◌+◌, ◌-◌, ◌≤◌, ℕ}
-use native.Mathlib.Omega.{arith}
-use mathlib.Core.List.{List, ◌++◌, ◌∷◌}
-use mathlib.Core.Path.{◌∙◌, ◌≡◌, ap, sym}
-use lib.IntN.{pos}
-use lib.ListN.{drop, get_or, length, length-set, take}
-use borrow.Author.Rules.{rules, sfits_of}
-use mir.Facts.{to_z-of_z}
-use mir.Syntax.{w64}
-use Rattle.table.proofs.Wrote.{Left, left-all, left-none, left-room, left_step}
-use Rattle.tabledata_writing.proofs.Writing.{taken-end, taken_more, truth-long, truth-text, wrote-two}
+use Prim.Native.Nat.{◌-◌}
+use mathlib.Core.List.{◌∷◌}
+use lib.ListN.{drop, take}
+use Rattle.table.proofs.Wrote.{Left}
 use Rattle.tabledata.specs.TableData.{joined, truth_text}
 use Rattle.tabledata_writing.proofs.more_truths.Given as goal
 

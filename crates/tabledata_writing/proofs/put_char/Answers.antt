@@ -5,8 +5,6 @@ use mathlib.Core.List.{[], ◌∷◌}
 use mathlib.Core.Path.{◌∙◌, ◌≡◌, ap, sym}
 use lib.IntN.{pos}
 use lib.ListN.{length}
-use borrow.Author.Rules.{rules}
-use borrow.Author.Tests.{not-false}
 use Rattle.table.proofs.Wrote.{wrote_as, wrote-long, wrote_one}
 use Rattle.tabledata_writing.proofs.Writing.{char-plain, char_form}
 use Rattle.tabledata_writing.proofs.put_char.Goals as goal

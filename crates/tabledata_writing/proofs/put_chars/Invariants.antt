@@ -1,15 +1,9 @@
 -- `tabledata_writing::put_chars` meets its contract. The invariant: what is left of the characters is still to be written here.
-use Prim.Native.Nat.{◌+◌, ◌-◌, ℕ}
-use mathlib.Core.List.{List, ◌++◌}
-use mathlib.Core.Path.{◌∙◌, ◌≡◌, ap}
-use lib.IntN.{pos}
+use Prim.Native.Nat.{◌-◌}
 use lib.ListN.{drop, take}
-use borrow.Author.Rules.{rules, sfits_of}
-use mir.Facts.{to_z-of_z}
-use mir.Syntax.{w64}
 use Rattle.table.specs.Shape.{Text}
-use Rattle.table.proofs.Wrote.{Left, left-all, left-none, left-room, left_step}
-use Rattle.tabledata_writing.proofs.Writing.{char-code, char_form, taken-end, taken_more}
+use Rattle.table.proofs.Wrote.{Left}
+use Rattle.tabledata_writing.proofs.Writing.{char_form}
 use Rattle.tabledata.specs.TableData.{element_bytes, joined}
 use Rattle.tabledata_writing.proofs.put_chars.Given as goal
 

@@ -2,7 +2,6 @@
 use Prim.Native.Nat.{◌+◌, ◌≤◌}
 use mathlib.Core.Path.{◌≡◌, subst}
 use lib.ListN.{length, take}
-use borrow.Author.Rules.{rules}
 use Rattle.number.proofs.Laws.{shape_of}
 use Rattle.number.specs.Clauses.{shape_as}
 use Rattle.number.specs.declared.Elements.{Elements}
@@ -15,7 +14,7 @@ pub put_truths-requires : goal.put_truths-requires
 unfolding element_bytes
 put_truths-requires c =
     let room : (e : Elements) → c.elements_of.result ≡ e → let a = c.args in
-        (a.count ≤ length a.scratch.now) × (a.at + length (element_bytes (shape_as e) (take a.count a.scratch.now)) ≤ length a.out.now) = λ _ told. (let a = c.args in (
+    (a.count ≤ length a.scratch.now) × (a.at + length (element_bytes (shape_as e) (take a.count a.scratch.now)) ≤ length a.out.now) = λ _ told. (let a = c.args in (
       c.requires.0,
       subst (λ (k : Shape). a.at + length (element_bytes k (take a.count a.scratch.now)) ≤ length a.out.now)
           (shape_of c.elements_of.ensures told) c.requires.1,
@@ -25,7 +24,7 @@ put_truths-requires c =
 pub put_bits-requires : goal.put_bits-requires
 put_bits-requires c =
     let room : (e : Elements) → c.elements_of.result ≡ e → let a = c.args in
-        (a.count ≤ length a.scratch.now) × (a.at + length (element_bytes (shape_as e) (take a.count a.scratch.now)) ≤ length a.out.now) = λ _ told. (let a = c.args in (
+    (a.count ≤ length a.scratch.now) × (a.at + length (element_bytes (shape_as e) (take a.count a.scratch.now)) ≤ length a.out.now) = λ _ told. (let a = c.args in (
       c.requires.0,
       subst (λ (k : Shape). a.at + length (element_bytes k (take a.count a.scratch.now)) ≤ length a.out.now)
           (shape_of c.elements_of.ensures told) c.requires.1,
@@ -35,7 +34,7 @@ put_bits-requires c =
 pub put_chars-requires : goal.put_chars-requires
 put_chars-requires c =
     let room : (e : Elements) → c.elements_of.result ≡ e → let a = c.args in
-        (a.count ≤ length a.scratch.now) × (a.at + length (element_bytes (shape_as e) (take a.count a.scratch.now)) ≤ length a.out.now) = λ _ told. (let a = c.args in (
+    (a.count ≤ length a.scratch.now) × (a.at + length (element_bytes (shape_as e) (take a.count a.scratch.now)) ≤ length a.out.now) = λ _ told. (let a = c.args in (
       c.requires.0,
       subst (λ (k : Shape). a.at + length (element_bytes k (take a.count a.scratch.now)) ≤ length a.out.now)
           (shape_of c.elements_of.ensures told) c.requires.1,
@@ -46,7 +45,7 @@ pub put_integers-requires : goal.put_integers-requires
 unfolding element_bytes
 put_integers-requires c =
     let room : (e : Elements) → c.elements_of.result ≡ e → let a = c.args in
-        (a.count ≤ length a.scratch.now) × (a.at + length (element_bytes (shape_as e) (take a.count a.scratch.now)) ≤ length a.out.now) = λ _ told. (let a = c.args in (
+    (a.count ≤ length a.scratch.now) × (a.at + length (element_bytes (shape_as e) (take a.count a.scratch.now)) ≤ length a.out.now) = λ _ told. (let a = c.args in (
       c.requires.0,
       subst (λ (k : Shape). a.at + length (element_bytes k (take a.count a.scratch.now)) ≤ length a.out.now)
           (shape_of c.elements_of.ensures told) c.requires.1,

@@ -6,8 +6,6 @@ use mathlib.Core.List.{[], ◌∷◌}
 use mathlib.Core.Path.{◌∙◌, ◌≡◌, ap, sym}
 use lib.IntN.{pos}
 use lib.ListN.{length}
-use borrow.Author.Rules.{rules}
-use borrow.Author.Tests.{not-false, not-true}
 use Rattle.table.specs.Bytes.{between}
 use Rattle.tabledata.proofs.Laws.{text-lt}
 use Rattle.table.proofs.Wrote.{wrote_as, wrote-long, wrote_none, wrote_one}

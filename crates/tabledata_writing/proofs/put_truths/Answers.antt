@@ -4,7 +4,7 @@ use native.Mathlib.Omega.{arith}
 use mathlib.Core.List.{List, [], ◌++◌, ◌∷◌, map}
 use mathlib.Core.Path.{◌∙◌, ◌≡◌, ap, sym}
 use lib.ListN.{drop, length, length-set, take}
-use borrow.Author.Rules.{rules, sfits_of}
+use borrow.Author.Rules.{sfits_of}
 use mir.Facts.{to_z-of_z}
 use mir.Syntax.{w64}
 use Rattle.table.proofs.Wrote.{wrote_as, wrote-long, wrote_none, wrote_one, wrote_then_lem}
@@ -20,7 +20,7 @@ returns-then-count-eq0 c =
 pub bounds-out-at : goal.bounds-out-at
 bounds-out-at c =
     let whole : let a = c.args in spaced (map truth_text (take a.count a.scratch.now)) ≡ (c.truth_byte.result ∷ []) ++ joined (λ z. 32 ∷ truth_text z) (drop 1 (take a.count a.scratch.now)) =
-        (let a = c.args in
+    (let a = c.args in
     let word = sym (ap truth_text (to_z-of_z {w = w64} (sfits_of c.truth_byte-arg-1.given))) ∙ truth-text _ _ c.truth_byte.ensures in
     spaced-taken truth_text a.scratch.now a.count c.requires.0 c.if-count-eq0.false
     ∙ ap (λ (b : List ℕ). b ++ joined (λ z. 32 ∷ truth_text z) (drop 1 (take a.count a.scratch.now))) word) in
@@ -29,7 +29,7 @@ bounds-out-at c =
 pub overflow_add-at : goal.overflow_add-at
 overflow_add-at c =
     let whole : let a = c.args in spaced (map truth_text (take a.count a.scratch.now)) ≡ (c.truth_byte.result ∷ []) ++ joined (λ z. 32 ∷ truth_text z) (drop 1 (take a.count a.scratch.now)) =
-        (let a = c.args in
+    (let a = c.args in
     let word = sym (ap truth_text (to_z-of_z {w = w64} (sfits_of c.truth_byte-arg-1.given))) ∙ truth-text _ _ c.truth_byte.ensures in
     spaced-taken truth_text a.scratch.now a.count c.requires.0 c.if-count-eq0.false
     ∙ ap (λ (b : List ℕ). b ++ joined (λ z. 32 ∷ truth_text z) (drop 1 (take a.count a.scratch.now))) word) in
@@ -38,7 +38,7 @@ overflow_add-at c =
 pub more_truths-requires : goal.more_truths-requires
 more_truths-requires c =
     let whole : let a = c.args in spaced (map truth_text (take a.count a.scratch.now)) ≡ (c.truth_byte.result ∷ []) ++ joined (λ z. 32 ∷ truth_text z) (drop 1 (take a.count a.scratch.now)) =
-        (let a = c.args in
+    (let a = c.args in
     let word = sym (ap truth_text (to_z-of_z {w = w64} (sfits_of c.truth_byte-arg-1.given))) ∙ truth-text _ _ c.truth_byte.ensures in
     spaced-taken truth_text a.scratch.now a.count c.requires.0 c.if-count-eq0.false
     ∙ ap (λ (b : List ℕ). b ++ joined (λ z. 32 ∷ truth_text z) (drop 1 (take a.count a.scratch.now))) word) in
@@ -50,7 +50,7 @@ shape_of-out c = wrote-long c.more_truths.ensures ∙ simp length-set
 pub returns : goal.returns
 returns c =
     let whole : let a = c.args in spaced (map truth_text (take a.count a.scratch.now)) ≡ (c.truth_byte.result ∷ []) ++ joined (λ z. 32 ∷ truth_text z) (drop 1 (take a.count a.scratch.now)) =
-        (let a = c.args in
+    (let a = c.args in
     let word = sym (ap truth_text (to_z-of_z {w = w64} (sfits_of c.truth_byte-arg-1.given))) ∙ truth-text _ _ c.truth_byte.ensures in
     spaced-taken truth_text a.scratch.now a.count c.requires.0 c.if-count-eq0.false
     ∙ ap (λ (b : List ℕ). b ++ joined (λ z. 32 ∷ truth_text z) (drop 1 (take a.count a.scratch.now))) word) in

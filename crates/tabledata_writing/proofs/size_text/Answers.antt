@@ -3,7 +3,6 @@ use Prim.Native.Nat.{◌*◌, ◌+◌, ◌≤◌, ℕ}
 use native.Mathlib.Omega.{arith}
 use mathlib.Core.Path.{◌∙◌, ◌≡◌, ap, sym}
 use lib.ListN.{length, take}
-use borrow.Author.Rules.{rules}
 use Rattle.number.proofs.Laws.{shape_of}
 use Rattle.table.specs.Result.{good}
 use Rattle.tabledata_writing.proofs.Writing.{size_none, size-null, size_of_bits, size-of-chars, size-of-truths, size-of-whole, taken-long}

@@ -5,7 +5,6 @@ use native.Mathlib.Omega.{arith}
 use mathlib.Core.Bool.{Bool, false, true}
 use mathlib.Core.Path.{◌∙◌, ◌≡◌, subst, sym}
 use lib.ListN.{length, take}
-use borrow.Author.Rules.{rules}
 use Rattle.table.specs.Clauses.{held}
 use Rattle.table.proofs.Wrote.{wrote_as, wrote-long, wrote_then_lem}
 use Rattle.tabledata_writing.proofs.Writing.{text-long, text-tagged}

@@ -1,6 +1,5 @@
 -- `text::digit_value` meets its contract: each range of `match` is a case of the definition.
 use native.Mathlib.Omega.{arith}
-use borrow.Author.Rules.{rules}
 use Rattle.text.proofs.Digits.{digit_low, digit-lower, digit-none, digit-upper}
 use Rattle.text.proofs.digit_value.Goals as goal
 

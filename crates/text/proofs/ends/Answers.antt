@@ -1,5 +1,4 @@
 -- `text::ends` meets its contract: the word stands where white space ends.
-use borrow.Author.Rules.{rules}
 use Rattle.text.proofs.Scan.{ends-from}
 use Rattle.text.proofs.ends.Goals as goal
 

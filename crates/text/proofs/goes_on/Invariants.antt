@@ -1,12 +1,8 @@
 -- `text::goes_on` meets its contract. The invariant: the text from here on goes on with the rest of the word.
 use Prim.Native.Nat.{◌+◌, ◌-◌, ◌≤◌, ℕ}
-use native.Mathlib.Nat.{add-zero}
-use native.Mathlib.Omega.{arith}
-use mathlib.Core.Path.{◌∙◌, ◌≡◌}
+use mathlib.Core.Path.{◌≡◌}
 use lib.ListN.{drop, length}
-use borrow.Author.Rules.{rules}
 use Rattle.table.specs.Bytes.{after}
-use Rattle.text.proofs.Scan.{after-all, after-end, after_more, after-no}
 use Rattle.text.proofs.goes_on.Given as goal
 
 abbrev pub invariant-loop-k : goal.invariant-loop-k

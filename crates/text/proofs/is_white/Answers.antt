@@ -1,6 +1,6 @@
 -- `text::is_white` meets its contract: 9 and 10 are a range of `match`, 13 and 32 its keys.
 use native.Mathlib.Omega.{arith}
-use mathlib.Core.Logic.{inl, inr, ⊎_elim}
+use mathlib.Core.Logic.{⊎_elim}
 use mathlib.Core.Path.{ap, sym}
 use Rattle.table.proofs.Bytes.{white-no, white-yes}
 use Rattle.table.specs.Bytes.{is_white}

@@ -1,11 +1,11 @@
 -- `text::put_bytes` meets its contract. The invariant: what is left of the word is still to be written here.
-use Prim.Native.Nat.{◌+◌, ◌-◌, ◌≤◌}
+use Prim.Native.Nat.{◌+◌}
 use native.Mathlib.Omega.{arith}
 use mathlib.Core.Path.{◌≡◌}
-use lib.ListN.{drop, get_or, length}
+use lib.ListN.{get_or}
 use borrow.Author.Rules.{rules}
 use Rattle.table.proofs.Places.{done, next1}
-use Rattle.table.proofs.Wrote.{Left, left-all, left-none, left_step, wrote_one}
+use Rattle.table.proofs.Wrote.{left-all, left-none, left_step, wrote_one}
 use Rattle.text.proofs.put_bytes.Goals as goal
 
 pub loop-k-init : goal.loop-k-init

@@ -1,11 +1,7 @@
 -- `text::put_bytes` meets its contract. The invariant: what is left of the word is still to be written here.
 use Prim.Native.Nat.{◌+◌, ◌-◌, ◌≤◌}
-use native.Mathlib.Omega.{arith}
-use mathlib.Core.Path.{◌≡◌}
-use lib.ListN.{drop, get_or, length}
-use borrow.Author.Rules.{rules}
-use Rattle.table.proofs.Places.{done, next1}
-use Rattle.table.proofs.Wrote.{Left, left-all, left-none, left_step, wrote_one}
+use lib.ListN.{drop, length}
+use Rattle.table.proofs.Wrote.{Left}
 use Rattle.text.proofs.put_bytes.Given as goal
 
 abbrev pub invariant-loop-k : goal.invariant-loop-k

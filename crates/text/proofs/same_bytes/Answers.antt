@@ -1,10 +1,7 @@
 -- `text::same_bytes` meets its contract. The invariant: the rests from here on are the same or not as the whole texts are.
-use Prim.Native.Nat.{◌-◌, ◌≤◌}
 use native.Mathlib.Omega.{arith}
-use mathlib.Core.Path.{◌∙◌, ◌≡◌, refl, sym}
-use lib.ListN.{drop, length}
+use mathlib.Core.Path.{◌∙◌, refl, sym}
 use borrow.Author.Rules.{rules}
-use Rattle.table.specs.Bytes.{same}
 use Rattle.text.proofs.Scan.{same_end, same_more, same_not, same-short}
 use Rattle.text.proofs.same_bytes.Goals as goal
 

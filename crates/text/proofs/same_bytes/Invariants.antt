@@ -1,11 +1,8 @@
 -- `text::same_bytes` meets its contract. The invariant: the rests from here on are the same or not as the whole texts are.
 use Prim.Native.Nat.{◌-◌, ◌≤◌}
-use native.Mathlib.Omega.{arith}
-use mathlib.Core.Path.{◌∙◌, ◌≡◌, refl, sym}
+use mathlib.Core.Path.{◌≡◌}
 use lib.ListN.{drop, length}
-use borrow.Author.Rules.{rules}
 use Rattle.table.specs.Bytes.{same}
-use Rattle.text.proofs.Scan.{same_end, same_more, same_not, same-short}
 use Rattle.text.proofs.same_bytes.Given as goal
 
 abbrev pub invariant-loop-i : goal.invariant-loop-i

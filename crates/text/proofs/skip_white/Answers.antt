@@ -1,10 +1,7 @@
 -- `text::skip_white` meets its contract. The invariant: white space is skipped to the same rest from here on.
-use Prim.Native.Nat.{◌-◌, ◌≤◌}
 use native.Mathlib.Omega.{arith}
-use mathlib.Core.Path.{◌∙◌, ◌≡◌, refl, sym}
-use lib.ListN.{drop, length}
+use mathlib.Core.Path.{◌∙◌, refl, sym}
 use borrow.Author.Rules.{rules}
-use Rattle.table.specs.Bytes.{skip_white}
 use Rattle.text.proofs.Scan.{skip-end, skip-here, skip-more}
 use Rattle.text.proofs.skip_white.Goals as goal
 

@@ -1,11 +1,8 @@
 -- `text::skip_white` meets its contract. The invariant: white space is skipped to the same rest from here on.
 use Prim.Native.Nat.{◌-◌, ◌≤◌}
-use native.Mathlib.Omega.{arith}
-use mathlib.Core.Path.{◌∙◌, ◌≡◌, refl, sym}
+use mathlib.Core.Path.{◌≡◌}
 use lib.ListN.{drop, length}
-use borrow.Author.Rules.{rules}
 use Rattle.table.specs.Bytes.{skip_white}
-use Rattle.text.proofs.Scan.{skip-end, skip-here, skip-more}
 use Rattle.text.proofs.skip_white.Given as goal
 
 abbrev pub invariant-loop-i : goal.invariant-loop-i

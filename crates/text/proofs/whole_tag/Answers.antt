@@ -1,6 +1,5 @@
 -- `text::whole_tag` meets its contract: the word, and where it is there its end.
 use mathlib.Core.Path.{subst}
-use borrow.Author.Rules.{rules}
 use Rattle.text.proofs.Scan.{tag-not, tag-there}
 use Rattle.text.specs.Clauses.{TagIs}
 use Rattle.text.proofs.whole_tag.Goals as goal

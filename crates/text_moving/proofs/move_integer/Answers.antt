@@ -50,7 +50,7 @@ returns-then-is_declared c =
     let fits : to_z w64 (of_z w64 value) ≡ value = search rules in
     let ended : ClosesAt c.args.s.now end = c.closes.ensures (c.if-not-closes.false) in
     let read : let a = c.args in is_scalar a.column ≡ true → shape a.column.kind ≡ kind → TextRead a.column a.s.now a.from (end + 5) (value ∷ []) = λ one q. let a = c.args in
-        one-read a.column kind a.s.now a.from end value one q stands ended in
+    one-read a.column kind a.s.now a.from end value one q stands ended in
     let tested : is_declared c.args.column.null value ≡ c.is_declared.result = sym (ap (is_declared c.args.column.null) fits) ∙ sym c.is_declared.ensures in
     let a = c.args in
     let p = c.put_null in
@@ -67,7 +67,7 @@ returns c =
     let fits : to_z w64 (of_z w64 value) ≡ value = search rules in
     let ended : ClosesAt c.args.s.now end = c.closes.ensures (c.if-not-closes.false) in
     let read : let a = c.args in is_scalar a.column ≡ true → shape a.column.kind ≡ kind → TextRead a.column a.s.now a.from (end + 5) (value ∷ []) = λ one q. let a = c.args in
-        one-read a.column kind a.s.now a.from end value one q stands ended in
+    one-read a.column kind a.s.now a.from end value one q stands ended in
     let tested : is_declared c.args.column.null value ≡ c.is_declared.result = sym (ap (is_declared c.args.column.null) fits) ∙ sym c.is_declared.ensures in
     let a = c.args in
     let p = c.put_integer-e in

@@ -47,7 +47,7 @@ returns-then-same_integer c =
     let fits : to_z w64 (of_z w64 value) ≡ value = search rules in
     let ended : ClosesAt c.args.s.now end = c.closes.ensures (c.if-not-closes.false) in
     let read : let a = c.args in is_scalar a.column ≡ true → shape a.column.kind ≡ Truths → TextRead a.column a.s.now a.from (end + 5) (value ∷ []) = λ one q. let a = c.args in
-        one-read a.column Truths a.s.now a.from end value one q stands ended in
+    one-read a.column Truths a.s.now a.from end value one q stands ended in
     let tested : same_integer value (pos 2) ≡ c.same_integer.result = sym (ap (λ (z : ℤ). same_integer z (pos 2)) fits) ∙ sym c.same_integer.ensures in
     let a = c.args in
     let p = c.put_null in
@@ -63,7 +63,7 @@ returns c =
     let fits : to_z w64 (of_z w64 value) ≡ value = search rules in
     let ended : ClosesAt c.args.s.now end = c.closes.ensures (c.if-not-closes.false) in
     let read : let a = c.args in is_scalar a.column ≡ true → shape a.column.kind ≡ Truths → TextRead a.column a.s.now a.from (end + 5) (value ∷ []) = λ one q. let a = c.args in
-        one-read a.column Truths a.s.now a.from end value one q stands ended in
+    one-read a.column Truths a.s.now a.from end value one q stands ended in
     let tested : same_integer value (pos 2) ≡ c.same_integer.result = sym (ap (λ (z : ℤ). same_integer z (pos 2)) fits) ∙ sym c.same_integer.ensures in
     let a = c.args in
     let p = c.put_truth-e in

@@ -22,12 +22,12 @@ pub closes-requires : goal.closes-requires
 closes-requires c = c.in-Elements.ensures.reads.spells.inside
 
 pub returns-then-not-closes : goal.returns-then-not-closes
-returns-then-not-closes c = 
+returns-then-not-closes c =
     let untouched = puts_lower {o = c.args.o} c.in-Elements.ensures.puts (omega arith) in
     λ never. (untouched, untouched)
 
 pub returns-then-not-count_fits : goal.returns-then-not-count_fits
-returns-then-not-count_fits c = 
+returns-then-not-count_fits c =
     let untouched = puts_lower {o = c.args.o} c.in-Elements.ensures.puts (omega arith) in
     λ never. (untouched, untouched)
 

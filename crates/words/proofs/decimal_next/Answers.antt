@@ -1,12 +1,10 @@
 -- `words::decimal_next` meets its contract: a digit, of which there may be 20, or no digit.
 use Prim.Native.Nat.{◌+◌, ◌-◌}
-use mathlib.Core.Logic.{⊎_elim}
 use mathlib.Core.Path.{◌∙◌, ap, sym}
 use Rattle.words.specs.Words.{word}
 use Rattle.number.proofs.Laws.{digit-no, digit-yes}
 use Rattle.words.proofs.WordLaws.{decimal-bad, decimal-full, decimal-more}
 use native.Mathlib.Omega.{arith}
-use borrow.Author.Rules.{rules}
 use Rattle.words.proofs.decimal_next.Goals as goal
 
 pub returns-then-count-ge20 : goal.returns-then-count-ge20

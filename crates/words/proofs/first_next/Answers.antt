@@ -2,7 +2,6 @@
 use mathlib.Core.Path.{◌∙◌, ap, sym}
 use borrow.Author.Tests.{ne_eqb}
 use Rattle.words.specs.Words.{first_next}
-use borrow.Author.Rules.{rules}
 use Rattle.words.proofs.first_next.Goals as goal
 
 pub returns-in-43 : goal.returns-in-43

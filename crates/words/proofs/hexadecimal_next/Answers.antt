@@ -2,7 +2,6 @@
 use mathlib.Core.Path.{◌∙◌, sym}
 use Rattle.text.proofs.Digits.{hexadigit-is, hexadigit-no}
 use Rattle.words.proofs.WordLaws.{hexadecimal-bad, hexadecimal-full, hexadecimal-more}
-use borrow.Author.Rules.{rules}
 use Rattle.words.proofs.hexadecimal_next.Goals as goal
 
 pub returns-then-digit-ge16 : goal.returns-then-digit-ge16

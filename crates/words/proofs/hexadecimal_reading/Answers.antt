@@ -7,7 +7,6 @@ use Rattle.number.specs.Number.{Fault}
 use Rattle.table.specs.Result.{Result, good}
 use Rattle.words.proofs.WordLaws.{hexadecimal-many, hexadecimal-none, hexadecimal-value}
 use native.Mathlib.Omega.{arith}
-use borrow.Author.Rules.{rules}
 use Rattle.words.proofs.hexadecimal_reading.Goals as goal
 
 pub returns-then-count-eq0 : goal.returns-then-count-eq0

@@ -1,7 +1,6 @@
 -- `words::is_signed` meets its contract: in each arm the kind is known. Said here, so that a wrong arm is refused here and not at a caller.
 use mathlib.Core.Path.{ap, sym}
 use Rattle.number.specs.Clauses.{is_signed}
-use borrow.Author.Rules.{rules}
 use Rattle.words.proofs.is_signed.Goals as goal
 
 pub returns-in-UnsignedByte : goal.returns-in-UnsignedByte

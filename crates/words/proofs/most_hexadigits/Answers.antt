@@ -3,7 +3,6 @@ use Prim.Native.Nat.{◌*◌}
 use mathlib.Core.Path.{ap, sym}
 use Rattle.number.specs.Clauses.{size}
 use Rattle.number.specs.declared.Integer.{Integer}
-use borrow.Author.Rules.{rules}
 use Rattle.words.proofs.most_hexadigits.Goals as goal
 
 pub returns-in-UnsignedByte : goal.returns-in-UnsignedByte

@@ -3,7 +3,6 @@
 use mathlib.Core.Bool.{true}
 use mathlib.Core.Path.{◌∙◌, ◌≡◌, ap, sym}
 use Prim.Native.Nat.{◌-◌, ◌≤◌}
-use borrow.Author.Tests.{not-false, not-true}
 use lib.IntN.{ℤ}
 use mir.Syntax.{w64}
 use Rattle.words.specs.Clauses.{top}
@@ -13,7 +12,6 @@ use Rattle.number.proofs.Signed.{high_is, less-fits}
 use Rattle.words.proofs.WordLaws.{decimal-down, decimal-none, decimal-under, decimal-zero, signed_no, signed_yes, top_lt}
 use Rattle.number.specs.Clauses.{is_signed}
 use native.Mathlib.Omega.{arith}
-use borrow.Author.Rules.{rules}
 use Rattle.words.proofs.negative.Goals as goal
 
 pub returns-then-not-is_signed : goal.returns-then-not-is_signed

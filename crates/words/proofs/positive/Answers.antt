@@ -10,7 +10,6 @@ use Rattle.number.specs.Number.{Fault}
 use Rattle.table.specs.Result.{Result, good}
 use Rattle.words.proofs.WordLaws.{decimal-none, decimal-over, decimal-up, top_lt}
 use native.Mathlib.Omega.{arith}
-use borrow.Author.Rules.{rules}
 use Rattle.words.proofs.positive.Goals as goal
 
 pub returns-then-count-eq0 : goal.returns-then-count-eq0

@@ -1,19 +1,17 @@
 -- `words::quick_digits` meets its contract. The run behind and the run still to come are the whole run; the number is that of the digits behind.
-use Prim.Native.Nat.{◌+◌, ◌-◌, ◌<◌, ◌≤◌, suc, ℕ}
+use Prim.Native.Nat.{◌+◌, ◌-◌, ◌<◌, suc, ℕ}
 use mathlib.Core.Bool.{true}
 use mathlib.Core.Logic.{⊎_elim}
 use mathlib.Core.Path.{◌∙◌, ◌≡◌, ap, refl}
 use native.Mathlib.Omega.{arith}
-use lib.ListN.{drop, get_or, length, take}
+use lib.ListN.{drop, get_or, length}
 use Rattle.words.specs.Clauses.{leading_digits}
-use Rattle.number.specs.Number.{digit, numeral}
+use Rattle.number.specs.Number.{numeral}
 use Rattle.table.specs.Bytes.{between}
-use Rattle.table.specs.Result.{good}
 use Rattle.table.proofs.Laws.{between-yes}
 use Rattle.words.proofs.QuickLaws.{number_lt, number_more, leading_end, leading-go, leading-out, leading-stop, leading-zero}
 use Rattle.number.proofs.Laws.{digit-yes}
 use Rattle.table.proofs.Bytes.{between-no}
-use borrow.Author.Rules.{rules}
 use Rattle.words.proofs.quick_digits.Goals as goal
 
 pub loop-i-init : goal.loop-i-init

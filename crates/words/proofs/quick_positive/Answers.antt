@@ -9,7 +9,6 @@ use Rattle.number.specs.Number.{with_sign}
 use Rattle.words.specs.declared.Quick.TheVariants.{Value}
 use Rattle.words.proofs.QuickLaws.{run_none, run-over, run_value}
 use Rattle.words.proofs.WordLaws.{top_lt}
-use borrow.Author.Rules.{rules}
 use Rattle.words.proofs.quick_positive.Goals as goal
 
 pub returns-then-next-at : goal.returns-then-next-at

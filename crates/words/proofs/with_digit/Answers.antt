@@ -1,7 +1,6 @@
 -- `words::with_digit` meets its contract, by its test.
 use borrow.Author.Tests.{le-ltb, lt-ltb}
 use Rattle.words.specs.Words.{capped}
-use borrow.Author.Rules.{rules}
 use Rattle.words.proofs.with_digit.Goals as goal
 
 pub returns-then-value-lt1000000000000000000 : goal.returns-then-value-lt1000000000000000000

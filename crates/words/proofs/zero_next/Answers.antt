@@ -2,7 +2,6 @@
 use mathlib.Core.Path.{◌∙◌, ap, sym}
 use borrow.Author.Tests.{ne_eqb}
 use Rattle.words.specs.Words.{zero_next}
-use borrow.Author.Rules.{rules}
 use Rattle.words.proofs.zero_next.Goals as goal
 
 pub returns-then-c-eq120 : goal.returns-then-c-eq120

@@ -3,7 +3,7 @@ use Prim.Native.Nat.{◌*◌, ◌+◌, ◌-◌, ◌/◌, ◌≤◌}
 use mathlib.Core.Path.{◌∙◌, ◌≡◌, ap, refl, sym}
 use lib.ListN.{drop, length}
 use Rattle.base64_rules.specs.Base64.{decode}
-use Rattle.base64_coding.specs.Clauses.{Low, decoded_size}
+use Rattle.base64_coding.specs.Clauses.{decoded_size}
 use Rattle.base64_coding.proofs.Fours.{white-skipped}
 use Rattle.base64_coding.proofs.High.{high-refused, highest-low}
 use Rattle.base64_coding.proofs.Turns.{Gave, fours-size, gave, gave-size, refused, size-end}
@@ -24,8 +24,8 @@ fours_end-i-requires c = (c.skip_white-from.ensures.high, c.loop-i.invariant.2, 
 pub overflow_sub-n : goal.overflow_sub-n
 overflow_sub-n c =
     let letters : let s = c.args.s.now in let to = c.fours_end-i.result in let n = c.loop-i.n + (to - c.skip_white-from.result) / 4 * 3 in
-        (c.skip_white-from.result ≤ to) × (to ≤ length s) × (n ≤ to) × (decoded_size 0 (decode s) ≡ decoded_size n (decode (drop to s))) =
-        (let white = c.skip_white-from.ensures in let run = c.fours_end-i.ensures in
+    (c.skip_white-from.result ≤ to) × (to ≤ length s) × (n ≤ to) × (decoded_size 0 (decode s) ≡ decoded_size n (decode (drop to s))) =
+    (let white = c.skip_white-from.ensures in let run = c.fours_end-i.ensures in
     let low = white.low in let far = run.far in let n = c.loop-i.invariant.1 in (
       omega arith,
       run.within,
@@ -37,8 +37,8 @@ overflow_sub-n c =
 pub overflow_mul-n : goal.overflow_mul-n
 overflow_mul-n c =
     let letters : let s = c.args.s.now in let to = c.fours_end-i.result in let n = c.loop-i.n + (to - c.skip_white-from.result) / 4 * 3 in
-        (c.skip_white-from.result ≤ to) × (to ≤ length s) × (n ≤ to) × (decoded_size 0 (decode s) ≡ decoded_size n (decode (drop to s))) =
-        (let white = c.skip_white-from.ensures in let run = c.fours_end-i.ensures in
+    (c.skip_white-from.result ≤ to) × (to ≤ length s) × (n ≤ to) × (decoded_size 0 (decode s) ≡ decoded_size n (decode (drop to s))) =
+    (let white = c.skip_white-from.ensures in let run = c.fours_end-i.ensures in
     let low = white.low in let far = run.far in let n = c.loop-i.invariant.1 in (
       omega arith,
       run.within,
@@ -50,8 +50,8 @@ overflow_mul-n c =
 pub overflow_add-n : goal.overflow_add-n
 overflow_add-n c =
     let letters : let s = c.args.s.now in let to = c.fours_end-i.result in let n = c.loop-i.n + (to - c.skip_white-from.result) / 4 * 3 in
-        (c.skip_white-from.result ≤ to) × (to ≤ length s) × (n ≤ to) × (decoded_size 0 (decode s) ≡ decoded_size n (decode (drop to s))) =
-        (let white = c.skip_white-from.ensures in let run = c.fours_end-i.ensures in
+    (c.skip_white-from.result ≤ to) × (to ≤ length s) × (n ≤ to) × (decoded_size 0 (decode s) ≡ decoded_size n (decode (drop to s))) =
+    (let white = c.skip_white-from.ensures in let run = c.fours_end-i.ensures in
     let low = white.low in let far = run.far in let n = c.loop-i.invariant.1 in (
       omega arith,
       run.within,
@@ -63,8 +63,8 @@ overflow_add-n c =
 pub next_four-requires : goal.next_four-requires
 next_four-requires c =
     let letters : let s = c.args.s.now in let to = c.fours_end-i.result in let n = c.loop-i.n + (to - c.skip_white-from.result) / 4 * 3 in
-        (c.skip_white-from.result ≤ to) × (to ≤ length s) × (n ≤ to) × (decoded_size 0 (decode s) ≡ decoded_size n (decode (drop to s))) =
-        (let white = c.skip_white-from.ensures in let run = c.fours_end-i.ensures in
+    (c.skip_white-from.result ≤ to) × (to ≤ length s) × (n ≤ to) × (decoded_size 0 (decode s) ≡ decoded_size n (decode (drop to s))) =
+    (let white = c.skip_white-from.ensures in let run = c.fours_end-i.ensures in
     let low = white.low in let far = run.far in let n = c.loop-i.invariant.1 in (
       omega arith,
       run.within,
@@ -77,8 +77,8 @@ pub returns-in_default : goal.returns-in_default
 unfolding decoded_size
 returns-in_default c =
     let letters : let s = c.args.s.now in let to = c.fours_end-i.result in let n = c.loop-i.n + (to - c.skip_white-from.result) / 4 * 3 in
-        (c.skip_white-from.result ≤ to) × (to ≤ length s) × (n ≤ to) × (decoded_size 0 (decode s) ≡ decoded_size n (decode (drop to s))) =
-        (let white = c.skip_white-from.ensures in let run = c.fours_end-i.ensures in
+    (c.skip_white-from.result ≤ to) × (to ≤ length s) × (n ≤ to) × (decoded_size 0 (decode s) ≡ decoded_size n (decode (drop to s))) =
+    (let white = c.skip_white-from.ensures in let run = c.fours_end-i.ensures in
     let low = white.low in let far = run.far in let n = c.loop-i.invariant.1 in (
       omega arith,
       run.within,
@@ -90,8 +90,8 @@ returns-in_default c =
 pub overflow_add-n-then-i-from : goal.overflow_add-n-then-i-from
 overflow_add-n-then-i-from c =
     let letters : let s = c.args.s.now in let to = c.fours_end-i.result in let n = c.loop-i.n + (to - c.skip_white-from.result) / 4 * 3 in
-        (c.skip_white-from.result ≤ to) × (to ≤ length s) × (n ≤ to) × (decoded_size 0 (decode s) ≡ decoded_size n (decode (drop to s))) =
-        (let white = c.skip_white-from.ensures in let run = c.fours_end-i.ensures in
+    (c.skip_white-from.result ≤ to) × (to ≤ length s) × (n ≤ to) × (decoded_size 0 (decode s) ≡ decoded_size n (decode (drop to s))) =
+    (let white = c.skip_white-from.ensures in let run = c.fours_end-i.ensures in
     let low = white.low in let far = run.far in let n = c.loop-i.invariant.1 in (
       omega arith,
       run.within,
@@ -99,14 +99,14 @@ overflow_add-n-then-i-from c =
       fours-size run _ _ (c.loop-i.invariant.3 ∙ ap (decoded_size c.loop-i.n) (white-skipped _ _ _ white)),
     )) in
     let careful : Gave c.args.s.now c.fours_end-i.result c.in-Bytes.count c.in-Bytes.field-1 c.in-Bytes.field-2 c.in-Bytes.field-3 c.in-Bytes.next =
-        gave _ _ _ _ _ _ _ _ c.next_four.ensures c.in-Bytes.is in
+    gave _ _ _ _ _ _ _ _ c.next_four.ensures c.in-Bytes.is in
     let l = letters.2 in let far = careful.far in let end = careful.within in omega arith
 
 pub returns-then-count-lt3 : goal.returns-then-count-lt3
 returns-then-count-lt3 c =
     let letters : let s = c.args.s.now in let to = c.fours_end-i.result in let n = c.loop-i.n + (to - c.skip_white-from.result) / 4 * 3 in
-        (c.skip_white-from.result ≤ to) × (to ≤ length s) × (n ≤ to) × (decoded_size 0 (decode s) ≡ decoded_size n (decode (drop to s))) =
-        (let white = c.skip_white-from.ensures in let run = c.fours_end-i.ensures in
+    (c.skip_white-from.result ≤ to) × (to ≤ length s) × (n ≤ to) × (decoded_size 0 (decode s) ≡ decoded_size n (decode (drop to s))) =
+    (let white = c.skip_white-from.ensures in let run = c.fours_end-i.ensures in
     let low = white.low in let far = run.far in let n = c.loop-i.invariant.1 in (
       omega arith,
       run.within,
@@ -114,15 +114,15 @@ returns-then-count-lt3 c =
       fours-size run _ _ (c.loop-i.invariant.3 ∙ ap (decoded_size c.loop-i.n) (white-skipped _ _ _ white)),
     )) in
     let careful : Gave c.args.s.now c.fours_end-i.result c.in-Bytes.count c.in-Bytes.field-1 c.in-Bytes.field-2 c.in-Bytes.field-3 c.in-Bytes.next =
-        gave _ _ _ _ _ _ _ _ c.next_four.ensures c.in-Bytes.is in
+    gave _ _ _ _ _ _ _ _ c.next_four.ensures c.in-Bytes.is in
     let g = careful in
     sym (gave-size g _ _ letters.3 ∙ size-end _ _ (g.last c.if-count-lt3.true))
 
 pub loop-i-smaller-else-count-lt3 : goal.loop-i-smaller-else-count-lt3
 loop-i-smaller-else-count-lt3 c =
     let letters : let s = c.args.s.now in let to = c.fours_end-i.result in let n = c.loop-i.n + (to - c.skip_white-from.result) / 4 * 3 in
-        (c.skip_white-from.result ≤ to) × (to ≤ length s) × (n ≤ to) × (decoded_size 0 (decode s) ≡ decoded_size n (decode (drop to s))) =
-        (let white = c.skip_white-from.ensures in let run = c.fours_end-i.ensures in
+    (c.skip_white-from.result ≤ to) × (to ≤ length s) × (n ≤ to) × (decoded_size 0 (decode s) ≡ decoded_size n (decode (drop to s))) =
+    (let white = c.skip_white-from.ensures in let run = c.fours_end-i.ensures in
     let low = white.low in let far = run.far in let n = c.loop-i.invariant.1 in (
       omega arith,
       run.within,
@@ -130,15 +130,15 @@ loop-i-smaller-else-count-lt3 c =
       fours-size run _ _ (c.loop-i.invariant.3 ∙ ap (decoded_size c.loop-i.n) (white-skipped _ _ _ white)),
     )) in
     let careful : Gave c.args.s.now c.fours_end-i.result c.in-Bytes.count c.in-Bytes.field-1 c.in-Bytes.field-2 c.in-Bytes.field-3 c.in-Bytes.next =
-        gave _ _ _ _ _ _ _ _ c.next_four.ensures c.in-Bytes.is in
+    gave _ _ _ _ _ _ _ _ c.next_four.ensures c.in-Bytes.is in
     let white = c.skip_white-from.ensures.low in let l = letters.0 in
     let far = careful.far in let end = careful.within in omega arith
 
 pub loop-i-preserved-else-count-lt3 : goal.loop-i-preserved-else-count-lt3
 loop-i-preserved-else-count-lt3 c =
     let letters : let s = c.args.s.now in let to = c.fours_end-i.result in let n = c.loop-i.n + (to - c.skip_white-from.result) / 4 * 3 in
-        (c.skip_white-from.result ≤ to) × (to ≤ length s) × (n ≤ to) × (decoded_size 0 (decode s) ≡ decoded_size n (decode (drop to s))) =
-        (let white = c.skip_white-from.ensures in let run = c.fours_end-i.ensures in
+    (c.skip_white-from.result ≤ to) × (to ≤ length s) × (n ≤ to) × (decoded_size 0 (decode s) ≡ decoded_size n (decode (drop to s))) =
+    (let white = c.skip_white-from.ensures in let run = c.fours_end-i.ensures in
     let low = white.low in let far = run.far in let n = c.loop-i.invariant.1 in (
       omega arith,
       run.within,
@@ -146,15 +146,15 @@ loop-i-preserved-else-count-lt3 c =
       fours-size run _ _ (c.loop-i.invariant.3 ∙ ap (decoded_size c.loop-i.n) (white-skipped _ _ _ white)),
     )) in
     let careful : Gave c.args.s.now c.fours_end-i.result c.in-Bytes.count c.in-Bytes.field-1 c.in-Bytes.field-2 c.in-Bytes.field-3 c.in-Bytes.next =
-        gave _ _ _ _ _ _ _ _ c.next_four.ensures c.in-Bytes.is in
+    gave _ _ _ _ _ _ _ _ c.next_four.ensures c.in-Bytes.is in
     let g = careful in let far = g.far in let l = letters.2 in
     (g.within, omega arith, c.loop-i.invariant.2, gave-size g _ _ letters.3)
 
 pub loop-i-smaller : goal.loop-i-smaller
 loop-i-smaller c =
     let letters : let s = c.args.s.now in let to = c.fours_end-i.result in let n = c.loop-i.n + (to - c.skip_white-from.result) / 4 * 3 in
-        (c.skip_white-from.result ≤ to) × (to ≤ length s) × (n ≤ to) × (decoded_size 0 (decode s) ≡ decoded_size n (decode (drop to s))) =
-        (let white = c.skip_white-from.ensures in let run = c.fours_end-i.ensures in
+    (c.skip_white-from.result ≤ to) × (to ≤ length s) × (n ≤ to) × (decoded_size 0 (decode s) ≡ decoded_size n (decode (drop to s))) =
+    (let white = c.skip_white-from.ensures in let run = c.fours_end-i.ensures in
     let low = white.low in let far = run.far in let n = c.loop-i.invariant.1 in (
       omega arith,
       run.within,
@@ -166,8 +166,8 @@ loop-i-smaller c =
 pub loop-i-preserved : goal.loop-i-preserved
 loop-i-preserved c =
     let letters : let s = c.args.s.now in let to = c.fours_end-i.result in let n = c.loop-i.n + (to - c.skip_white-from.result) / 4 * 3 in
-        (c.skip_white-from.result ≤ to) × (to ≤ length s) × (n ≤ to) × (decoded_size 0 (decode s) ≡ decoded_size n (decode (drop to s))) =
-        (let white = c.skip_white-from.ensures in let run = c.fours_end-i.ensures in
+    (c.skip_white-from.result ≤ to) × (to ≤ length s) × (n ≤ to) × (decoded_size 0 (decode s) ≡ decoded_size n (decode (drop to s))) =
+    (let white = c.skip_white-from.ensures in let run = c.fours_end-i.ensures in
     let low = white.low in let far = run.far in let n = c.loop-i.invariant.1 in (
       omega arith,
       run.within,

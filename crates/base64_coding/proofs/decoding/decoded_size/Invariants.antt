@@ -1,14 +1,9 @@
 -- `base64_coding::decoding::decoded_size` meets its contract. The invariant: the whole gives as many bytes as n and what is left.
-use Prim.Native.Nat.{◌*◌, ◌+◌, ◌-◌, ◌/◌, ◌≤◌}
-use mathlib.Core.Path.{◌∙◌, ◌≡◌, ap, refl, sym}
+use Prim.Native.Nat.{◌-◌, ◌≤◌}
+use mathlib.Core.Path.{◌≡◌}
 use lib.ListN.{drop, length}
 use Rattle.base64_rules.specs.Base64.{decode}
 use Rattle.base64_coding.specs.Clauses.{Low, decoded_size}
-use Rattle.base64_coding.proofs.Fours.{white-skipped}
-use Rattle.base64_coding.proofs.High.{high-refused, highest-low}
-use Rattle.base64_coding.proofs.Turns.{Gave, fours-size, gave, gave-size, refused, size-end}
-use borrow.Author.Rules.{rules}
-use native.Mathlib.Omega.{arith}
 use Rattle.base64_coding.proofs.decoding.decoded_size.Given as goal
 
 abbrev pub invariant-loop-i : goal.invariant-loop-i

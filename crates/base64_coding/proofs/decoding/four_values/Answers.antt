@@ -1,6 +1,5 @@
 -- `base64_coding::decoding::four_values` meets its contract, value by value: each character has a place in the table.
 use Prim.Native.Nat.{◌+◌}
-use borrow.Author.Rules.{rules}
 use native.Mathlib.Omega.{arith}
 use Rattle.base64_coding.specs.Clauses.{values_at}
 use Rattle.base64_coding.proofs.High.{low-at}

@@ -1,8 +1,6 @@
 -- `base64_coding::decoding::fours_end` meets its contract. The invariant: fours of letters stand up to the place that was reached.
-use Prim.Native.Nat.{◌-◌, ◌≤◌}
 use mathlib.Core.Path.{◌∙◌, ap}
-use lib.ListN.{length}
-use Rattle.base64_coding.specs.Clauses.{LettersTo, four_sum}
+use Rattle.base64_coding.specs.Clauses.{four_sum}
 use Rattle.base64_coding.proofs.Plain.{bounded, by-sum, fours-more, fours-none}
 use borrow.Author.Rules.{rules}
 use native.Mathlib.Omega.{arith}

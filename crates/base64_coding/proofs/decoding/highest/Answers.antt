@@ -1,14 +1,11 @@
 -- `base64_coding::decoding::highest` meets its contract. The invariant: the highest of all bytes is that of the most so far and of what is left.
-use Prim.Native.Nat.{◌-◌, ◌≤◌}
 use mathlib.Core.Bool.{cond}
 use mathlib.Core.Path.{◌∙◌, ◌≡◌, refl, sym}
-use mathlib.Core.Logic.{⊎_elim}
 use lib.Dec.{ltb}
-use lib.ListN.{drop, get_or, length}
+use lib.ListN.{get_or}
 use borrow.Author.Rules.{rules}
 use borrow.Author.Tests.{le-ltb, lt-ltb}
 use native.Mathlib.Omega.{arith}
-use Rattle.base64_coding.specs.Clauses.{highest_from}
 use Rattle.base64_coding.proofs.High.{highest-end, highest-more}
 use Rattle.base64_coding.proofs.decoding.highest.Goals as goal
 use Rattle.base64_coding.proofs.decoding.highest.Goals.{else-most-c, then-most-c}
@@ -22,10 +19,10 @@ loop-k-preserved c =
     let most = c.loop-k.most in
     let byte = get_or s c.loop-k.k 0 in
     let step : c.if-most-c.most ≡ cond (ltb most byte) byte most =
-        elim c.if-most-c.branch [
-          then-most-c w ↦ w.most-is ∙ rw (lt-ltb most byte w.if-most-c.true)
-        | else-most-c w ↦ w.most-is ∙ rw (le-ltb most byte w.if-most-c.false)
-        ] in
+    elim c.if-most-c.branch [
+      | then-most-c w ↦ w.most-is ∙ rw (lt-ltb most byte w.if-most-c.true)
+      | else-most-c w ↦ w.most-is ∙ rw (le-ltb most byte w.if-most-c.false)
+    ] in
     (omega arith, c.loop-k.invariant.1 ∙ highest-more s c.loop-k.k most c.if-most-c.most (omega arith) step)
 
 pub returns : goal.returns

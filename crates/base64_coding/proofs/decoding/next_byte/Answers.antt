@@ -1,5 +1,4 @@
 -- `base64_coding::decoding::next_byte` meets its contract: the byte where white space ends, which `dense` keeps.
-use borrow.Author.Rules.{rules}
 use Rattle.base64_coding.proofs.Fours.{next-none, next-there}
 use Rattle.base64_coding.proofs.decoding.next_byte.Goals as goal
 

@@ -44,7 +44,7 @@ next_byte-requires-4 c =
     let one : Run c.args.s.now c.args.i (c.in-Byte.a ∷ []) c.in-Byte.ja = run-start _ _ _ _ _ c.next_byte.ensures c.in-Byte.is in
     let two : Run c.args.s.now c.args.i (c.in-Byte.a ∷ c.in-Byte-next_byte.b ∷ []) c.in-Byte-next_byte.jb = run_more _ _ _ _ _ _ _ one c.next_byte-2.ensures c.in-Byte-next_byte.is in
     let three : Run c.args.s.now c.args.i (c.in-Byte.a ∷ c.in-Byte-next_byte.b ∷ c.in-Byte-next_byte-2.c ∷ []) c.in-Byte-next_byte-2.jc =
-        run_more _ _ _ _ _ _ _ two c.next_byte-3.ensures c.in-Byte-next_byte-2.is in
+    run_more _ _ _ _ _ _ _ two c.next_byte-3.ensures c.in-Byte-next_byte-2.is in
     three.within
 
 pub returns-in_default-next_byte-3 : goal.returns-in_default-next_byte-3
@@ -53,7 +53,7 @@ returns-in_default-next_byte-3 c =
     let one : Run c.args.s.now c.args.i (c.in-Byte.a ∷ []) c.in-Byte.ja = run-start _ _ _ _ _ c.next_byte.ensures c.in-Byte.is in
     let two : Run c.args.s.now c.args.i (c.in-Byte.a ∷ c.in-Byte-next_byte.b ∷ []) c.in-Byte-next_byte.jb = run_more _ _ _ _ _ _ _ one c.next_byte-2.ensures c.in-Byte-next_byte.is in
     let three : Run c.args.s.now c.args.i (c.in-Byte.a ∷ c.in-Byte-next_byte.b ∷ c.in-Byte-next_byte-2.c ∷ []) c.in-Byte-next_byte-2.jc =
-        run_more _ _ _ _ _ _ _ two c.next_byte-3.ensures c.in-Byte-next_byte-2.is in
+    run_more _ _ _ _ _ _ _ two c.next_byte-3.ensures c.in-Byte-next_byte-2.is in
     four-short _ _ _ _ three (at-end _ _ _ c.next_byte-4.ensures c.in_default-next_byte-3.is) refl
 
 pub three_bytes-requires : goal.three_bytes-requires
@@ -61,11 +61,11 @@ three_bytes-requires c =
     let one : Run c.args.s.now c.args.i (c.in-Byte.a ∷ []) c.in-Byte.ja = run-start _ _ _ _ _ c.next_byte.ensures c.in-Byte.is in
     let two : Run c.args.s.now c.args.i (c.in-Byte.a ∷ c.in-Byte-next_byte.b ∷ []) c.in-Byte-next_byte.jb = run_more _ _ _ _ _ _ _ one c.next_byte-2.ensures c.in-Byte-next_byte.is in
     let three : Run c.args.s.now c.args.i (c.in-Byte.a ∷ c.in-Byte-next_byte.b ∷ c.in-Byte-next_byte-2.c ∷ []) c.in-Byte-next_byte-2.jc =
-        run_more _ _ _ _ _ _ _ two c.next_byte-3.ensures c.in-Byte-next_byte-2.is in
+    run_more _ _ _ _ _ _ _ two c.next_byte-3.ensures c.in-Byte-next_byte-2.is in
     let all4 : Run c.args.s.now c.args.i (c.in-Byte.a ∷ c.in-Byte-next_byte.b ∷ c.in-Byte-next_byte-2.c ∷ c.in-Byte-next_byte-3.d ∷ []) c.in-Byte-next_byte-3.jd =
-        run_more _ _ _ _ _ _ _ three c.next_byte-4.ensures c.in-Byte-next_byte-3.is in
+    run_more _ _ _ _ _ _ _ three c.next_byte-4.ensures c.in-Byte-next_byte-3.is in
     let looked-up : (c.in-Byte.a < 128) × (c.in-Byte-next_byte.b < 128) × (c.in-Byte-next_byte-2.c < 128) × (c.in-Byte-next_byte-3.d < 128) × TableIs c.args.values.now =
-        (let low = four_low _ _ _ _ _ _ _ c.requires.1 all4 in
+    (let low = four_low _ _ _ _ _ _ _ c.requires.1 all4 in
     (low.0, low.1, low.2, low.3, c.requires.2)) in
     looked-up
 
@@ -75,9 +75,9 @@ returns-then-d-ne61 c =
     let one : Run c.args.s.now c.args.i (c.in-Byte.a ∷ []) c.in-Byte.ja = run-start _ _ _ _ _ c.next_byte.ensures c.in-Byte.is in
     let two : Run c.args.s.now c.args.i (c.in-Byte.a ∷ c.in-Byte-next_byte.b ∷ []) c.in-Byte-next_byte.jb = run_more _ _ _ _ _ _ _ one c.next_byte-2.ensures c.in-Byte-next_byte.is in
     let three : Run c.args.s.now c.args.i (c.in-Byte.a ∷ c.in-Byte-next_byte.b ∷ c.in-Byte-next_byte-2.c ∷ []) c.in-Byte-next_byte-2.jc =
-        run_more _ _ _ _ _ _ _ two c.next_byte-3.ensures c.in-Byte-next_byte-2.is in
+    run_more _ _ _ _ _ _ _ two c.next_byte-3.ensures c.in-Byte-next_byte-2.is in
     let all4 : Run c.args.s.now c.args.i (c.in-Byte.a ∷ c.in-Byte-next_byte.b ∷ c.in-Byte-next_byte-2.c ∷ c.in-Byte-next_byte-3.d ∷ []) c.in-Byte-next_byte-3.jd =
-        run_more _ _ _ _ _ _ _ three c.next_byte-4.ensures c.in-Byte-next_byte-3.is in
+    run_more _ _ _ _ _ _ _ three c.next_byte-4.ensures c.in-Byte-next_byte-3.is in
     subst (FourIs _ _) (sym c.three_bytes.ensures) (four-three _ _ _ _ _ _ _ all4 (ne_eqb _ _ c.if-d-ne61.true))
 
 pub next_byte-requires-5 : goal.next_byte-requires-5
@@ -85,9 +85,9 @@ next_byte-requires-5 c =
     let one : Run c.args.s.now c.args.i (c.in-Byte.a ∷ []) c.in-Byte.ja = run-start _ _ _ _ _ c.next_byte.ensures c.in-Byte.is in
     let two : Run c.args.s.now c.args.i (c.in-Byte.a ∷ c.in-Byte-next_byte.b ∷ []) c.in-Byte-next_byte.jb = run_more _ _ _ _ _ _ _ one c.next_byte-2.ensures c.in-Byte-next_byte.is in
     let three : Run c.args.s.now c.args.i (c.in-Byte.a ∷ c.in-Byte-next_byte.b ∷ c.in-Byte-next_byte-2.c ∷ []) c.in-Byte-next_byte-2.jc =
-        run_more _ _ _ _ _ _ _ two c.next_byte-3.ensures c.in-Byte-next_byte-2.is in
+    run_more _ _ _ _ _ _ _ two c.next_byte-3.ensures c.in-Byte-next_byte-2.is in
     let all4 : Run c.args.s.now c.args.i (c.in-Byte.a ∷ c.in-Byte-next_byte.b ∷ c.in-Byte-next_byte-2.c ∷ c.in-Byte-next_byte-3.d ∷ []) c.in-Byte-next_byte-3.jd =
-        run_more _ _ _ _ _ _ _ three c.next_byte-4.ensures c.in-Byte-next_byte-3.is in
+    run_more _ _ _ _ _ _ _ three c.next_byte-4.ensures c.in-Byte-next_byte-3.is in
     all4.within
 
 pub returns-in_default-next_byte-4 : goal.returns-in_default-next_byte-4
@@ -95,9 +95,9 @@ returns-in_default-next_byte-4 c =
     let one : Run c.args.s.now c.args.i (c.in-Byte.a ∷ []) c.in-Byte.ja = run-start _ _ _ _ _ c.next_byte.ensures c.in-Byte.is in
     let two : Run c.args.s.now c.args.i (c.in-Byte.a ∷ c.in-Byte-next_byte.b ∷ []) c.in-Byte-next_byte.jb = run_more _ _ _ _ _ _ _ one c.next_byte-2.ensures c.in-Byte-next_byte.is in
     let three : Run c.args.s.now c.args.i (c.in-Byte.a ∷ c.in-Byte-next_byte.b ∷ c.in-Byte-next_byte-2.c ∷ []) c.in-Byte-next_byte-2.jc =
-        run_more _ _ _ _ _ _ _ two c.next_byte-3.ensures c.in-Byte-next_byte-2.is in
+    run_more _ _ _ _ _ _ _ two c.next_byte-3.ensures c.in-Byte-next_byte-2.is in
     let all4 : Run c.args.s.now c.args.i (c.in-Byte.a ∷ c.in-Byte-next_byte.b ∷ c.in-Byte-next_byte-2.c ∷ c.in-Byte-next_byte-3.d ∷ []) c.in-Byte-next_byte-3.jd =
-        run_more _ _ _ _ _ _ _ three c.next_byte-4.ensures c.in-Byte-next_byte-3.is in
+    run_more _ _ _ _ _ _ _ three c.next_byte-4.ensures c.in-Byte-next_byte-3.is in
     four-inside _ _ _ _ _ _ _ all4 _ _ c.if-d-ne61.false
     (at_byte _ _ _ _ _ c.next_byte-5.ensures c.in_default-next_byte-4.is)
 
@@ -106,11 +106,11 @@ two_bytes-requires c =
     let one : Run c.args.s.now c.args.i (c.in-Byte.a ∷ []) c.in-Byte.ja = run-start _ _ _ _ _ c.next_byte.ensures c.in-Byte.is in
     let two : Run c.args.s.now c.args.i (c.in-Byte.a ∷ c.in-Byte-next_byte.b ∷ []) c.in-Byte-next_byte.jb = run_more _ _ _ _ _ _ _ one c.next_byte-2.ensures c.in-Byte-next_byte.is in
     let three : Run c.args.s.now c.args.i (c.in-Byte.a ∷ c.in-Byte-next_byte.b ∷ c.in-Byte-next_byte-2.c ∷ []) c.in-Byte-next_byte-2.jc =
-        run_more _ _ _ _ _ _ _ two c.next_byte-3.ensures c.in-Byte-next_byte-2.is in
+    run_more _ _ _ _ _ _ _ two c.next_byte-3.ensures c.in-Byte-next_byte-2.is in
     let all4 : Run c.args.s.now c.args.i (c.in-Byte.a ∷ c.in-Byte-next_byte.b ∷ c.in-Byte-next_byte-2.c ∷ c.in-Byte-next_byte-3.d ∷ []) c.in-Byte-next_byte-3.jd =
-        run_more _ _ _ _ _ _ _ three c.next_byte-4.ensures c.in-Byte-next_byte-3.is in
+    run_more _ _ _ _ _ _ _ three c.next_byte-4.ensures c.in-Byte-next_byte-3.is in
     let looked-up : (c.in-Byte.a < 128) × (c.in-Byte-next_byte.b < 128) × (c.in-Byte-next_byte-2.c < 128) × (c.in-Byte-next_byte-3.d < 128) × TableIs c.args.values.now =
-        (let low = four_low _ _ _ _ _ _ _ c.requires.1 all4 in
+    (let low = four_low _ _ _ _ _ _ _ c.requires.1 all4 in
     (low.0, low.1, low.2, low.3, c.requires.2)) in
     let l = looked-up in (l.0, l.1, l.2, l.4)
 
@@ -120,9 +120,9 @@ returns-then-c-ne61 c =
     let one : Run c.args.s.now c.args.i (c.in-Byte.a ∷ []) c.in-Byte.ja = run-start _ _ _ _ _ c.next_byte.ensures c.in-Byte.is in
     let two : Run c.args.s.now c.args.i (c.in-Byte.a ∷ c.in-Byte-next_byte.b ∷ []) c.in-Byte-next_byte.jb = run_more _ _ _ _ _ _ _ one c.next_byte-2.ensures c.in-Byte-next_byte.is in
     let three : Run c.args.s.now c.args.i (c.in-Byte.a ∷ c.in-Byte-next_byte.b ∷ c.in-Byte-next_byte-2.c ∷ []) c.in-Byte-next_byte-2.jc =
-        run_more _ _ _ _ _ _ _ two c.next_byte-3.ensures c.in-Byte-next_byte-2.is in
+    run_more _ _ _ _ _ _ _ two c.next_byte-3.ensures c.in-Byte-next_byte-2.is in
     let all4 : Run c.args.s.now c.args.i (c.in-Byte.a ∷ c.in-Byte-next_byte.b ∷ c.in-Byte-next_byte-2.c ∷ c.in-Byte-next_byte-3.d ∷ []) c.in-Byte-next_byte-3.jd =
-        run_more _ _ _ _ _ _ _ three c.next_byte-4.ensures c.in-Byte-next_byte-3.is in
+    run_more _ _ _ _ _ _ _ three c.next_byte-4.ensures c.in-Byte-next_byte-3.is in
     let no_more : dense (drop c.in-Byte-next_byte-3.jd c.args.s.now) ≡ [] = at-end _ _ _ c.next_byte-5.ensures c.in-End.is in
     subst (FourIs _ _) (sym c.two_bytes.ensures)
     (four-two _ _ _ _ _ _ _ all4 c.if-d-ne61.false
@@ -133,11 +133,11 @@ one_byte-requires c =
     let one : Run c.args.s.now c.args.i (c.in-Byte.a ∷ []) c.in-Byte.ja = run-start _ _ _ _ _ c.next_byte.ensures c.in-Byte.is in
     let two : Run c.args.s.now c.args.i (c.in-Byte.a ∷ c.in-Byte-next_byte.b ∷ []) c.in-Byte-next_byte.jb = run_more _ _ _ _ _ _ _ one c.next_byte-2.ensures c.in-Byte-next_byte.is in
     let three : Run c.args.s.now c.args.i (c.in-Byte.a ∷ c.in-Byte-next_byte.b ∷ c.in-Byte-next_byte-2.c ∷ []) c.in-Byte-next_byte-2.jc =
-        run_more _ _ _ _ _ _ _ two c.next_byte-3.ensures c.in-Byte-next_byte-2.is in
+    run_more _ _ _ _ _ _ _ two c.next_byte-3.ensures c.in-Byte-next_byte-2.is in
     let all4 : Run c.args.s.now c.args.i (c.in-Byte.a ∷ c.in-Byte-next_byte.b ∷ c.in-Byte-next_byte-2.c ∷ c.in-Byte-next_byte-3.d ∷ []) c.in-Byte-next_byte-3.jd =
-        run_more _ _ _ _ _ _ _ three c.next_byte-4.ensures c.in-Byte-next_byte-3.is in
+    run_more _ _ _ _ _ _ _ three c.next_byte-4.ensures c.in-Byte-next_byte-3.is in
     let looked-up : (c.in-Byte.a < 128) × (c.in-Byte-next_byte.b < 128) × (c.in-Byte-next_byte-2.c < 128) × (c.in-Byte-next_byte-3.d < 128) × TableIs c.args.values.now =
-        (let low = four_low _ _ _ _ _ _ _ c.requires.1 all4 in
+    (let low = four_low _ _ _ _ _ _ _ c.requires.1 all4 in
     (low.0, low.1, low.2, low.3, c.requires.2)) in
     let l = looked-up in (l.0, l.1, l.4)
 
@@ -146,9 +146,9 @@ returns c =
     let one : Run c.args.s.now c.args.i (c.in-Byte.a ∷ []) c.in-Byte.ja = run-start _ _ _ _ _ c.next_byte.ensures c.in-Byte.is in
     let two : Run c.args.s.now c.args.i (c.in-Byte.a ∷ c.in-Byte-next_byte.b ∷ []) c.in-Byte-next_byte.jb = run_more _ _ _ _ _ _ _ one c.next_byte-2.ensures c.in-Byte-next_byte.is in
     let three : Run c.args.s.now c.args.i (c.in-Byte.a ∷ c.in-Byte-next_byte.b ∷ c.in-Byte-next_byte-2.c ∷ []) c.in-Byte-next_byte-2.jc =
-        run_more _ _ _ _ _ _ _ two c.next_byte-3.ensures c.in-Byte-next_byte-2.is in
+    run_more _ _ _ _ _ _ _ two c.next_byte-3.ensures c.in-Byte-next_byte-2.is in
     let all4 : Run c.args.s.now c.args.i (c.in-Byte.a ∷ c.in-Byte-next_byte.b ∷ c.in-Byte-next_byte-2.c ∷ c.in-Byte-next_byte-3.d ∷ []) c.in-Byte-next_byte-3.jd =
-        run_more _ _ _ _ _ _ _ three c.next_byte-4.ensures c.in-Byte-next_byte-3.is in
+    run_more _ _ _ _ _ _ _ three c.next_byte-4.ensures c.in-Byte-next_byte-3.is in
     let no_more : dense (drop c.in-Byte-next_byte-3.jd c.args.s.now) ≡ [] = at-end _ _ _ c.next_byte-5.ensures c.in-End.is in
     subst (FourIs _ _) (sym c.one_byte.ensures)
     (four-one _ _ _ _ _ _ _ all4 c.if-d-ne61.false

@@ -3,7 +3,6 @@ use Prim.Native.Nat.{◌%◌}
 use borrow.Author.Tests.{eq-eqb, ne_eqb}
 use Rattle.base64_rules.specs.Base64.{one_byte}
 use Rattle.base64_letters.proofs.Alphabet.{is-letter, no-letter}
-use borrow.Author.Rules.{rules}
 use native.Mathlib.Omega.{arith}
 use Rattle.base64_coding.proofs.decoding.one_byte.Goals as goal
 

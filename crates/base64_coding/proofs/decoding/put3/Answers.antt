@@ -2,7 +2,6 @@
 use native.Mathlib.Omega.{arith}
 use native.Mathlib.Numerals.{towards_suc}
 use lib.ListN.{length-set}
-use borrow.Author.Rules.{rules}
 use Rattle.base64_coding.proofs.decoding.put3.Goals as goal
 
 pub bounds-out-n-2 : goal.bounds-out-n-2

@@ -1,7 +1,6 @@
 -- `base64_coding::decoding::three_bytes` meets its contract: each test decides what a letter's value is.
 use Rattle.base64_rules.specs.Base64.{three_bytes}
 use Rattle.base64_letters.proofs.Alphabet.{is-letter, no-letter}
-use borrow.Author.Rules.{rules}
 use Rattle.base64_coding.proofs.decoding.three_bytes.Goals as goal
 
 pub returns-then-w-ge64 : goal.returns-then-w-ge64

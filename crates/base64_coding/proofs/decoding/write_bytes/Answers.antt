@@ -4,7 +4,7 @@ use mathlib.Core.List.{List}
 use mathlib.Core.Path.{◌∙◌, ◌≡◌, ap, refl, subst, sym}
 use lib.ListN.{drop, length}
 use Rattle.base64_rules.specs.Base64.{decode}
-use Rattle.base64_coding.specs.Clauses.{FitsAt, Low, buffer_with}
+use Rattle.base64_coding.specs.Clauses.{FitsAt, buffer_with}
 use Rattle.base64_coding.proofs.Fours.{white-skipped}
 use Rattle.base64_coding.proofs.Turns.{Gave, buffer-end, fits_low, fours-buffer, fours-fits, gave, gave-buffer, gave_fits, unfit}
 use Rattle.table.specs.Result.{Result}
@@ -18,8 +18,8 @@ loop-i-init c = (search rules, refl, fits_low _ _ _ c.requires.1, c.requires.1, 
 pub write_fours-i-requires : goal.write_fours-i-requires
 write_fours-i-requires c =
     let white : let rest = decode (drop c.skip_white-from.result c.args.s.now) in
-        FitsAt c.loop-i.n rest (length c.args.out.now) × (buffer_with c.loop-i.out c.loop-i.n rest ≡ buffer_with c.args.out.now 0 (decode c.args.s.now)) =
-        (let skipped = white-skipped _ _ _ c.skip_white-from.ensures in (
+    FitsAt c.loop-i.n rest (length c.args.out.now) × (buffer_with c.loop-i.out c.loop-i.n rest ≡ buffer_with c.args.out.now 0 (decode c.args.s.now)) =
+    (let skipped = white-skipped _ _ _ c.skip_white-from.ensures in (
       subst (λ (r : Result ℕ (List ℕ)). FitsAt c.loop-i.n r (length c.args.out.now)) skipped c.loop-i.invariant.3,
       ap (buffer_with c.loop-i.out c.loop-i.n) (sym skipped) ∙ c.loop-i.invariant.4,
     )) in
@@ -29,14 +29,14 @@ write_fours-i-requires c =
 pub overflow_sub-n : goal.overflow_sub-n
 overflow_sub-n c =
     let white : let rest = decode (drop c.skip_white-from.result c.args.s.now) in
-        FitsAt c.loop-i.n rest (length c.args.out.now) × (buffer_with c.loop-i.out c.loop-i.n rest ≡ buffer_with c.args.out.now 0 (decode c.args.s.now)) =
-        (let skipped = white-skipped _ _ _ c.skip_white-from.ensures in (
+    FitsAt c.loop-i.n rest (length c.args.out.now) × (buffer_with c.loop-i.out c.loop-i.n rest ≡ buffer_with c.args.out.now 0 (decode c.args.s.now)) =
+    (let skipped = white-skipped _ _ _ c.skip_white-from.ensures in (
       subst (λ (r : Result ℕ (List ℕ)). FitsAt c.loop-i.n r (length c.args.out.now)) skipped c.loop-i.invariant.3,
       ap (buffer_with c.loop-i.out c.loop-i.n) (sym skipped) ∙ c.loop-i.invariant.4,
     )) in
     let letters : let s = c.args.s.now in let to = c.write_fours-i.result in let n = c.loop-i.n + (to - c.skip_white-from.result) / 4 * 3 in let room = length c.args.out.now in
-        let buffer = c.write_fours-i.new.out in (c.skip_white-from.result ≤ to) × (to ≤ length s) × (length buffer ≡ room) × (n ≤ room) × FitsAt n (decode (drop to s)) room
-        × (buffer_with buffer n (decode (drop to s)) ≡ buffer_with c.args.out.now 0 (decode s)) = (let run = c.write_fours-i.ensures.place in let far = run.far in
+    let buffer = c.write_fours-i.new.out in (c.skip_white-from.result ≤ to) × (to ≤ length s) × (length buffer ≡ room) × (n ≤ room) × FitsAt n (decode (drop to s)) room
+    × (buffer_with buffer n (decode (drop to s)) ≡ buffer_with c.args.out.now 0 (decode s)) = (let run = c.write_fours-i.ensures.place in let far = run.far in
     let w = white in let fits = fours-fits run _ _ w.0 in (
       omega arith,
       run.within,
@@ -50,14 +50,14 @@ overflow_sub-n c =
 pub overflow_mul-n : goal.overflow_mul-n
 overflow_mul-n c =
     let white : let rest = decode (drop c.skip_white-from.result c.args.s.now) in
-        FitsAt c.loop-i.n rest (length c.args.out.now) × (buffer_with c.loop-i.out c.loop-i.n rest ≡ buffer_with c.args.out.now 0 (decode c.args.s.now)) =
-        (let skipped = white-skipped _ _ _ c.skip_white-from.ensures in (
+    FitsAt c.loop-i.n rest (length c.args.out.now) × (buffer_with c.loop-i.out c.loop-i.n rest ≡ buffer_with c.args.out.now 0 (decode c.args.s.now)) =
+    (let skipped = white-skipped _ _ _ c.skip_white-from.ensures in (
       subst (λ (r : Result ℕ (List ℕ)). FitsAt c.loop-i.n r (length c.args.out.now)) skipped c.loop-i.invariant.3,
       ap (buffer_with c.loop-i.out c.loop-i.n) (sym skipped) ∙ c.loop-i.invariant.4,
     )) in
     let letters : let s = c.args.s.now in let to = c.write_fours-i.result in let n = c.loop-i.n + (to - c.skip_white-from.result) / 4 * 3 in let room = length c.args.out.now in
-        let buffer = c.write_fours-i.new.out in (c.skip_white-from.result ≤ to) × (to ≤ length s) × (length buffer ≡ room) × (n ≤ room) × FitsAt n (decode (drop to s)) room
-        × (buffer_with buffer n (decode (drop to s)) ≡ buffer_with c.args.out.now 0 (decode s)) = (let run = c.write_fours-i.ensures.place in let far = run.far in
+    let buffer = c.write_fours-i.new.out in (c.skip_white-from.result ≤ to) × (to ≤ length s) × (length buffer ≡ room) × (n ≤ room) × FitsAt n (decode (drop to s)) room
+    × (buffer_with buffer n (decode (drop to s)) ≡ buffer_with c.args.out.now 0 (decode s)) = (let run = c.write_fours-i.ensures.place in let far = run.far in
     let w = white in let fits = fours-fits run _ _ w.0 in (
       omega arith,
       run.within,
@@ -71,14 +71,14 @@ overflow_mul-n c =
 pub overflow_add-n : goal.overflow_add-n
 overflow_add-n c =
     let white : let rest = decode (drop c.skip_white-from.result c.args.s.now) in
-        FitsAt c.loop-i.n rest (length c.args.out.now) × (buffer_with c.loop-i.out c.loop-i.n rest ≡ buffer_with c.args.out.now 0 (decode c.args.s.now)) =
-        (let skipped = white-skipped _ _ _ c.skip_white-from.ensures in (
+    FitsAt c.loop-i.n rest (length c.args.out.now) × (buffer_with c.loop-i.out c.loop-i.n rest ≡ buffer_with c.args.out.now 0 (decode c.args.s.now)) =
+    (let skipped = white-skipped _ _ _ c.skip_white-from.ensures in (
       subst (λ (r : Result ℕ (List ℕ)). FitsAt c.loop-i.n r (length c.args.out.now)) skipped c.loop-i.invariant.3,
       ap (buffer_with c.loop-i.out c.loop-i.n) (sym skipped) ∙ c.loop-i.invariant.4,
     )) in
     let letters : let s = c.args.s.now in let to = c.write_fours-i.result in let n = c.loop-i.n + (to - c.skip_white-from.result) / 4 * 3 in let room = length c.args.out.now in
-        let buffer = c.write_fours-i.new.out in (c.skip_white-from.result ≤ to) × (to ≤ length s) × (length buffer ≡ room) × (n ≤ room) × FitsAt n (decode (drop to s)) room
-        × (buffer_with buffer n (decode (drop to s)) ≡ buffer_with c.args.out.now 0 (decode s)) = (let run = c.write_fours-i.ensures.place in let far = run.far in
+    let buffer = c.write_fours-i.new.out in (c.skip_white-from.result ≤ to) × (to ≤ length s) × (length buffer ≡ room) × (n ≤ room) × FitsAt n (decode (drop to s)) room
+    × (buffer_with buffer n (decode (drop to s)) ≡ buffer_with c.args.out.now 0 (decode s)) = (let run = c.write_fours-i.ensures.place in let far = run.far in
     let w = white in let fits = fours-fits run _ _ w.0 in (
       omega arith,
       run.within,
@@ -92,14 +92,14 @@ overflow_add-n c =
 pub next_four-requires : goal.next_four-requires
 next_four-requires c =
     let white : let rest = decode (drop c.skip_white-from.result c.args.s.now) in
-        FitsAt c.loop-i.n rest (length c.args.out.now) × (buffer_with c.loop-i.out c.loop-i.n rest ≡ buffer_with c.args.out.now 0 (decode c.args.s.now)) =
-        (let skipped = white-skipped _ _ _ c.skip_white-from.ensures in (
+    FitsAt c.loop-i.n rest (length c.args.out.now) × (buffer_with c.loop-i.out c.loop-i.n rest ≡ buffer_with c.args.out.now 0 (decode c.args.s.now)) =
+    (let skipped = white-skipped _ _ _ c.skip_white-from.ensures in (
       subst (λ (r : Result ℕ (List ℕ)). FitsAt c.loop-i.n r (length c.args.out.now)) skipped c.loop-i.invariant.3,
       ap (buffer_with c.loop-i.out c.loop-i.n) (sym skipped) ∙ c.loop-i.invariant.4,
     )) in
     let letters : let s = c.args.s.now in let to = c.write_fours-i.result in let n = c.loop-i.n + (to - c.skip_white-from.result) / 4 * 3 in let room = length c.args.out.now in
-        let buffer = c.write_fours-i.new.out in (c.skip_white-from.result ≤ to) × (to ≤ length s) × (length buffer ≡ room) × (n ≤ room) × FitsAt n (decode (drop to s)) room
-        × (buffer_with buffer n (decode (drop to s)) ≡ buffer_with c.args.out.now 0 (decode s)) = (let run = c.write_fours-i.ensures.place in let far = run.far in
+    let buffer = c.write_fours-i.new.out in (c.skip_white-from.result ≤ to) × (to ≤ length s) × (length buffer ≡ room) × (n ≤ room) × FitsAt n (decode (drop to s)) room
+    × (buffer_with buffer n (decode (drop to s)) ≡ buffer_with c.args.out.now 0 (decode s)) = (let run = c.write_fours-i.ensures.place in let far = run.far in
     let w = white in let fits = fours-fits run _ _ w.0 in (
       omega arith,
       run.within,
@@ -113,14 +113,14 @@ next_four-requires c =
 pub shape_of-out-in_default : goal.shape_of-out-in_default
 shape_of-out-in_default c =
     let white : let rest = decode (drop c.skip_white-from.result c.args.s.now) in
-        FitsAt c.loop-i.n rest (length c.args.out.now) × (buffer_with c.loop-i.out c.loop-i.n rest ≡ buffer_with c.args.out.now 0 (decode c.args.s.now)) =
-        (let skipped = white-skipped _ _ _ c.skip_white-from.ensures in (
+    FitsAt c.loop-i.n rest (length c.args.out.now) × (buffer_with c.loop-i.out c.loop-i.n rest ≡ buffer_with c.args.out.now 0 (decode c.args.s.now)) =
+    (let skipped = white-skipped _ _ _ c.skip_white-from.ensures in (
       subst (λ (r : Result ℕ (List ℕ)). FitsAt c.loop-i.n r (length c.args.out.now)) skipped c.loop-i.invariant.3,
       ap (buffer_with c.loop-i.out c.loop-i.n) (sym skipped) ∙ c.loop-i.invariant.4,
     )) in
     let letters : let s = c.args.s.now in let to = c.write_fours-i.result in let n = c.loop-i.n + (to - c.skip_white-from.result) / 4 * 3 in let room = length c.args.out.now in
-        let buffer = c.write_fours-i.new.out in (c.skip_white-from.result ≤ to) × (to ≤ length s) × (length buffer ≡ room) × (n ≤ room) × FitsAt n (decode (drop to s)) room
-        × (buffer_with buffer n (decode (drop to s)) ≡ buffer_with c.args.out.now 0 (decode s)) = (let run = c.write_fours-i.ensures.place in let far = run.far in
+    let buffer = c.write_fours-i.new.out in (c.skip_white-from.result ≤ to) × (to ≤ length s) × (length buffer ≡ room) × (n ≤ room) × FitsAt n (decode (drop to s)) room
+    × (buffer_with buffer n (decode (drop to s)) ≡ buffer_with c.args.out.now 0 (decode s)) = (let run = c.write_fours-i.ensures.place in let far = run.far in
     let w = white in let fits = fours-fits run _ _ w.0 in (
       omega arith,
       run.within,
@@ -134,14 +134,14 @@ shape_of-out-in_default c =
 pub returns-in_default : goal.returns-in_default
 returns-in_default c =
     let white : let rest = decode (drop c.skip_white-from.result c.args.s.now) in
-        FitsAt c.loop-i.n rest (length c.args.out.now) × (buffer_with c.loop-i.out c.loop-i.n rest ≡ buffer_with c.args.out.now 0 (decode c.args.s.now)) =
-        (let skipped = white-skipped _ _ _ c.skip_white-from.ensures in (
+    FitsAt c.loop-i.n rest (length c.args.out.now) × (buffer_with c.loop-i.out c.loop-i.n rest ≡ buffer_with c.args.out.now 0 (decode c.args.s.now)) =
+    (let skipped = white-skipped _ _ _ c.skip_white-from.ensures in (
       subst (λ (r : Result ℕ (List ℕ)). FitsAt c.loop-i.n r (length c.args.out.now)) skipped c.loop-i.invariant.3,
       ap (buffer_with c.loop-i.out c.loop-i.n) (sym skipped) ∙ c.loop-i.invariant.4,
     )) in
     let letters : let s = c.args.s.now in let to = c.write_fours-i.result in let n = c.loop-i.n + (to - c.skip_white-from.result) / 4 * 3 in let room = length c.args.out.now in
-        let buffer = c.write_fours-i.new.out in (c.skip_white-from.result ≤ to) × (to ≤ length s) × (length buffer ≡ room) × (n ≤ room) × FitsAt n (decode (drop to s)) room
-        × (buffer_with buffer n (decode (drop to s)) ≡ buffer_with c.args.out.now 0 (decode s)) = (let run = c.write_fours-i.ensures.place in let far = run.far in
+    let buffer = c.write_fours-i.new.out in (c.skip_white-from.result ≤ to) × (to ≤ length s) × (length buffer ≡ room) × (n ≤ room) × FitsAt n (decode (drop to s)) room
+    × (buffer_with buffer n (decode (drop to s)) ≡ buffer_with c.args.out.now 0 (decode s)) = (let run = c.write_fours-i.ensures.place in let far = run.far in
     let w = white in let fits = fours-fits run _ _ w.0 in (
       omega arith,
       run.within,
@@ -155,14 +155,14 @@ returns-in_default c =
 pub put_some-requires : goal.put_some-requires
 put_some-requires c =
     let white : let rest = decode (drop c.skip_white-from.result c.args.s.now) in
-        FitsAt c.loop-i.n rest (length c.args.out.now) × (buffer_with c.loop-i.out c.loop-i.n rest ≡ buffer_with c.args.out.now 0 (decode c.args.s.now)) =
-        (let skipped = white-skipped _ _ _ c.skip_white-from.ensures in (
+    FitsAt c.loop-i.n rest (length c.args.out.now) × (buffer_with c.loop-i.out c.loop-i.n rest ≡ buffer_with c.args.out.now 0 (decode c.args.s.now)) =
+    (let skipped = white-skipped _ _ _ c.skip_white-from.ensures in (
       subst (λ (r : Result ℕ (List ℕ)). FitsAt c.loop-i.n r (length c.args.out.now)) skipped c.loop-i.invariant.3,
       ap (buffer_with c.loop-i.out c.loop-i.n) (sym skipped) ∙ c.loop-i.invariant.4,
     )) in
     let letters : let s = c.args.s.now in let to = c.write_fours-i.result in let n = c.loop-i.n + (to - c.skip_white-from.result) / 4 * 3 in let room = length c.args.out.now in
-        let buffer = c.write_fours-i.new.out in (c.skip_white-from.result ≤ to) × (to ≤ length s) × (length buffer ≡ room) × (n ≤ room) × FitsAt n (decode (drop to s)) room
-        × (buffer_with buffer n (decode (drop to s)) ≡ buffer_with c.args.out.now 0 (decode s)) = (let run = c.write_fours-i.ensures.place in let far = run.far in
+    let buffer = c.write_fours-i.new.out in (c.skip_white-from.result ≤ to) × (to ≤ length s) × (length buffer ≡ room) × (n ≤ room) × FitsAt n (decode (drop to s)) room
+    × (buffer_with buffer n (decode (drop to s)) ≡ buffer_with c.args.out.now 0 (decode s)) = (let run = c.write_fours-i.ensures.place in let far = run.far in
     let w = white in let fits = fours-fits run _ _ w.0 in (
       omega arith,
       run.within,
@@ -179,14 +179,14 @@ put_some-requires c =
 pub overflow_add-n-then-i-from : goal.overflow_add-n-then-i-from
 overflow_add-n-then-i-from c =
     let white : let rest = decode (drop c.skip_white-from.result c.args.s.now) in
-        FitsAt c.loop-i.n rest (length c.args.out.now) × (buffer_with c.loop-i.out c.loop-i.n rest ≡ buffer_with c.args.out.now 0 (decode c.args.s.now)) =
-        (let skipped = white-skipped _ _ _ c.skip_white-from.ensures in (
+    FitsAt c.loop-i.n rest (length c.args.out.now) × (buffer_with c.loop-i.out c.loop-i.n rest ≡ buffer_with c.args.out.now 0 (decode c.args.s.now)) =
+    (let skipped = white-skipped _ _ _ c.skip_white-from.ensures in (
       subst (λ (r : Result ℕ (List ℕ)). FitsAt c.loop-i.n r (length c.args.out.now)) skipped c.loop-i.invariant.3,
       ap (buffer_with c.loop-i.out c.loop-i.n) (sym skipped) ∙ c.loop-i.invariant.4,
     )) in
     let letters : let s = c.args.s.now in let to = c.write_fours-i.result in let n = c.loop-i.n + (to - c.skip_white-from.result) / 4 * 3 in let room = length c.args.out.now in
-        let buffer = c.write_fours-i.new.out in (c.skip_white-from.result ≤ to) × (to ≤ length s) × (length buffer ≡ room) × (n ≤ room) × FitsAt n (decode (drop to s)) room
-        × (buffer_with buffer n (decode (drop to s)) ≡ buffer_with c.args.out.now 0 (decode s)) = (let run = c.write_fours-i.ensures.place in let far = run.far in
+    let buffer = c.write_fours-i.new.out in (c.skip_white-from.result ≤ to) × (to ≤ length s) × (length buffer ≡ room) × (n ≤ room) × FitsAt n (decode (drop to s)) room
+    × (buffer_with buffer n (decode (drop to s)) ≡ buffer_with c.args.out.now 0 (decode s)) = (let run = c.write_fours-i.ensures.place in let far = run.far in
     let w = white in let fits = fours-fits run _ _ w.0 in (
       omega arith,
       run.within,
@@ -201,14 +201,14 @@ overflow_add-n-then-i-from c =
 pub shape_of-out-then-count-lt3 : goal.shape_of-out-then-count-lt3
 shape_of-out-then-count-lt3 c =
     let white : let rest = decode (drop c.skip_white-from.result c.args.s.now) in
-        FitsAt c.loop-i.n rest (length c.args.out.now) × (buffer_with c.loop-i.out c.loop-i.n rest ≡ buffer_with c.args.out.now 0 (decode c.args.s.now)) =
-        (let skipped = white-skipped _ _ _ c.skip_white-from.ensures in (
+    FitsAt c.loop-i.n rest (length c.args.out.now) × (buffer_with c.loop-i.out c.loop-i.n rest ≡ buffer_with c.args.out.now 0 (decode c.args.s.now)) =
+    (let skipped = white-skipped _ _ _ c.skip_white-from.ensures in (
       subst (λ (r : Result ℕ (List ℕ)). FitsAt c.loop-i.n r (length c.args.out.now)) skipped c.loop-i.invariant.3,
       ap (buffer_with c.loop-i.out c.loop-i.n) (sym skipped) ∙ c.loop-i.invariant.4,
     )) in
     let letters : let s = c.args.s.now in let to = c.write_fours-i.result in let n = c.loop-i.n + (to - c.skip_white-from.result) / 4 * 3 in let room = length c.args.out.now in
-        let buffer = c.write_fours-i.new.out in (c.skip_white-from.result ≤ to) × (to ≤ length s) × (length buffer ≡ room) × (n ≤ room) × FitsAt n (decode (drop to s)) room
-        × (buffer_with buffer n (decode (drop to s)) ≡ buffer_with c.args.out.now 0 (decode s)) = (let run = c.write_fours-i.ensures.place in let far = run.far in
+    let buffer = c.write_fours-i.new.out in (c.skip_white-from.result ≤ to) × (to ≤ length s) × (length buffer ≡ room) × (n ≤ room) × FitsAt n (decode (drop to s)) room
+    × (buffer_with buffer n (decode (drop to s)) ≡ buffer_with c.args.out.now 0 (decode s)) = (let run = c.write_fours-i.ensures.place in let far = run.far in
     let w = white in let fits = fours-fits run _ _ w.0 in (
       omega arith,
       run.within,
@@ -222,14 +222,14 @@ shape_of-out-then-count-lt3 c =
 pub returns-then-count-lt3 : goal.returns-then-count-lt3
 returns-then-count-lt3 c =
     let white : let rest = decode (drop c.skip_white-from.result c.args.s.now) in
-        FitsAt c.loop-i.n rest (length c.args.out.now) × (buffer_with c.loop-i.out c.loop-i.n rest ≡ buffer_with c.args.out.now 0 (decode c.args.s.now)) =
-        (let skipped = white-skipped _ _ _ c.skip_white-from.ensures in (
+    FitsAt c.loop-i.n rest (length c.args.out.now) × (buffer_with c.loop-i.out c.loop-i.n rest ≡ buffer_with c.args.out.now 0 (decode c.args.s.now)) =
+    (let skipped = white-skipped _ _ _ c.skip_white-from.ensures in (
       subst (λ (r : Result ℕ (List ℕ)). FitsAt c.loop-i.n r (length c.args.out.now)) skipped c.loop-i.invariant.3,
       ap (buffer_with c.loop-i.out c.loop-i.n) (sym skipped) ∙ c.loop-i.invariant.4,
     )) in
     let letters : let s = c.args.s.now in let to = c.write_fours-i.result in let n = c.loop-i.n + (to - c.skip_white-from.result) / 4 * 3 in let room = length c.args.out.now in
-        let buffer = c.write_fours-i.new.out in (c.skip_white-from.result ≤ to) × (to ≤ length s) × (length buffer ≡ room) × (n ≤ room) × FitsAt n (decode (drop to s)) room
-        × (buffer_with buffer n (decode (drop to s)) ≡ buffer_with c.args.out.now 0 (decode s)) = (let run = c.write_fours-i.ensures.place in let far = run.far in
+    let buffer = c.write_fours-i.new.out in (c.skip_white-from.result ≤ to) × (to ≤ length s) × (length buffer ≡ room) × (n ≤ room) × FitsAt n (decode (drop to s)) room
+    × (buffer_with buffer n (decode (drop to s)) ≡ buffer_with c.args.out.now 0 (decode s)) = (let run = c.write_fours-i.ensures.place in let far = run.far in
     let w = white in let fits = fours-fits run _ _ w.0 in (
       omega arith,
       run.within,
@@ -245,14 +245,14 @@ returns-then-count-lt3 c =
 pub loop-i-smaller-else-count-lt3 : goal.loop-i-smaller-else-count-lt3
 loop-i-smaller-else-count-lt3 c =
     let white : let rest = decode (drop c.skip_white-from.result c.args.s.now) in
-        FitsAt c.loop-i.n rest (length c.args.out.now) × (buffer_with c.loop-i.out c.loop-i.n rest ≡ buffer_with c.args.out.now 0 (decode c.args.s.now)) =
-        (let skipped = white-skipped _ _ _ c.skip_white-from.ensures in (
+    FitsAt c.loop-i.n rest (length c.args.out.now) × (buffer_with c.loop-i.out c.loop-i.n rest ≡ buffer_with c.args.out.now 0 (decode c.args.s.now)) =
+    (let skipped = white-skipped _ _ _ c.skip_white-from.ensures in (
       subst (λ (r : Result ℕ (List ℕ)). FitsAt c.loop-i.n r (length c.args.out.now)) skipped c.loop-i.invariant.3,
       ap (buffer_with c.loop-i.out c.loop-i.n) (sym skipped) ∙ c.loop-i.invariant.4,
     )) in
     let letters : let s = c.args.s.now in let to = c.write_fours-i.result in let n = c.loop-i.n + (to - c.skip_white-from.result) / 4 * 3 in let room = length c.args.out.now in
-        let buffer = c.write_fours-i.new.out in (c.skip_white-from.result ≤ to) × (to ≤ length s) × (length buffer ≡ room) × (n ≤ room) × FitsAt n (decode (drop to s)) room
-        × (buffer_with buffer n (decode (drop to s)) ≡ buffer_with c.args.out.now 0 (decode s)) = (let run = c.write_fours-i.ensures.place in let far = run.far in
+    let buffer = c.write_fours-i.new.out in (c.skip_white-from.result ≤ to) × (to ≤ length s) × (length buffer ≡ room) × (n ≤ room) × FitsAt n (decode (drop to s)) room
+    × (buffer_with buffer n (decode (drop to s)) ≡ buffer_with c.args.out.now 0 (decode s)) = (let run = c.write_fours-i.ensures.place in let far = run.far in
     let w = white in let fits = fours-fits run _ _ w.0 in (
       omega arith,
       run.within,
@@ -268,14 +268,14 @@ loop-i-smaller-else-count-lt3 c =
 pub loop-i-preserved-else-count-lt3 : goal.loop-i-preserved-else-count-lt3
 loop-i-preserved-else-count-lt3 c =
     let white : let rest = decode (drop c.skip_white-from.result c.args.s.now) in
-        FitsAt c.loop-i.n rest (length c.args.out.now) × (buffer_with c.loop-i.out c.loop-i.n rest ≡ buffer_with c.args.out.now 0 (decode c.args.s.now)) =
-        (let skipped = white-skipped _ _ _ c.skip_white-from.ensures in (
+    FitsAt c.loop-i.n rest (length c.args.out.now) × (buffer_with c.loop-i.out c.loop-i.n rest ≡ buffer_with c.args.out.now 0 (decode c.args.s.now)) =
+    (let skipped = white-skipped _ _ _ c.skip_white-from.ensures in (
       subst (λ (r : Result ℕ (List ℕ)). FitsAt c.loop-i.n r (length c.args.out.now)) skipped c.loop-i.invariant.3,
       ap (buffer_with c.loop-i.out c.loop-i.n) (sym skipped) ∙ c.loop-i.invariant.4,
     )) in
     let letters : let s = c.args.s.now in let to = c.write_fours-i.result in let n = c.loop-i.n + (to - c.skip_white-from.result) / 4 * 3 in let room = length c.args.out.now in
-        let buffer = c.write_fours-i.new.out in (c.skip_white-from.result ≤ to) × (to ≤ length s) × (length buffer ≡ room) × (n ≤ room) × FitsAt n (decode (drop to s)) room
-        × (buffer_with buffer n (decode (drop to s)) ≡ buffer_with c.args.out.now 0 (decode s)) = (let run = c.write_fours-i.ensures.place in let far = run.far in
+    let buffer = c.write_fours-i.new.out in (c.skip_white-from.result ≤ to) × (to ≤ length s) × (length buffer ≡ room) × (n ≤ room) × FitsAt n (decode (drop to s)) room
+    × (buffer_with buffer n (decode (drop to s)) ≡ buffer_with c.args.out.now 0 (decode s)) = (let run = c.write_fours-i.ensures.place in let far = run.far in
     let w = white in let fits = fours-fits run _ _ w.0 in (
       omega arith,
       run.within,
@@ -296,14 +296,14 @@ loop-i-preserved-else-count-lt3 c =
 pub loop-i-smaller : goal.loop-i-smaller
 loop-i-smaller c =
     let white : let rest = decode (drop c.skip_white-from.result c.args.s.now) in
-        FitsAt c.loop-i.n rest (length c.args.out.now) × (buffer_with c.loop-i.out c.loop-i.n rest ≡ buffer_with c.args.out.now 0 (decode c.args.s.now)) =
-        (let skipped = white-skipped _ _ _ c.skip_white-from.ensures in (
+    FitsAt c.loop-i.n rest (length c.args.out.now) × (buffer_with c.loop-i.out c.loop-i.n rest ≡ buffer_with c.args.out.now 0 (decode c.args.s.now)) =
+    (let skipped = white-skipped _ _ _ c.skip_white-from.ensures in (
       subst (λ (r : Result ℕ (List ℕ)). FitsAt c.loop-i.n r (length c.args.out.now)) skipped c.loop-i.invariant.3,
       ap (buffer_with c.loop-i.out c.loop-i.n) (sym skipped) ∙ c.loop-i.invariant.4,
     )) in
     let letters : let s = c.args.s.now in let to = c.write_fours-i.result in let n = c.loop-i.n + (to - c.skip_white-from.result) / 4 * 3 in let room = length c.args.out.now in
-        let buffer = c.write_fours-i.new.out in (c.skip_white-from.result ≤ to) × (to ≤ length s) × (length buffer ≡ room) × (n ≤ room) × FitsAt n (decode (drop to s)) room
-        × (buffer_with buffer n (decode (drop to s)) ≡ buffer_with c.args.out.now 0 (decode s)) = (let run = c.write_fours-i.ensures.place in let far = run.far in
+    let buffer = c.write_fours-i.new.out in (c.skip_white-from.result ≤ to) × (to ≤ length s) × (length buffer ≡ room) × (n ≤ room) × FitsAt n (decode (drop to s)) room
+    × (buffer_with buffer n (decode (drop to s)) ≡ buffer_with c.args.out.now 0 (decode s)) = (let run = c.write_fours-i.ensures.place in let far = run.far in
     let w = white in let fits = fours-fits run _ _ w.0 in (
       omega arith,
       run.within,
@@ -317,14 +317,14 @@ loop-i-smaller c =
 pub loop-i-preserved : goal.loop-i-preserved
 loop-i-preserved c =
     let white : let rest = decode (drop c.skip_white-from.result c.args.s.now) in
-        FitsAt c.loop-i.n rest (length c.args.out.now) × (buffer_with c.loop-i.out c.loop-i.n rest ≡ buffer_with c.args.out.now 0 (decode c.args.s.now)) =
-        (let skipped = white-skipped _ _ _ c.skip_white-from.ensures in (
+    FitsAt c.loop-i.n rest (length c.args.out.now) × (buffer_with c.loop-i.out c.loop-i.n rest ≡ buffer_with c.args.out.now 0 (decode c.args.s.now)) =
+    (let skipped = white-skipped _ _ _ c.skip_white-from.ensures in (
       subst (λ (r : Result ℕ (List ℕ)). FitsAt c.loop-i.n r (length c.args.out.now)) skipped c.loop-i.invariant.3,
       ap (buffer_with c.loop-i.out c.loop-i.n) (sym skipped) ∙ c.loop-i.invariant.4,
     )) in
     let letters : let s = c.args.s.now in let to = c.write_fours-i.result in let n = c.loop-i.n + (to - c.skip_white-from.result) / 4 * 3 in let room = length c.args.out.now in
-        let buffer = c.write_fours-i.new.out in (c.skip_white-from.result ≤ to) × (to ≤ length s) × (length buffer ≡ room) × (n ≤ room) × FitsAt n (decode (drop to s)) room
-        × (buffer_with buffer n (decode (drop to s)) ≡ buffer_with c.args.out.now 0 (decode s)) = (let run = c.write_fours-i.ensures.place in let far = run.far in
+    let buffer = c.write_fours-i.new.out in (c.skip_white-from.result ≤ to) × (to ≤ length s) × (length buffer ≡ room) × (n ≤ room) × FitsAt n (decode (drop to s)) room
+    × (buffer_with buffer n (decode (drop to s)) ≡ buffer_with c.args.out.now 0 (decode s)) = (let run = c.write_fours-i.ensures.place in let far = run.far in
     let w = white in let fits = fours-fits run _ _ w.0 in (
       omega arith,
       run.within,

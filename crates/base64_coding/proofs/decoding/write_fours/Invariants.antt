@@ -1,14 +1,9 @@
 -- `base64_coding::decoding::write_fours` meets its contract. The invariant: the bytes of the fours of letters up to the place that was reached
 -- are stored; that there is room for those of the next four follows from all that the text gives.
-use Prim.Native.Nat.{◌+◌, ◌-◌, ◌≤◌, ℕ}
-use mathlib.Core.Path.{◌∙◌, ◌≡◌, ap, refl}
+use Prim.Native.Nat.{◌-◌, ◌≤◌}
+use mathlib.Core.Path.{◌≡◌}
 use lib.ListN.{length}
-use lib.Seq.{sets}
-use Rattle.base64_coding.specs.Clauses.{four_number, number_bytes, values_at}
-use Rattle.base64_coding.proofs.Plain.{FourLetters, Stored, bounded, by_number, stored-all, stored_more, stored-none}
-use Rattle.base64_coding.proofs.Turns.{stored-room}
-use borrow.Author.Rules.{rules}
-use native.Mathlib.Omega.{arith}
+use Rattle.base64_coding.proofs.Plain.{Stored}
 use Rattle.base64_coding.proofs.decoding.write_fours.Given as goal
 
 abbrev pub invariant-loop-i : goal.invariant-loop-i

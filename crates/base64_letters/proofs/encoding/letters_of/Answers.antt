@@ -1,6 +1,5 @@
 -- `base64_letters::encoding::letters_of` meets its contract, letter by letter.
 use Rattle.base64_letters.specs.Letters.{letters_of}
-use borrow.Author.Rules.{rules}
 use Rattle.base64_letters.proofs.encoding.letters_of.Goals as goal
 
 pub returns : goal.returns

@@ -2,7 +2,6 @@
 use native.Mathlib.Omega.{arith}
 use native.Mathlib.Numerals.{towards_suc}
 use lib.ListN.{length-set}
-use borrow.Author.Rules.{rules}
 use Rattle.base64_letters.proofs.encoding.put4.Goals as goal
 
 pub bounds-out-o-2 : goal.bounds-out-o-2

@@ -1,8 +1,8 @@
 -- `base64_letters::encoding::write_letters` meets its contract. The invariant: what is left, stored from o on, makes the whole.
-use Prim.Native.Nat.{◌+◌, ◌-◌, ◌≤◌, ℕ}
+use Prim.Native.Nat.{◌+◌, ℕ}
 use mathlib.Core.List.{List}
-use mathlib.Core.Path.{◌∙◌, ◌≡◌, ap, refl}
-use lib.ListN.{drop, length}
+use mathlib.Core.Path.{◌∙◌, ap, refl}
+use lib.ListN.{drop}
 use lib.Seq.{sets}
 use Rattle.base64_rules.specs.Base64.{encode}
 use Rattle.base64_letters.proofs.Coding.{length1, length2, length3, turn0, turn1, turn2, turn3}

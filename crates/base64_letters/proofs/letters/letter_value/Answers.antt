@@ -1,5 +1,4 @@
 -- `base64_letters::letters::letter_value` meets its contract: what is lent is the table.
-use borrow.Author.Rules.{rules}
 use Rattle.base64_letters.specs.Letters.{TableIs}
 use Rattle.base64_letters.proofs.letters.letter_value.Goals as goal
 

@@ -1,6 +1,5 @@
 -- `character_reading::characters::character_at` meets its contract: the byte at the place decides, and where it is one of markup's, the source.
 use native.Mathlib.Omega.{arith}
-use borrow.Author.Rules.{rules}
 use Rattle.character_reading.proofs.characters.Laws.{item_from, itself, plain_code, plain_end, text-end, text-reference, text-return, text-tag}
 use Rattle.character_reading.proofs.characters.character_at.Goals as goal
 

@@ -1,6 +1,5 @@
 -- `character_reading::characters::end_tag` meets its contract: a whole `</TD>`, or the text is broken.
 use mathlib.Core.Path.{subst}
-use borrow.Author.Rules.{rules}
 use Rattle.character_reading.proofs.characters.Laws.{ended_by, ended-not}
 use Rattle.text.specs.Clauses.{TagIs}
 use Rattle.character_reading.proofs.characters.end_tag.Goals as goal

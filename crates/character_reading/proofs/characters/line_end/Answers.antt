@@ -1,6 +1,5 @@
 -- `character_reading::characters::line_end` meets its contract: the byte behind the 13 decides where the line end ends.
 use native.Mathlib.Omega.{arith}
-use borrow.Author.Rules.{rules}
 use Rattle.character_reading.proofs.characters.Laws.{return-alone-item, return-feed-item, return-last, return-other}
 use Rattle.character_reading.proofs.characters.line_end.Goals as goal
 

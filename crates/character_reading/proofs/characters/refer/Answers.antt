@@ -1,7 +1,6 @@
 -- `character_reading::characters::refer` meets its contract: the name up to its `;`, and what it means.
 use native.Mathlib.Omega.{arith}
 use mathlib.Core.Path.{◌∙◌, ap, subst}
-use borrow.Author.Rules.{rules}
 use Rattle.character_reading.proofs.characters.Laws.{name-known, name-unknown}
 use Rattle.character_reading.specs.Characters.{NameIs}
 use Rattle.character_reading.specs.References.{reference_as}

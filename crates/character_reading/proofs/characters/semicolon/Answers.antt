@@ -1,9 +1,9 @@
 -- `character_reading::characters::semicolon` meets its contract. The invariant: the text from here on is read with the name so far.
-use Prim.Native.Nat.{◌+◌, ◌-◌, ◌≤◌, ℕ}
+use Prim.Native.Nat.{◌+◌, ◌-◌, ℕ}
 use native.Mathlib.Omega.{arith}
-use mathlib.Core.List.{List, []}
+use mathlib.Core.List.{List}
 use mathlib.Core.Path.{◌∙◌, ◌≡◌, ap, sym}
-use lib.ListN.{drop, length, take}
+use lib.ListN.{drop}
 use borrow.Author.Rules.{rules}
 use Rattle.tabledata.specs.TableData.{characters, reference}
 use Rattle.character_reading.proofs.characters.Laws.{name_done, name-end, name-more, take_more}

@@ -1,12 +1,9 @@
 -- `character_reading::characters::semicolon` meets its contract. The invariant: the text from here on is read with the name so far.
-use Prim.Native.Nat.{◌+◌, ◌-◌, ◌≤◌, ℕ}
-use native.Mathlib.Omega.{arith}
-use mathlib.Core.List.{List, []}
-use mathlib.Core.Path.{◌∙◌, ◌≡◌, ap, sym}
+use Prim.Native.Nat.{◌-◌, ◌≤◌}
+use mathlib.Core.List.{[]}
+use mathlib.Core.Path.{◌≡◌}
 use lib.ListN.{drop, length, take}
-use borrow.Author.Rules.{rules}
 use Rattle.tabledata.specs.TableData.{characters, reference}
-use Rattle.character_reading.proofs.characters.Laws.{name_done, name-end, name-more, take_more}
 use Rattle.character_reading.proofs.characters.semicolon.Given as goal
 
 abbrev pub invariant-loop-i : goal.invariant-loop-i

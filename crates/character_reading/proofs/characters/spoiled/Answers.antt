@@ -1,11 +1,9 @@
 -- `character_reading::characters::spoiled` meets its contract. The invariant: the number is that of what is left.
-use Prim.Native.Nat.{◌-◌, ◌≤◌}
 use native.Mathlib.Omega.{arith}
-use mathlib.Core.Path.{◌∙◌, ◌≡◌, ap, refl, subst, sym}
-use lib.ListN.{drop, length}
+use mathlib.Core.Path.{◌∙◌, ap, refl, subst, sym}
 use borrow.Author.Rules.{rules}
 use Rattle.character_reading.proofs.characters.Laws.{spoiled-broken, spoiled-code, spoiled-end}
-use Rattle.character_reading.specs.Characters.{ItemIs, characters_of, spoiled_number}
+use Rattle.character_reading.specs.Characters.{ItemIs, spoiled_number}
 use Rattle.character_reading.proofs.characters.spoiled.Goals as goal
 
 pub loop-next-init : goal.loop-next-init

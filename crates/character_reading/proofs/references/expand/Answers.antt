@@ -1,7 +1,6 @@
 -- `character_reading::references::expand` meets its contract: a name, or `#x` and hexadigits, or `#` and digits.
 use native.Mathlib.Omega.{arith}
 use mathlib.Core.Path.{◌∙◌}
-use borrow.Author.Rules.{rules}
 use Rattle.character_reading.proofs.references.Laws.{expand-decimal, expand-hex, expand-name, expand-none, expand-short}
 use Rattle.character_reading.proofs.references.expand.Goals as goal
 

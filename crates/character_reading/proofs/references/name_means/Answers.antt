@@ -1,7 +1,6 @@
 -- `character_reading::references::name_means` meets its contract: the names are tried in the definition's order.
 use mathlib.Core.Bool.{false}
 use mathlib.Core.Path.{◌∙◌, ◌≡◌, sym}
-use borrow.Author.Rules.{rules}
 use Rattle.table.specs.Bytes.{bytes, same}
 use Rattle.tabledata.specs.TableData.{named, names}
 use Rattle.character_reading.proofs.references.name_means.Goals as goal

@@ -1,10 +1,10 @@
 -- `character_reading::references::number_means` meets its contract. The invariant: the numeral is what its rest gives with the value so
 -- far, which n digits keep below 16 ^ n.
-use Prim.Native.Nat.{◌-◌, ◌<◌, ◌^◌, ◌≤◌}
+use Prim.Native.Nat.{◌-◌, ◌<◌, ◌≤◌}
 use native.Mathlib.Omega.{arith}
 use mathlib.Core.Path.{◌∙◌, ◌≡◌, ap, refl}
 use lib.Dec.{lit≤}
-use lib.ListN.{drop, length, length-drop}
+use lib.ListN.{drop, length-drop}
 use borrow.Author.Rules.{rules}
 use Rattle.number.specs.Number.{numeral}
 use Rattle.table.specs.Result.{refused_as}
@@ -26,7 +26,7 @@ loop-i-init c =
 pub returns-then-base-d : goal.returns-then-base-d
 returns-then-base-d c =
     let digits : let a = c.args in numeric (value_in a.hex) (base_in a.hex) (drop a.from a.name.now) ≡ refused_as (λ f. 10)
-        (numeral (value_in a.hex) (base_in a.hex) 0 (drop a.from a.name.now)) = (let a = c.args in let long = length-drop a.from a.name.now in
+    (numeral (value_in a.hex) (base_in a.hex) 0 (drop a.from a.name.now)) = (let a = c.args in let long = length-drop a.from a.name.now in
     numeric-sized a.hex (drop a.from a.name.now) (omega (arith, long)) (omega (arith, long))) in
     let above : base_in c.args.hex ≤ c.digit_value-d.result = omega (arith, c.base.ensures) in
     digits ∙ ap (refused_as (λ f. 10))
@@ -50,6 +50,6 @@ loop-i-preserved c =
 pub returns : goal.returns
 returns c =
     let digits : let a = c.args in numeric (value_in a.hex) (base_in a.hex) (drop a.from a.name.now) ≡ refused_as (λ f. 10)
-        (numeral (value_in a.hex) (base_in a.hex) 0 (drop a.from a.name.now)) = (let a = c.args in let long = length-drop a.from a.name.now in
+    (numeral (value_in a.hex) (base_in a.hex) 0 (drop a.from a.name.now)) = (let a = c.args in let long = length-drop a.from a.name.now in
     numeric-sized a.hex (drop a.from a.name.now) (omega (arith, long)) (omega (arith, long))) in
     digits ∙ ap (refused_as (λ f. 10)) (c.loop-i.invariant.3 ∙ numeral-end c.args.hex _ _ _ c.loop-i-test.false)

@@ -1,5 +1,4 @@
 -- `character_reading::references::one_digit_more` meets its contract, by the base.
-use borrow.Author.Rules.{rules}
 use Rattle.character_reading.proofs.references.one_digit_more.Goals as goal
 
 pub returns-then-hex : goal.returns-then-hex

@@ -1,12 +1,12 @@
 -- declaring::attributes::read_attributes: the attributes of a tag: what is noted so far, and what is gathered from here on, is the whole.
-use Prim.Native.Nat.{◌-◌, ◌≤◌, ℕ}
-use Rattle.declaring.proofs.attributes.Tallies.{Going, attribute-at, attribute-broken, comes-nameless, comes-not, comes-yes, going-broken, going_more, going_start, going-stop, tally-in}
-use Rattle.declaring.specs.Readers.{AttributesIs, QuotedIs, TallyIn, assigned}
+use Prim.Native.Nat.{◌≤◌, ℕ}
+use Rattle.declaring.proofs.attributes.Tallies.{attribute-at, attribute-broken, comes-nameless, comes-not, comes-yes, going-broken, going_more, going_start, going-stop, tally-in}
+use Rattle.declaring.specs.Readers.{AttributesIs, QuotedIs, assigned}
 use Rattle.declaring.specs.declared.attributes.Attributes.TheVariants.{Tallied}
 use Rattle.declaring.specs.declared.attributes.Quoted.TheVariants.{Holds}
 use Rattle.fields.specs.Fields.{attribute_comes}
 use borrow.Author.Rules.{rules}
-use lib.ListN.{drop, length}
+use lib.ListN.{drop}
 use mathlib.Core.Bool.{false, true}
 use mathlib.Core.List.{List}
 use mathlib.Core.Path.{◌≡◌, subst}
@@ -26,14 +26,14 @@ pub returns-then-name-at : goal.returns-then-name-at
 returns-then-name-at c =
     let text_at : List ℕ = c.args.s.now in
     let stops : attribute_comes (drop c.loop-at.at text_at) ≡ false → AttributesIs text_at c.args.from (Tallied c.loop-at.t c.loop-at.at) = λ e. let i = c.loop-at.invariant in
-        record { rest = going-stop _ _ _ _ i.1 i.3 e; places = (i.0, i.1, i.2) } in
+    record { rest = going-stop _ _ _ _ i.1 i.3 e; places = (i.0, i.1, i.2) } in
     stops (comes-not _ _ _ _ c.skip_white-name.ensures c.span_end-name_end.ensures c.if-name-at.true)
 
 pub returns-then-name_end-name : goal.returns-then-name_end-name
 returns-then-name_end-name c =
     let text_at : List ℕ = c.args.s.now in
     let stops : attribute_comes (drop c.loop-at.at text_at) ≡ false → AttributesIs text_at c.args.from (Tallied c.loop-at.t c.loop-at.at) = λ e. let i = c.loop-at.invariant in
-        record { rest = going-stop _ _ _ _ i.1 i.3 e; places = (i.0, i.1, i.2) } in
+    record { rest = going-stop _ _ _ _ i.1 i.3 e; places = (i.0, i.1, i.2) } in
     stops (comes-nameless _ _ _ _ c.skip_white-name.ensures c.span_end-name_end.ensures c.if-name-at.false c.if-name_end-name.true)
 
 pub read_value-requires : goal.read_value-requires
@@ -55,14 +55,14 @@ pub overflow_add-at : goal.overflow_add-at
 overflow_add-at c =
     let text_at : List ℕ = c.args.s.now in
     let value : let s = text_at in QuotedIs s c.span_end-name_end.result (assigned (drop c.span_end-name_end.result s)) (Holds c.in-Holds.start c.in-Holds.end) =
-        subst (QuotedIs _ _ _) c.in-Holds.is c.read_value.ensures in
+    subst (QuotedIs _ _ _) c.in-Holds.is c.read_value.ensures in
     omega (arith, value.places.2)
 
 pub loop-at-smaller : goal.loop-at-smaller
 loop-at-smaller c =
     let text_at : List ℕ = c.args.s.now in
     let value : let s = text_at in QuotedIs s c.span_end-name_end.result (assigned (drop c.span_end-name_end.result s)) (Holds c.in-Holds.start c.in-Holds.end) =
-        subst (QuotedIs _ _ _) c.in-Holds.is c.read_value.ensures in
+    subst (QuotedIs _ _ _) c.in-Holds.is c.read_value.ensures in
     let far : c.loop-at.at ≤ c.in-Holds.end = omega (arith, value.places, c.span_end-name_end.ensures.onward, c.skip_white-name.ensures.low) in
     omega (arith, value.places.2, far)
 
@@ -71,7 +71,7 @@ loop-at-preserved c =
     let text_at : List ℕ = c.args.s.now in
     let comes : attribute_comes (drop c.loop-at.at text_at) ≡ true = comes-yes _ _ _ _ c.skip_white-name.ensures c.span_end-name_end.ensures c.if-name-at.false c.if-name_end-name.false in
     let value : let s = text_at in QuotedIs s c.span_end-name_end.result (assigned (drop c.span_end-name_end.result s)) (Holds c.in-Holds.start c.in-Holds.end) =
-        subst (QuotedIs _ _ _) c.in-Holds.is c.read_value.ensures in
+    subst (QuotedIs _ _ _) c.in-Holds.is c.read_value.ensures in
     let far : c.loop-at.at ≤ c.in-Holds.end = omega (arith, value.places, c.span_end-name_end.ensures.onward, c.skip_white-name.ensures.low) in
     let q = value in let i = c.loop-at.invariant in
     let named = attribute-at _ _ _ _ c.skip_white-name.ensures c.span_end-name_end.ensures c.if-name_end-name.false _ _ q in (

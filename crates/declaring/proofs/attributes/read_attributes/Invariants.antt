@@ -1,16 +1,8 @@
 -- declaring::attributes::read_attributes: the attributes of a tag: what is noted so far, and what is gathered from here on, is the whole.
-use Prim.Native.Nat.{◌-◌, ◌≤◌, ℕ}
-use Rattle.declaring.proofs.attributes.Tallies.{Going, attribute-at, attribute-broken, comes-nameless, comes-not, comes-yes, going-broken, going_more, going_start, going-stop, tally-in}
-use Rattle.declaring.specs.Readers.{AttributesIs, QuotedIs, TallyIn, assigned}
-use Rattle.declaring.specs.declared.attributes.Attributes.TheVariants.{Tallied}
-use Rattle.declaring.specs.declared.attributes.Quoted.TheVariants.{Holds}
-use Rattle.fields.specs.Fields.{attribute_comes}
-use borrow.Author.Rules.{rules}
-use lib.ListN.{drop, length}
-use mathlib.Core.Bool.{false, true}
-use mathlib.Core.List.{List}
-use mathlib.Core.Path.{◌≡◌, subst}
-use native.Mathlib.Omega.{arith}
+use Prim.Native.Nat.{◌-◌, ◌≤◌}
+use Rattle.declaring.proofs.attributes.Tallies.{Going}
+use Rattle.declaring.specs.Readers.{TallyIn}
+use lib.ListN.{length}
 use Rattle.declaring.proofs.attributes.read_attributes.Given as goal
 
 abbrev pub invariant-loop-at : goal.invariant-loop-at

@@ -1,7 +1,5 @@
 -- declaring::attributes::read_quoted: a value in its quotes: the span of its bytes ends at the quote, or there is none.
 use Rattle.declaring.proofs.spans.Scan.{quoted-less, quoted-none, quoted-open, quoted-yes}
-use borrow.Author.Rules.{rules}
-use borrow.Author.Tests.{not-false, not-true}
 use mathlib.Core.Path.{◌∙◌, sym}
 use Rattle.declaring.proofs.attributes.read_quoted.Goals as goal
 

@@ -1,7 +1,6 @@
 -- declaring::attributes::read_value: `=` and the value behind it, with white space around the `=`.
 use Rattle.declaring.proofs.spans.Scan.{assigned-at, assigned-none, assigned-not}
 use Rattle.text.specs.Clauses.{TagIs}
-use borrow.Author.Rules.{rules}
 use mathlib.Core.Path.{subst}
 use Rattle.declaring.proofs.attributes.read_value.Goals as goal
 

@@ -1,6 +1,5 @@
 -- declaring::attributes::with_attribute: the tally after an attribute: each name that counts is compared with the attribute's.
 use Rattle.declaring.specs.Readers.{with_attribute}
-use borrow.Author.Rules.{rules}
 use Rattle.declaring.proofs.attributes.with_attribute.Goals as goal
 
 pub returns : goal.returns

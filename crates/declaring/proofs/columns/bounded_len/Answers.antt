@@ -1,7 +1,6 @@
 -- declaring::columns::bounded_len: a bounded length, or none where nothing stands before the `*`.
 use Rattle.declaring.proofs.columns.Numerals.{bounded-none, bounded-some}
 use Rattle.declaring.specs.Readers.{length_read}
-use borrow.Author.Rules.{rules}
 use mathlib.Core.Path.{◌∙◌, ap}
 use Rattle.declaring.proofs.columns.bounded_len.Goals as goal
 

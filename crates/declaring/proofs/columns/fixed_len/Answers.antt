@@ -1,6 +1,5 @@
 -- declaring::columns::fixed_len: a fixed length.
 use Rattle.declaring.specs.Readers.{fixed_len, length_read}
-use borrow.Author.Rules.{rules}
 use mathlib.Core.Path.{◌∙◌, ap}
 use Rattle.declaring.proofs.columns.fixed_len.Goals as goal
 

@@ -4,7 +4,6 @@ use Rattle.fields.specs.Fields.{judge}
 use Rattle.table.specs.Cell.{column_of, is_scalar}
 use Rattle.table.specs.Result.{good}
 use Rattle.table.specs.declared.Null.TheVariants.{Undeclared}
-use borrow.Author.Rules.{rules}
 use mathlib.Core.Path.{◌∙◌, ◌≡◌, ap, sym}
 use native.Mathlib.Omega.{arith}
 use Rattle.declaring.proofs.columns.judge.Goals as goal

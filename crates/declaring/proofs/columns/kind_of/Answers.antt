@@ -4,7 +4,6 @@ use Rattle.fields.specs.Fields.{kind_of, kinds}
 use Rattle.table.specs.Bytes.{same}
 use Rattle.table.specs.Result.{bad, good}
 use Rattle.table.specs.declared.Kind.{Kind}
-use borrow.Author.Rules.{rules}
 use lib.ListN.{drop}
 use mathlib.Core.Bool.{Bool, false, true}
 use mathlib.Core.List.{List, ◌∷◌}
@@ -15,6 +14,7 @@ module _ (k : List ℕ × Kind) (ks : List (List ℕ × Kind)) (t : List ℕ) (i
   met : is ≡ true → kind_of (k ∷ ks) t ≡ good k.1
   unfolding kind_of
   met h = rw (sym e ∙ h)
+
   not-met : is ≡ false → kind_of (k ∷ ks) t ≡ kind_of ks t
   unfolding kind_of
   not-met h = rw (sym e ∙ h)

@@ -3,7 +3,6 @@ use Prim.Native.Nat.{◌-◌}
 use Rattle.declaring.proofs.columns.Numerals.{length_none, star-no, star-none, star-yes}
 use Rattle.declaring.specs.Readers.{fixed_len}
 use Rattle.fields.specs.Fields.{len_before}
-use borrow.Author.Rules.{rules}
 use lib.ListN.{length, length-take}
 use native.Mathlib.Omega.{arith}
 use Rattle.declaring.proofs.columns.len_of.Goals as goal

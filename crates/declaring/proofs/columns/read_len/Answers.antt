@@ -1,7 +1,6 @@
 -- declaring::columns::read_len: the length of a column: no arraysize is `1`.
 use Rattle.declaring.specs.Readers.{ValueIn, as_written}
 use Rattle.fields.specs.Fields.{len_of}
-use borrow.Author.Rules.{rules}
 use mathlib.Core.Path.{◌∙◌, ap, subst}
 use native.Mathlib.Omega.{arith}
 use Rattle.declaring.specs.declared.attributes.Value.{Value}

@@ -3,7 +3,6 @@ use Rattle.table.specs.Shape.{shape}
 use Rattle.declaring.proofs.columns.Nulls.{array-null, scalar-null}
 use Rattle.declaring.specs.Readers.{ValueIn, as_written}
 use Rattle.fields.specs.Fields.{null_of}
-use borrow.Author.Rules.{rules}
 use mathlib.Core.Path.{◌∙◌, ap, subst}
 use native.Mathlib.Omega.{arith}
 use Rattle.declaring.specs.declared.attributes.Value.{Value}

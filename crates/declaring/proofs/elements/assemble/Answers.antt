@@ -1,6 +1,5 @@
 -- declaring::elements::assemble: a FIELD's datatype stands once, its arraysize at most once: by the cases of how often they were met.
 use Rattle.declaring.proofs.elements.Tags.{assembled-is}
-use borrow.Author.Rules.{rules}
 use mathlib.Core.Path.{refl}
 use Rattle.declaring.proofs.elements.assemble.Goals as goal
 

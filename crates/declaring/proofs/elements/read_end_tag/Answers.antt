@@ -1,7 +1,6 @@
 -- declaring::elements::read_end_tag: the tag behind white space, and the value that was held before it.
 use Rattle.declaring.proofs.elements.Tags.{end-tag-no, end-tag-yes}
 use Rattle.text.specs.Clauses.{TagIs}
-use borrow.Author.Rules.{rules}
 use mathlib.Core.Path.{subst}
 use Rattle.declaring.proofs.elements.read_end_tag.Goals as goal
 

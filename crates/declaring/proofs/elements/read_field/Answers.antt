@@ -2,7 +2,6 @@
 use Rattle.declaring.proofs.elements.Tags.{field_at, field-attributes-broken, field-not, field_open}
 use Rattle.declaring.specs.Readers.{AttributesIs, BodyIs}
 use Rattle.text.specs.Clauses.{TagIs}
-use borrow.Author.Rules.{rules}
 use mathlib.Core.Path.{subst}
 use Rattle.declaring.proofs.elements.read_field.Goals as goal
 

@@ -1,7 +1,6 @@
 -- declaring::elements::read_rest: what stands behind the attributes of a FIELD: `/>`, or `>` and a body.
 use Rattle.declaring.proofs.elements.Tags.{rest-body, rest-broken, rest-empty}
 use Rattle.text.specs.Clauses.{TagIs}
-use borrow.Author.Rules.{rules}
 use mathlib.Core.Path.{subst}
 use Rattle.declaring.proofs.elements.read_rest.Goals as goal
 

@@ -2,7 +2,6 @@
 use Rattle.declaring.proofs.elements.Tags.{values-at, values-broken, values-open}
 use Rattle.declaring.specs.Readers.{AttributesIs}
 use Rattle.text.specs.Clauses.{TagIs}
-use borrow.Author.Rules.{rules}
 use mathlib.Core.Path.{subst}
 use Rattle.declaring.proofs.elements.read_values.Goals as goal
 

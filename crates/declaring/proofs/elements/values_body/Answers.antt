@@ -1,6 +1,5 @@
 -- declaring::elements::values_body: a null value that stands once or not at all: by the cases of how often it was met.
 use Rattle.declaring.proofs.elements.Tags.{values-body-is}
-use borrow.Author.Rules.{rules}
 use Rattle.declaring.proofs.elements.values_body.Goals as goal
 
 pub returns-in-Never : goal.returns-in-Never

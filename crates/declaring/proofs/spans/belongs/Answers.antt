@@ -1,6 +1,5 @@
 -- declaring::spans::belongs: by the cases of the class.
 use Rattle.declaring.proofs.spans.NameBytes.{class-is, quote-no, quote-other}
-use borrow.Author.Rules.{rules}
 use mathlib.Core.Path.{◌∙◌}
 use Rattle.declaring.proofs.spans.belongs.Goals as goal
 

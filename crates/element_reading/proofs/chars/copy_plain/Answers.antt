@@ -5,9 +5,7 @@ use native.Mathlib.Omega.{arith}
 use mathlib.Core.Bool.{true}
 use mathlib.Core.List.{append-nil}
 use mathlib.Core.Path.{◌∙◌, ◌≡◌, refl, sym}
-use lib.ListN.{drop, get_or, length, length-set, take}
-use borrow.Author.Rules.{rules}
-use borrow.Author.Tests.{not-false}
+use lib.ListN.{drop, get_or, length-set, take}
 use mir.Facts.{to_z-of_z}
 use mir.Syntax.{w64}
 use Rattle.tabledata.proofs.Characters.{plain-is}
@@ -15,7 +13,6 @@ use Rattle.tabledata.specs.Clauses.{is_plain}
 use Rattle.character_reading.proofs.characters.Laws.{take_more}
 use Rattle.element_reading.proofs.Passing.{passed_none, passed-plain, passed_then}
 use Rattle.element_reading.proofs.chars.Laws.{stored-char, text-more, text-none}
-use Rattle.element_reading.specs.Elements.{Copied}
 use Rattle.element_reading.proofs.chars.copy_plain.Goals as goal
 
 pub loop-i-init : goal.loop-i-init

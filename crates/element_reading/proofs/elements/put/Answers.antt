@@ -1,7 +1,6 @@
 -- `element_reading::elements::put` meets its contract: a place beyond the scratch sets nothing.
 use mathlib.Core.Path.{sym}
 use lib.Seq.{set_out}
-use borrow.Author.Rules.{rules}
 use Rattle.element_reading.proofs.elements.put.Goals as goal
 
 pub returns-else-count-scratch : goal.returns-else-count-scratch

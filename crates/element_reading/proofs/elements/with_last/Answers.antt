@@ -1,7 +1,6 @@
 -- `element_reading::elements::with_last` meets its contract: the number of the first bad element judges.
 use Prim.Native.Nat.{ℕ}
 use mathlib.Core.Path.{◌∙◌, ap}
-use borrow.Author.Rules.{rules}
 use Rattle.element_reading.specs.Words.{judged_as}
 use Rattle.element_reading.proofs.elements.with_last.Goals as goal
 

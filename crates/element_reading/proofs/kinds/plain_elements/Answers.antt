@@ -1,6 +1,5 @@
 -- `element_reading::kinds::plain_elements` meets its contract: the part is read from its first byte on.
 use mathlib.Core.Path.{subst}
-use borrow.Author.Rules.{rules}
 use Rattle.element_reading.proofs.kinds.Laws.{part-counted, part-refused}
 use Rattle.element_reading.specs.Elements.{TakesElements}
 use Rattle.element_reading.proofs.kinds.plain_elements.Goals as goal

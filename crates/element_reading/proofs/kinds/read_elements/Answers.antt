@@ -1,6 +1,5 @@
 -- `element_reading::kinds::read_elements` meets its contract: by what the elements of the kind are.
 use mathlib.Core.Path.{◌≡◌}
-use borrow.Author.Rules.{rules}
 use Rattle.number.proofs.Laws.{shape_of}
 use Rattle.number.specs.Clauses.{shape_as}
 use Rattle.number.specs.declared.Elements.{Elements}

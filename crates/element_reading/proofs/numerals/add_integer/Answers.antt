@@ -7,7 +7,6 @@ use lib.Dec.{lit≤}
 use lib.IntN.{ℤ}
 use lib.ListN.{length, length-set}
 use borrow.Author.Rules.{rules}
-use borrow.Author.Tests.{not-false, not-true}
 use Rattle.number.specs.Clauses.{is_signed, size}
 use Rattle.number.specs.Number.{Fault}
 use Rattle.table.specs.Bytes.{not_empty}
@@ -38,7 +37,7 @@ unfolding fault_number
 returns-in-Outside c =
     let begun : (w : List ℕ) → c.args.word ≡ feed fresh w → begun_form (feed fresh w).form ≡ c.is_begun.result = λ w e. ap (λ (x : Word). begun_form x.form) (sym e) ∙ sym c.is_begun.ensures in
     let read_word : (w : List ℕ) (r : Result Fault ℤ) → c.args.word ≡ feed fresh w → reading_of c.read.result ≡ r → let k = c.args.kind in
-        every (integer_word (is_signed k) (size k)) (not_empty (w ∷ [])) ≡ (refused_as fault_number r >>= λ e. good (e ∷ [])) = λ w r e q. (let k = c.args.kind in
+    every (integer_word (is_signed k) (size k)) (not_empty (w ∷ [])) ≡ (refused_as fault_number r >>= λ e. good (e ∷ [])) = λ w r e q. (let k = c.args.kind in
     let some = fed-some w (begun w e ∙ c.if-not-is_begun.false) in
     added-word (integer_word (is_signed k) (size k)) w _ some (integer-as k w r (ap (reading k) (sym e) ∙ sym c.read.ensures ∙ q))) in
     record { found = λ w e. rw (read_word w _ e (ap reading_of c.in-Outside.is)) (is-refused refl (lit≤ tt)); most = omega arith; long = refl }
@@ -48,7 +47,7 @@ unfolding fault_number
 returns-in-Unwritten c =
     let begun : (w : List ℕ) → c.args.word ≡ feed fresh w → begun_form (feed fresh w).form ≡ c.is_begun.result = λ w e. ap (λ (x : Word). begun_form x.form) (sym e) ∙ sym c.is_begun.ensures in
     let read_word : (w : List ℕ) (r : Result Fault ℤ) → c.args.word ≡ feed fresh w → reading_of c.read.result ≡ r → let k = c.args.kind in
-        every (integer_word (is_signed k) (size k)) (not_empty (w ∷ [])) ≡ (refused_as fault_number r >>= λ e. good (e ∷ [])) = λ w r e q. (let k = c.args.kind in
+    every (integer_word (is_signed k) (size k)) (not_empty (w ∷ [])) ≡ (refused_as fault_number r >>= λ e. good (e ∷ [])) = λ w r e q. (let k = c.args.kind in
     let some = fed-some w (begun w e ∙ c.if-not-is_begun.false) in
     added-word (integer_word (is_signed k) (size k)) w _ some (integer-as k w r (ap (reading k) (sym e) ∙ sym c.read.ensures ∙ q))) in
     record { found = λ w e. rw (read_word w _ e (ap reading_of c.in-Unwritten.is)) (is-refused refl (lit≤ tt)); most = omega arith; long = refl }
@@ -57,7 +56,7 @@ pub returns-in-Value : goal.returns-in-Value
 returns-in-Value c =
     let begun : (w : List ℕ) → c.args.word ≡ feed fresh w → begun_form (feed fresh w).form ≡ c.is_begun.result = λ w e. ap (λ (x : Word). begun_form x.form) (sym e) ∙ sym c.is_begun.ensures in
     let read_word : (w : List ℕ) (r : Result Fault ℤ) → c.args.word ≡ feed fresh w → reading_of c.read.result ≡ r → let k = c.args.kind in
-        every (integer_word (is_signed k) (size k)) (not_empty (w ∷ [])) ≡ (refused_as fault_number r >>= λ e. good (e ∷ [])) = λ w r e q. (let k = c.args.kind in
+    every (integer_word (is_signed k) (size k)) (not_empty (w ∷ [])) ≡ (refused_as fault_number r >>= λ e. good (e ∷ [])) = λ w r e q. (let k = c.args.kind in
     let some = fed-some w (begun w e ∙ c.if-not-is_begun.false) in
     added-word (integer_word (is_signed k) (size k)) w _ some (integer-as k w r (ap (reading k) (sym e) ∙ sym c.read.ensures ∙ q))) in
     record {

@@ -1,5 +1,4 @@
 -- `element_reading::numerals::ends_at` meets its contract: a bare end tag ends a cell, the last byte a part.
-use borrow.Author.Rules.{rules}
 use Rattle.character_reading.proofs.characters.Laws.{ends-bare, plain_end}
 use Rattle.element_reading.proofs.numerals.ends_at.Goals as goal
 

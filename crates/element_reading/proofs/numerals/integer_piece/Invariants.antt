@@ -1,14 +1,9 @@
 -- `element_reading::numerals::integer_piece` meets its contract. The invariant: the letters passed over are a word so far, as the
 -- integers' reader has it.
 use Prim.Native.Nat.{◌-◌}
-use native.Mathlib.Omega.{arith}
-use mathlib.Core.Path.{◌∙◌, ◌≡◌, subst, sym}
-use lib.ListN.{drop, length}
-use borrow.Author.Rules.{rules}
-use Rattle.element_reading.proofs.Passing.{WordTo, word-broken, word-cuts, word-ends, word_more, word_none}
-use Rattle.element_reading.proofs.numerals.Laws.{fed-letter, feed-start}
-use Rattle.character_reading.specs.Characters.{ItemIs, characters_of}
-use Rattle.character_reading.specs.declared.characters.Item.TheVariants.{Code}
+use mathlib.Core.Path.{◌≡◌}
+use lib.ListN.{length}
+use Rattle.element_reading.proofs.Passing.{WordTo}
 use Rattle.words.specs.Words.{feed, fresh}
 use Rattle.element_reading.proofs.numerals.integer_piece.Given as goal
 

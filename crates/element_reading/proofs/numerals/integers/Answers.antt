@@ -1,13 +1,10 @@
 -- `element_reading::numerals::integers` meets its contract. The invariant: the words passed over are the elements so far, or
 -- the first bad one has the number that is held; a word read at once adds its one element.
-use Prim.Native.Nat.{◌-◌}
 use native.Mathlib.Omega.{arith}
 use mathlib.Core.Path.{◌∙◌, ◌≡◌, ap, subst, sym}
 use lib.ListN.{length, length-set}
 use borrow.Author.Rules.{rules}
-use Rattle.number.specs.Clauses.{is_signed, size}
-use Rattle.tabledata.specs.TableData.{integer_word}
-use Rattle.element_reading.proofs.Words.{WordsTo, none-bad, word_cut, word-last, words-broken, words-start}
+use Rattle.element_reading.proofs.Words.{none-bad, word_cut, word-last, words-broken, words-start}
 use Rattle.element_reading.proofs.numerals.Laws.{integers-are, quick-adds, whole}
 use Rattle.element_reading.specs.Words.{CutAt, LastAt, NumeralIs, QuickWordIs, WordOf}
 use Rattle.words.specs.Words.{feed, fresh}
@@ -67,7 +64,7 @@ shape_of-scratch-in-Last-integer_piece c =
 pub returns-in-Last-integer_piece : goal.returns-in-Last-integer_piece
 returns-in-Last-integer_piece c =
     let last : LastAt (λ w. c.in-Last-integer_piece.word ≡ feed fresh w) c.args.source c.args.s.now c.loop-z.i c.in-Last-integer_piece.next =
-        (subst (NumeralIs _ _ _) c.in-Last-integer_piece.is c.integer_piece.ensures).found in
+    (subst (NumeralIs _ _ _) c.in-Last-integer_piece.is c.integer_piece.ensures).found in
     word-last _ (integers-are c.args.kind) c.loop-z.invariant c.add_integer.ensures last c.with_last.ensures
 
 pub add_integer-added-requires : goal.add_integer-added-requires
@@ -76,11 +73,11 @@ add_integer-added-requires c = let r = c.loop-z.invariant in omega (arith, r.few
 pub loop-z-smaller : goal.loop-z-smaller
 loop-z-smaller c =
     let cut : CutAt (λ w. c.in-Cut-integer_piece.word ≡ feed fresh w) c.args.source c.args.s.now c.loop-z.i c.in-Cut-integer_piece.next =
-        (subst (NumeralIs _ _ _) c.in-Cut-integer_piece.is c.integer_piece.ensures).found in
+    (subst (NumeralIs _ _ _) c.in-Cut-integer_piece.is c.integer_piece.ensures).found in
     let u = cut in omega (arith, u.low, u.high)
 
 pub loop-z-preserved : goal.loop-z-preserved
 loop-z-preserved c =
     let cut : CutAt (λ w. c.in-Cut-integer_piece.word ≡ feed fresh w) c.args.source c.args.s.now c.loop-z.i c.in-Cut-integer_piece.next =
-        (subst (NumeralIs _ _ _) c.in-Cut-integer_piece.is c.integer_piece.ensures).found in
+    (subst (NumeralIs _ _ _) c.in-Cut-integer_piece.is c.integer_piece.ensures).found in
     word_cut _ (integers-are c.args.kind) c.loop-z.invariant c.add_integer-added.ensures cut c.first_bad-number.ensures

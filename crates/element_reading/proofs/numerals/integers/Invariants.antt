@@ -1,16 +1,10 @@
 -- `element_reading::numerals::integers` meets its contract. The invariant: the words passed over are the elements so far, or
 -- the first bad one has the number that is held; a word read at once adds its one element.
 use Prim.Native.Nat.{◌-◌}
-use native.Mathlib.Omega.{arith}
-use mathlib.Core.Path.{◌∙◌, ◌≡◌, ap, subst, sym}
-use lib.ListN.{length, length-set}
-use borrow.Author.Rules.{rules}
+use lib.ListN.{length}
 use Rattle.number.specs.Clauses.{is_signed, size}
 use Rattle.tabledata.specs.TableData.{integer_word}
-use Rattle.element_reading.proofs.Words.{WordsTo, none-bad, word_cut, word-last, words-broken, words-start}
-use Rattle.element_reading.proofs.numerals.Laws.{integers-are, quick-adds, whole}
-use Rattle.element_reading.specs.Words.{CutAt, LastAt, NumeralIs, QuickWordIs, WordOf}
-use Rattle.words.specs.Words.{feed, fresh}
+use Rattle.element_reading.proofs.Words.{WordsTo}
 use Rattle.element_reading.proofs.numerals.integers.Given as goal
 
 abbrev pub invariant-loop-z : goal.invariant-loop-z

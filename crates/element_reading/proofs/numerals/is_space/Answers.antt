@@ -1,7 +1,6 @@
 -- `element_reading::numerals::is_space` meets its contract: no place behind the end is that of a space.
 use native.Mathlib.Omega.{arith}
 use lib.ListN.{length}
-use borrow.Author.Rules.{rules}
 use borrow.Author.Tests.{le-ltb, lt-ltb}
 use Rattle.element_reading.proofs.numerals.is_space.Goals as goal
 

@@ -1,7 +1,6 @@
 -- `element_reading::numerals::letter_of` meets its contract: by its test.
 use native.Mathlib.Omega.{arith}
 use mathlib.Core.Path.{sym}
-use borrow.Author.Rules.{rules}
 use Rattle.element_reading.proofs.numerals.Laws.{letter-low, letter-none}
 use Rattle.element_reading.proofs.numerals.letter_of.Goals as goal
 

@@ -5,7 +5,6 @@ use mathlib.Core.List.{List, [], append-nil}
 use mathlib.Core.Path.{◌∙◌, ◌≡◌, ap, refl, sym}
 use lib.Dec.{lit≤}
 use lib.ListN.{length, length-set}
-use borrow.Author.Rules.{rules}
 use mir.Facts.{to_z-of_z}
 use mir.Syntax.{w64}
 use Rattle.tabledata.specs.TableData.{truth_word}
@@ -26,7 +25,7 @@ returns-then-word-eq1 c = record {
 pub returns-then-x-eq3 : goal.returns-then-x-eq3
 returns-then-x-eq3 c =
     let some_word : (w : List ℕ) → c.args.word ≡ spelling w → truth_word w ≡ truth_as c.truth_of-x.result =
-        λ w e. truth-value w (spelling-some w (λ n. c.if-word-eq1.false (e ∙ n))) ∙ ap truth_as (ap truth_number (sym e) ∙ sym c.truth_of-x.ensures) in
+    λ w e. truth-value w (spelling-some w (λ n. c.if-word-eq1.false (e ∙ n))) ∙ ap truth_as (ap truth_number (sym e) ∙ sym c.truth_of-x.ensures) in
     record {
       found = λ w e.
           rw (added-word truth_word w _ (spelling-some w (λ n. c.if-word-eq1.false (e ∙ n))) (some_word w e ∙ truth-none _ c.if-x-eq3.true))
@@ -38,7 +37,7 @@ returns-then-x-eq3 c =
 pub returns : goal.returns
 returns c =
     let some_word : (w : List ℕ) → c.args.word ≡ spelling w → truth_word w ≡ truth_as c.truth_of-x.result =
-        λ w e. truth-value w (spelling-some w (λ n. c.if-word-eq1.false (e ∙ n))) ∙ ap truth_as (ap truth_number (sym e) ∙ sym c.truth_of-x.ensures) in
+    λ w e. truth-value w (spelling-some w (λ n. c.if-word-eq1.false (e ∙ n))) ∙ ap truth_as (ap truth_number (sym e) ∙ sym c.truth_of-x.ensures) in
     let stored = to_z-of_z {w = w64} (record { sfits = c.as_element.type_inv }) ∙ c.as_element.ensures in
     record {
       found = λ w e.

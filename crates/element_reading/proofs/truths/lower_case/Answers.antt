@@ -1,7 +1,6 @@
 -- `element_reading::truths::lower_case` meets its contract: the two sides of the capitals, and between them 32 more.
 use native.Mathlib.Omega.{arith}
 use mathlib.Core.Path.{sym}
-use borrow.Author.Rules.{rules}
 use Rattle.element_reading.proofs.truths.Laws.{lower-not, lower-yes}
 use Rattle.element_reading.proofs.truths.lower_case.Goals as goal
 

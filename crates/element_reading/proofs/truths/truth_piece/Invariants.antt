@@ -1,15 +1,10 @@
 -- `element_reading::truths::truth_piece` meets its contract. The invariant: the letters passed over are a word so far, spelled as the
 -- number that is held.
 use Prim.Native.Nat.{◌-◌}
-use native.Mathlib.Omega.{arith}
-use mathlib.Core.Path.{◌∙◌, ◌≡◌, refl, subst, sym}
-use lib.ListN.{drop, length}
-use borrow.Author.Rules.{rules}
-use Rattle.element_reading.proofs.Passing.{WordTo, word-broken, word-cuts, word-ends, word_more, word_none}
-use Rattle.element_reading.proofs.truths.Laws.{spelling-more}
-use Rattle.character_reading.specs.Characters.{ItemIs, characters_of}
-use Rattle.element_reading.specs.Words.{spelled, spelling}
-use Rattle.character_reading.specs.declared.characters.Item.TheVariants.{Code}
+use mathlib.Core.Path.{◌≡◌}
+use lib.ListN.{length}
+use Rattle.element_reading.proofs.Passing.{WordTo}
+use Rattle.element_reading.specs.Words.{spelling}
 use Rattle.element_reading.proofs.truths.truth_piece.Given as goal
 
 abbrev pub invariant-loop-next : goal.invariant-loop-next

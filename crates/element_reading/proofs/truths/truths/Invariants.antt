@@ -1,15 +1,9 @@
 -- `element_reading::truths::truths` meets its contract. The invariant: the words passed over are the elements so far, or the
 -- first bad one has the number that is held.
 use Prim.Native.Nat.{◌-◌}
-use native.Mathlib.Omega.{arith}
-use mathlib.Core.Path.{◌∙◌, ◌≡◌, subst}
 use lib.ListN.{length}
-use borrow.Author.Rules.{rules}
-use Rattle.table.specs.Shape.{Truths}
 use Rattle.tabledata.specs.TableData.{truth_word}
-use Rattle.element_reading.proofs.Words.{WordsTo, word_cut, word-last, words-broken, words-start}
-use Rattle.element_reading.proofs.truths.Laws.{truths-are}
-use Rattle.element_reading.specs.Words.{CutAt, LastAt, PieceIs, spelling}
+use Rattle.element_reading.proofs.Words.{WordsTo}
 use Rattle.element_reading.proofs.truths.truths.Given as goal
 
 abbrev pub invariant-loop-word : goal.invariant-loop-word

@@ -2,7 +2,6 @@
 use Prim.Native.Nat.{◌*◌, ◌+◌, ℕ}
 use native.Mathlib.Omega.{arith}
 use mathlib.Core.Path.{◌∙◌, ap, sym}
-use borrow.Author.Rules.{rules}
 use Rattle.element_reading.proofs.truths.Laws.{spell_high, spell-low, spell-wide}
 use Rattle.element_reading.proofs.truths.with_letter.Goals as goal
 

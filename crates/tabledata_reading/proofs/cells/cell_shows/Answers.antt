@@ -4,8 +4,6 @@ use native.Mathlib.Omega.{arith}
 use mathlib.Core.Bool.{true}
 use mathlib.Core.Path.{◌∙◌, ◌≡◌, refl, sym}
 use lib.ListN.{length, take}
-use borrow.Author.Rules.{rules}
-use borrow.Author.Tests.{not-false, not-true}
 use Rattle.table.specs.Cell.{bound, is_null_list, stands_for_null}
 use Rattle.tabledata_reading.proofs.cells.Laws.{room-few, shown-none, shown-not, shown-null, shown-some}
 use Rattle.tabledata_reading.specs.Cells.{room_and}

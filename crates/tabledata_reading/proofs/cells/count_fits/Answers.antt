@@ -1,6 +1,5 @@
 -- `tabledata_reading::cells::count_fits` meets its contract, by the shape of the length.
 use mathlib.Core.Path.{◌∙◌, sym}
-use borrow.Author.Rules.{rules}
 use Rattle.tabledata_reading.proofs.cells.Laws.{room-own}
 use Rattle.tabledata_reading.specs.Cells.{room_and}
 use Rattle.tabledata_reading.proofs.cells.count_fits.Goals as goal

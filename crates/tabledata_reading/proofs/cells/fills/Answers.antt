@@ -1,6 +1,5 @@
 -- `tabledata_reading::cells::fills` meets its contract: char alone may be shorter.
 use mathlib.Core.Path.{◌∙◌, sym}
-use borrow.Author.Rules.{rules}
 use Rattle.table.specs.Cell.{room_fits}
 use Rattle.tabledata_reading.proofs.cells.fills.Goals as goal
 

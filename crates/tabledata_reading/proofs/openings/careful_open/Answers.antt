@@ -1,7 +1,6 @@
 -- `tabledata_reading::openings::careful_open` meets its contract: `<TD`, then `/>` or `>`, each after white space.
 use mathlib.Core.Path.{subst}
 use lib.ListN.{drop}
-use borrow.Author.Rules.{rules}
 use Rattle.table.specs.Bytes.{bytes, ends}
 use Rattle.tabledata_reading.proofs.openings.Laws.{cell-content, cell-empty, cell-no-end, cell-no-tag}
 use Rattle.text.specs.Clauses.{TagIs}

@@ -1,6 +1,5 @@
 -- `tabledata_reading::openings::open_cell` meets its contract: a bare `<TD>`, or the careful way.
 use mathlib.Core.Path.{subst}
-use borrow.Author.Rules.{rules}
 use Rattle.tabledata_reading.proofs.openings.Laws.{quick-start}
 use Rattle.text.specs.Clauses.{TagIs}
 use Rattle.tabledata_reading.proofs.openings.open_cell.Goals as goal

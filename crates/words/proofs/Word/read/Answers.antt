@@ -2,7 +2,6 @@
 use mathlib.Core.Path.{◌∙◌, ap, sym}
 use Rattle.words.specs.Words.{reading, reading_from}
 use Rattle.words.specs.declared.Form.{Form}
-use borrow.Author.Rules.{rules}
 use Rattle.words.proofs.Word.read.Goals as goal
 
 pub returns-in-Start : goal.returns-in-Start
