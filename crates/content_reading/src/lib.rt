@@ -14,6 +14,8 @@ ghost use Rattle.table.specs.Shape.{Bits, Text, Truths, W1, Whole, shape};
 ghost use Rattle.tabledata.specs.Clauses.{is_plain};
 
 use eights::{copy_wide, first_of};
+// Integers stand in a crate of their own; who reads a text's content still finds them here.
+pub use integer_reading::text_integer;
 use integer_reading::{array_integer, leading_figures, three_at};
 use integers::{eight_bytes, four_bytes, write_integer};
 use moving::{Content, One};
