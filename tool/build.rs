@@ -194,7 +194,7 @@ fn prove(root: &Path) {
         return;
     }
     say_at_the_terminal(
-        "sailmortar: proving the converter (rt lib in crates/sailmortar_c): an hour or more where nothing of it is proved yet, less where some is",
+        "sailmortar: proving the converter (rt lib in crates/sailmortar_c): long where nothing of it is proved yet, less where some is",
     );
     // `rt all check` proves the crates below this one side by side and `rt lib` one after the other.
     ask_rt(&folder, Command::new("rt").args(["all", "check"]));

@@ -397,8 +397,6 @@ class Helper:
         elif self.implicit:
             params = params[:1] + ["_"] * self.implicit + params[1:]
         # one name for the place
-        for text_name in ("signature", "body"):
-            pass
         other = params[0]
         if other != root:
             body = re.sub(r"(?<![\w'.-])" + re.escape(other) + r"(?![\w'₀-₉-])", root, body)
@@ -470,8 +468,6 @@ def in_the_call(f, text):
             if m:
                 found.append((needs[first + k - left], m.group(1), m.group(2)))
                 continue
-        if k - left <= last - first and right - left > last - first:
-            pass
         f.warnings.append(f"an answer in the call has no goal: {a[:150]}")
     return found
 
