@@ -1,17 +1,14 @@
 -- Bytes at a place of a text: numbers read one after the other are one number, and so are numbers stored.
-use Prim.Native.Nat.{◌%◌, ◌*◌, ◌+◌, ◌-◌, ◌/◌, ◌<◌, ◌^◌, ◌≤◌, suc, zero, ℕ}
-use native.Mathlib.Nat.{div-one, le-add_right, pow-zero}
+use Prim.Native.Nat.{◌%◌, ◌*◌, ◌+◌, ◌/◌, ◌<◌, ◌^◌, ◌≤◌, suc, zero, ℕ}
+use native.Mathlib.Nat.{div-one, pow-zero}
 use native.Mathlib.Omega.{arith}
-use mathlib.Core.List.{List, [], ◌++◌, ◌∷◌, append_assoc}
+use mathlib.Core.List.{List, [], ◌++◌, ◌∷◌}
 use mathlib.Core.Path.{◌∙◌, ◌≡◌, ap, ap₂, refl, sym}
-use borrow.Rule.Slice.PartMut.{Post-is, put_mid}
 use lib.ListN.{drop, get_or, length, length-drop, take}
 use lib.Seq.{drop-cons, drop-drop, get_or-drop, length-take-le, take-add, take-suc}
-use Rattle.std.proofs.lemmas.List.Edits.{sets-eq}
 use Rattle.std.specs.Int.{bytes_high_first}
 use Rattle.number.proofs.Laws.{of-append, of-from}
 use Rattle.number.specs.Number.{of_digits, to_digits}
-use Rattle.table.specs.Wrote.{Wrote}
 
 -- ---- numbers one after the other
 
@@ -52,15 +49,3 @@ unfolding to_digits
 high_first zero n = refl
 high_first (suc zero) n = rw (pow-zero, div-one)
 high_first (suc (suc w)) n = ap (λ (ds : List ℕ). n / 256 ^ suc w % 256 ∷ ds) (high_first (suc w) n)
-
--- a part of a buffer in which bytes were copied: they were stored one after the other
-pub copied : (l : List ℕ) (at : ℕ) (bytes part : List ℕ) → part ≡ bytes → at + length bytes ≤ length l
-    → Wrote l at bytes (put_mid at (at + length bytes - at) l part) (at + length bytes)
-copied l at bytes part e h = record {
-  now-is =
-      ap (put_mid at (at + length bytes - at) l) e
-      ∙ ap (λ (rest : List ℕ). take at l ++ (bytes ++ rest)) (Post-is at (at + length bytes) l (le-add_right at (length bytes)))
-      ∙ sym (append_assoc (take at l) bytes (drop (at + length bytes) l))
-      ∙ sym (sets-eq bytes l at h);
-  next-is = refl;
-}

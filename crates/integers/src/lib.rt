@@ -61,6 +61,7 @@ pub fn read_integer(s: &[u8], at: usize, kind: Integer) -> i64
 
 // ---- numbers into big-endian bytes; each function gives the place after them
 
+// (`text` has this too, but neither crate stands on the other.)
 fn put_bytes(out: &mut [u8], at: usize, bytes: &[u8]) -> usize
     requires { at + length bytes.now ≤ length out.old }
     ensures { Wrote out.old at bytes.now out.new result }
