@@ -1,13 +1,12 @@
 -- Encoding, three bytes a turn.
 use Prim.Native.Nat.{◌*◌, ◌+◌, ◌/◌, ◌<◌, ◌≤◌, suc, zero, ℕ}
 use native.Mathlib.Nat.{add_comm, add-zero, suc-mul, zero-mul}
-use native.Mathlib.Numerals.{add-one, towards_suc}
+use native.Mathlib.Numerals.{towards_suc}
 use native.Mathlib.Omega.{arith}
-use mathlib.Core.List.{List, [], ◌++◌, ◌∷◌, append_assoc}
+use mathlib.Core.List.{List, [], ◌∷◌}
 use mathlib.Core.Path.{◌∙◌, ◌≡◌, ap, refl, subst, sym}
-use lib.ListN.{drop, drop_of_length-le, get_or, length, take}
-use lib.Seq.{drop-cons, drop-drop, get_or-drop, length-sets, sets, sets-eq}
-use borrow.Rule.Slice.PartMut.{put_mid}
+use lib.ListN.{drop, get_or, length, take}
+use lib.Seq.{drop-cons, drop-drop, get_or-drop, length-sets, sets}
 use Rattle.std.proofs.lemmas.List.{get_or-take}
 use Rattle.std.specs.Simd.{first_chunks}
 use Rattle.base64_rules.specs.Base64.{encode}
@@ -36,11 +35,14 @@ number-at n m k j s h g =
 
 -- ---- letters stored
 
--- a part that numbers were copied into
-pub stored : (o k : ℕ) (l v : List ℕ) → length v ≡ k → o + k ≤ length l → put_mid o k l v ≡ sets l o v
-stored o k l v e h =
-    ap (λ (z : List ℕ). take o l ++ (v ++ z)) (drop-drop k o l ∙ ap (λ (n : ℕ). drop (o + n) l) (sym e))
-    ∙ sym (append_assoc (take o l) v (drop (o + length v) l)) ∙ sym (sets-eq v l o (omega arith))
+-- four numbers, one by one
+pub four-of : (v : List ℕ) → length v ≡ 4 → get_or v 0 0 ∷ get_or v 1 0 ∷ get_or v 2 0 ∷ get_or v 3 0 ∷ [] ≡ v
+four-of [] h = absurd (omega arith)
+four-of (w ∷ []) h = absurd (omega arith)
+four-of (w ∷ x ∷ []) h = absurd (omega arith)
+four-of (w ∷ x ∷ y ∷ []) h = absurd (omega arith)
+four-of (w ∷ x ∷ y ∷ z ∷ []) h = refl
+four-of (w ∷ x ∷ y ∷ z ∷ a ∷ v) h = absurd (omega arith)
 
 -- ---- what is left, stored from o on, makes the whole
 

@@ -1,14 +1,17 @@
 -- `base64_letters::encoding::put4` meets its contract.
-use mathlib.Core.Path.{◌∙◌, ap}
-use Prim.Native.Nat.{◌+◌, ◌-◌}
-use mathlib.Core.Path.{◌≡◌}
-use borrow.Author.Rules.{rules}
-use lib.ListN.{length}
-use lib.Seq.{sets}
 use native.Mathlib.Omega.{arith}
-use Rattle.base64_letters.proofs.Coding.{stored}
+use native.Mathlib.Numerals.{towards_suc}
+use lib.ListN.{length-set}
 use Rattle.base64_letters.proofs.encoding.put4.Goals as goal
 
+pub bounds-out-o-2 : goal.bounds-out-o-2
+bounds-out-o-2 c = simp length-set (omega arith)
+
+pub bounds-out-o-3 : goal.bounds-out-o-3
+bounds-out-o-3 c = simp length-set (omega arith)
+
+pub bounds-out-o-4 : goal.bounds-out-o-4
+bounds-out-o-4 c = simp length-set (omega arith)
+
 pub returns : goal.returns
-returns c = let n : length c.args.letters ≡ 4 = search rules in let e = c.copy_from_slice.ensures.after in let l = ap length e in
-    stored c.args.o (c.args.o + 4 - c.args.o) c.args.out.now c.copy_from_slice.new.self (omega arith) (omega arith) ∙ ap (sets c.args.out.now c.args.o) e
+returns c = simp towards_suc

@@ -1,7 +1,9 @@
 -- `base64_letters::encoding::write_letters` meets its contract. The invariant: what is left, stored from o on, makes the whole.
 use native.Mathlib.Omega.{arith}
 use borrow.Author.Rules.{rules}
-use Rattle.base64_letters.proofs.Coding.{kept-all, kept-end, kept-turn, none-left, one-left, room4, some-left, two-left}
+use mathlib.Core.Path.{◌∙◌, ap}
+use lib.Seq.{sets}
+use Rattle.base64_letters.proofs.Coding.{four-of, kept-all, kept-end, kept-turn, none-left, one-left, room4, some-left, two-left}
 use Rattle.base64_letters.proofs.encoding.write_letters.Goals as goal
 
 pub loop-a-init : goal.loop-a-init
@@ -11,7 +13,9 @@ pub put4-requires : goal.put4-requires
 put4-requires c = room4 c.loop-a.invariant (omega arith)
 
 pub loop-a-preserved : goal.loop-a-preserved
-loop-a-preserved c = kept-turn c.loop-a.invariant (omega arith) c.as_chunks.ensures.front c.letters_of.ensures c.put4.ensures
+loop-a-preserved c =
+    kept-turn c.loop-a.invariant (omega arith) c.as_chunks.ensures.front c.letters_of.ensures
+    (c.put4.ensures ∙ ap (sets c.loop-a.out c.loop-a.o) (four-of c.letters_of.result (search rules)))
 
 pub put4-requires-in-len1 : goal.put4-requires-in-len1
 put4-requires-in-len1 c =
