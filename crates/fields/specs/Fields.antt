@@ -1,5 +1,5 @@
 -- Declarations: "a subset of XML" in which FIELD elements declare columns. What is not of this shape is refusal 1.
-use Rattle.std.specs.Prelude.{◌+◌, ◌-◌, suc, zero, ℕ, Bool, ◌&&◌, ◌||◌, cond, false, List, [], ◌∷◌, eqb, leb, ltb, length, Option, None, Some}
+use Rattle.std.specs.Prelude.{◌+◌, ◌-◌, suc, zero, ℕ, Bool, ◌&&◌, ◌||◌, cond, false, List, [], ◌∷◌, eqb, leb, ltb, length, Option, None, Some, ℤ}
 use Rattle.number.specs.Number.{digit, numeral, read_integer}
 use Rattle.table.specs.Bytes.{after, between, byte, bytes, ends, is_white, same, skip_white, tag, words}
 use Rattle.table.specs.Cell.{column_of, is_scalar, most_elements}

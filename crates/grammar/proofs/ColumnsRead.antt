@@ -1,5 +1,5 @@
 -- Declarations are read exactly, from a FIELD to its column, and the list of columns: `declares-exactly`.
-use Rattle.std.specs.Prelude.{Option, None, Some}
+use Rattle.std.specs.Prelude.{Option, None, Some, ℤ}
 use Prim.Native.Nat.{◌+◌, ◌-◌, ◌<◌, ◌≤◌, suc, zero, ℕ}
 use native.Mathlib.Decide.{dec_le}
 use native.Mathlib.Nat.{zero-add, zero-mul}

@@ -1,6 +1,6 @@
 -- What is wrong with declarations: for each of their refusals, when it is given and at which place. Nothing here reads. "Declarations: elements
 -- from left to right; in each one shape (through its end), 2, 3, 4, then 5 for a 65th; no column at the end."
-use Rattle.std.specs.Prelude.{◌<◌, ◌≤◌, suc, ℕ, List, ◌++◌, ◌≡◌, length, Option, Some, None}
+use Rattle.std.specs.Prelude.{◌<◌, ◌≤◌, suc, ℕ, List, ◌++◌, ◌≡◌, length, Option, Some, None, ℤ}
 use Rattle.grammar.specs.Declarations.{Arraysize, Datatype, FieldOf, FieldText, NullText, ValueOf}
 use Rattle.grammar.specs.Words.{White}
 use Rattle.table.specs.Bytes.{bytes}

@@ -1,5 +1,5 @@
 -- A plan: "what the cells of each column want", for those that are moved by it from BINARY or BINARY2.
-use Rattle.std.specs.Prelude.{◌%◌, ◌-◌, ℕ, cond, List, ◌++◌, map, eqb, length, replicate, Option, None}
+use Rattle.std.specs.Prelude.{◌%◌, ◌-◌, ℕ, cond, List, ◌++◌, map, eqb, length, replicate, Option, None, ℤ}
 use Rattle.binary.specs.Binary.{content_bytes}
 use Rattle.number.specs.declared.Integer.{Integer}
 use Rattle.planning.specs.declared.Plan.{Plan}
