@@ -71,7 +71,7 @@ fn compare_here(
     second: &[u8],
     a: &mut [i64],
     b: &mut [i64],
-) -> RowPair
+) -> Option<RowPair>
     requires { Within (listed cols) × (here.first ≤ length first.now) × (here.second ≤ length second.now) × (most_elements ≤ length a.old) × (most_elements ≤ length b.old) }
     ensures pairs_row { PairsRow (read_row from (listed cols) (drop here.first first.now)) first.now (suc here.first) (read_row kind (listed cols) (drop here.second second.now)) second.now (suc here.second) cols.count result }
     ensures a_len_unchanged { length a.new ≡ length a.old }
@@ -121,16 +121,15 @@ fn step_rows(
     let mut here = start;
     let mut same = start;
     while steps_on(differing, most, here, from, first, kind, second) {
-        let p = compare_here(cols, here, from, first, kind, second, a, b);
-        let RowPair::Read(word, next, behind) = p else {
+        let Some(pair) = compare_here(cols, here, from, first, kind, second, a, b) else {
             break;
         };
         same = last_same(differing, here, same);
-        differing = note_row(places, differing, here.rows as u32, word, count);
+        differing = note_row(places, differing, here.rows as u32, pair.differing, count);
         here = Abreast {
             rows: here.rows + 1,
-            first: next,
-            second: behind,
+            first: pair.next,
+            second: pair.other,
         };
     }
     Stepped {

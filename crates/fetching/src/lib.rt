@@ -9,7 +9,7 @@ ghost use Rattle.index.specs.Fetch.{Fetches, asked_for, fetch_indexed};
 
 use convert::convert_columns;
 use declaring::front;
-use finding::{Wanted, find_row};
+use finding::find_row;
 use table::{Answer, Columns, Rows};
 
 // The answer for a row by its number: a refusal stands at the row asked for.
@@ -42,20 +42,20 @@ fn fetch_row(
     ensures value { result ≡ asked_for row (answer_of (fetch_indexed from (listed cols) (length out.old) s.now index.now rows row)) }
     ensures out_after { out.new ≡ buffer_of (fetch_indexed from (listed cols) (length out.old) s.now index.now rows row) out.old }
 {
-    let w = find_row(cols, from, s, index, rows, row);
-    match w {
-        Wanted::Refused(number, column) => {
+    match find_row(cols, from, s, index, rows, row) {
+        Err(refused) => {
             let refused = Answer {
-                number,
+                number: refused.reason.number(),
                 row: 0,
-                column: column as u64,
+                column: refused.column as u64,
                 rows: 0,
                 bytes: 0,
             };
             asked_for(row, refused)
         }
-        Wanted::Row(start, next) => {
-            let a = convert_columns(cols, from, Rows::TableData, &s[start..next], out);
+        Ok(wanted) => {
+            let line = &s[wanted.start..wanted.next];
+            let a = convert_columns(cols, from, Rows::TableData, line, out);
             asked_for(row, a)
         }
     }

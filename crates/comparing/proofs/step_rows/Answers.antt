@@ -18,8 +18,8 @@ loop-cols-init c =
 pub steps_on-requires : goal.steps_on-requires
 steps_on-requires c = (c.loop-cols.invariant.0.first.inside, c.loop-cols.invariant.0.second.inside)
 
-pub compare_here-p-requires : goal.compare_here-p-requires
-compare_here-p-requires c =
+pub compare_here-requires : goal.compare_here-requires
+compare_here-requires c =
     let inv = c.loop-cols.invariant in
     (c.requires.0, inv.0.first.inside, inv.0.second.inside, omega (arith, inv.2, c.requires.3), omega (arith, inv.3, c.requires.4))
 
@@ -39,31 +39,22 @@ overflow_add-here c =
 
 pub loop-cols-smaller : goal.loop-cols-smaller
 loop-cols-smaller c =
-    let h = subst (PairsRow _ _ _ _ _ _ _) c.in-Read.is c.compare_here-p.ensures.pairs_row in
+    let h = subst (PairsRow _ _ _ _ _ _ _) c.in-Some.is c.compare_here.ensures.pairs_row in
     omega (arith, h.within.0, h.within.1)
 
 pub loop-cols-preserved : goal.loop-cols-preserved
 loop-cols-preserved c =
-    let p = c.compare_here-p in
+    let p = c.compare_here in
     let inv = c.loop-cols.invariant in
     let n = c.note_row-differing in
     let more = sym c.steps_on.ensures ∙ c.loop-cols-test.true in
-    let h = subst (PairsRow _ _ _ _ _ _ _) c.in-Read.is p.ensures.pairs_row in (
+    let h = subst (PairsRow _ _ _ _ _ _ _) c.in-Some.is p.ensures.pairs_row in (
       step-more c.args.from c.args.kind (listed c.args.cols) c.args.first.now c.args.second.now c.args.start c.args.places.now c.requires.0 _ _ _ _ inv.0 _ more
           c.args.cols.count (listed-length c.args.cols) _ _ _ h _ _ n.ensures _ c.last_same-same.ensures,
       n.ensures.long ∙ inv.1,
       p.ensures.a_len_unchanged ∙ inv.2,
       p.ensures.b_len_unchanged ∙ inv.3,
     )
-
-pub shape_of-places-after-loop-cols : goal.shape_of-places-after-loop-cols
-shape_of-places-after-loop-cols c = c.loop-cols.invariant.1
-
-pub shape_of-a-after-loop-cols : goal.shape_of-a-after-loop-cols
-shape_of-a-after-loop-cols c = c.loop-cols.invariant.2
-
-pub shape_of-b-after-loop-cols : goal.shape_of-b-after-loop-cols
-shape_of-b-after-loop-cols c = c.loop-cols.invariant.3
 
 pub returns-after-loop-cols : goal.returns-after-loop-cols
 returns-after-loop-cols c =
@@ -77,19 +68,10 @@ returns-after-loop-cols c =
       b_len_unchanged = inv.3;
     }
 
-pub shape_of-places-in_default : goal.shape_of-places-in_default
-shape_of-places-in_default c = c.loop-cols.invariant.1
-
-pub shape_of-a-in_default : goal.shape_of-a-in_default
-shape_of-a-in_default c = c.compare_here-p.ensures.a_len_unchanged ∙ c.loop-cols.invariant.2
-
-pub shape_of-b-in_default : goal.shape_of-b-in_default
-shape_of-b-in_default c = c.compare_here-p.ensures.b_len_unchanged ∙ c.loop-cols.invariant.3
-
 pub returns-in_default : goal.returns-in_default
 returns-in_default c =
     let inv = c.loop-cols.invariant in
-    let p = c.compare_here-p in
+    let p = c.compare_here in
     let more = sym c.steps_on.ensures ∙ c.loop-cols-test.true in
     let u = subst (PairsRow _ _ _ _ _ _ _) c.in_default.is p.ensures.pairs_row in
     record {

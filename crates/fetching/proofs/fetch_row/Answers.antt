@@ -8,23 +8,20 @@ use borrow.Author.Rules.{rules}
 use native.Mathlib.Omega.{arith}
 use Rattle.fetching.proofs.fetch_row.Goals as goal
 
-pub slice_bounds-convert_columns-count : goal.slice_bounds-convert_columns-count
-slice_bounds-convert_columns-count c =
-    let f = c.in-Row.ensures in
-    omega (arith, f.1)
+pub slice_bounds-line-count : goal.slice_bounds-line-count
+slice_bounds-line-count c = omega (arith, c.in-Ok.ensures.1)
 
-pub returns-in-Refused : goal.returns-in-Refused
+pub returns-in-Err : goal.returns-in-Err
 unfolding answer_of buffer_of written at
-returns-in-Refused c =
-    let f = c.in-Refused.ensures (length c.args.out.now) in
-    record { value = rw f c.asked_for.ensures; out_after = rw f }
+returns-in-Err c =
+    let f = c.in-Err.ensures (length c.args.out.now) in
+    record { value = rw (f, c.asked_for.ensures, c.number.ensures); out_after = rw f }
 
-pub returns-in-Row : goal.returns-in-Row
-returns-in-Row c =
-    let f = (subst (Finds _ _ _ _) c.in-Row.is
-    c.find_row-w.ensures).0 (length c.args.out.now) in
+pub returns-in-Ok : goal.returns-in-Ok
+returns-in-Ok c =
+    let f = c.in-Ok.ensures.0 (length c.args.out.now) in
     let r = c.convert_columns-a.ensures in
     record {
-      value = c.asked_for-in-Row.ensures ∙ ap (asked_for c.args.row) (r.value ∙ ap answer_of (sym f));
+      value = c.asked_for-in-Ok.ensures ∙ ap (asked_for c.args.row) (r.value ∙ ap answer_of (sym f));
       out_after = r.out_after ∙ ap (λ (o : Outcome). buffer_of o c.args.out.now) (sym f);
     }
