@@ -22,6 +22,7 @@ use Rattle.element_reading.specs.Elements.{Passed, onward}
 use Rattle.element_reading.specs.Words.{CutAt, LastAt}
 use Rattle.character_reading.specs.declared.characters.Item.TheVariants.{Code, End}
 use Rattle.character_reading.specs.declared.characters.Source.{Source}
+use Rattle.std.specs.Prelude.{Ok}
 
 -- ---- what is made of characters
 
@@ -44,14 +45,14 @@ pub onward-end : (g : List ℕ → Result ℕ (List ℤ)) (t : List ℕ) → onw
 unfolding onward
 onward-end g t = refl
 
-pub onward-broken : (g : List ℕ → Result ℕ (List ℤ)) → onward g (bad 10) ≡ bad 10
+pub onward-broken : (g : List ℕ → Result ℕ (List ℤ)) {n : ℕ} → onward g (bad n) ≡ bad n
 unfolding onward
 onward-broken g = refl
 
-broken-back : (r : Result ℕ (List ℕ × List ℕ)) → onward (λ cs. good []) r ≡ bad 10 → r ≡ bad 10
+broken-back : {m : ℕ} (r : Result ℕ (List ℕ × List ℕ)) → onward (λ cs. good []) r ≡ bad m → r ≡ bad m
 unfolding onward
 broken-back (good p) e = absurd (bad-good (sym e))
-broken-back (bad n) e = ap bad (let q : ◌≡◌ {A = Result ℕ (List ℤ × List ℕ)} (bad n) (bad 10) = e in cc)
+broken-back {m} (bad n) e = ap bad (let q : ◌≡◌ {A = Result ℕ (List ℤ × List ℕ)} (bad n) (bad m) = e in cc)
 
 -- ---- passing over characters
 
@@ -69,7 +70,7 @@ pub passed-code : {source : Source} {s : List ℕ} {i j c : ℕ} → characters_
 passed-code {source} {s} {j = j} {c = c} e = record { passes = λ g. ap (onward g) e ∙ onward-code g c (characters_of source (drop j s)) }
 
 pub passed-plain : (source : Source) (s : List ℕ) (i : ℕ) → i < length s → is_plain (get_or s i 0) ≡ true → Passed source s i (i + 1) (get_or s i 0 ∷ [])
-passed-plain source s i h p = let q = plain-is (get_or s i 0) p in passed-code (itself s i source h q.0.0 q.0.1 q.0.2)
+passed-plain source s i h p = let q = plain-is (get_or s i 0) p in passed-code (itself s i source h (λ _. q.0))
 
 -- ---- a word so far, and how it ends
 
@@ -85,10 +86,10 @@ pub word_none : {Stands : List ℕ → Type 0} {source : Source} {s : List ℕ} 
 word_none {from = from} a h = record { w = []; stands = a; word = tt; passed = passed_none; low = le_refl from; high = h }
 
 module _ {Stands : List ℕ → Type 0} {source : Source} {s : List ℕ} {from i : ℕ} (p : WordTo Stands source s from i) where
-  pub word-broken : characters_of source (drop i s) ≡ bad 10 → characters_of source (drop from s) ≡ bad 10
+  pub word-broken : {n : ℕ} → characters_of source (drop i s) ≡ bad n → characters_of source (drop from s) ≡ bad n
   word-broken e = broken-back (characters_of source (drop from s)) (p.passed.passes (λ cs. good []) ∙ ap (onward (λ cs. good [])) e ∙ onward-broken _)
 
-  pub word-ends : {next : ℕ} → ItemIs source (characters_of source (drop i s)) s i (End next) → LastAt Stands source s from next
+  pub word-ends : {next : ℕ} → ItemIs source (characters_of source (drop i s)) s i (Ok (End next)) → LastAt Stands source s from next
   word-ends {next} t = record {
     w = p.w;
     stands = p.stands;
@@ -98,7 +99,7 @@ module _ {Stands : List ℕ → Type 0} {source : Source} {s : List ℕ} {from i
     high = t.within.1;
   }
 
-  module _ {c next : ℕ} (t : ItemIs source (characters_of source (drop i s)) s i (Code c next)) where
+  module _ {c next : ℕ} (t : ItemIs source (characters_of source (drop i s)) s i (Ok (Code c next))) where
     pub word-cuts : is_white c ≡ true → CutAt Stands source s from next
     word-cuts k = record {
       w = p.w;

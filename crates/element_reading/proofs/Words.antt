@@ -5,12 +5,10 @@ use native.Mathlib.Nat.{le_refl}
 use native.Mathlib.Omega.{arith}
 use mathlib.Core.Bool.{true}
 use mathlib.Core.List.{List, [], ◌++◌, ◌∷◌, append_assoc, append-nil}
-use mathlib.Core.Path.{◌∙◌, ◌≡◌, ap, refl, sym}
-use lib.Dec.{eqb}
+use mathlib.Core.Path.{◌∙◌, ◌≡◌, ap, refl, subst, sym}
 use lib.IntN.{ℤ}
 use lib.ListN.{drop, length}
-use borrow.Author.Tests.{eq-eqb, eqb-true, ne_eqb}
-use Rattle.table.proofs.Laws.{NoWhite, cond_cases}
+use Rattle.table.proofs.Laws.{NoWhite}
 use Rattle.table.proofs.Words.{words-cut, words_last, words-none}
 use Rattle.table.specs.Bytes.{is_white, not_empty, words}
 use Rattle.table.specs.Result.{Result, ◌>>=◌, bad, every, good}
@@ -20,10 +18,23 @@ use Rattle.element_reading.proofs.Passing.{onward-broken, passed_none, passed_th
 use Rattle.element_reading.proofs.elements.Laws.{stored-none}
 use Rattle.character_reading.specs.Characters.{characters_of}
 use Rattle.element_reading.specs.Elements.{Passed, Stored, TakenAs, TakesElements, elements_from, onward}
-use Rattle.element_reading.specs.Words.{AddedAs, Adds, CutAt, LastAt, first_bad, is-added, is-refused, judged_as}
+use Rattle.element_reading.specs.Words.{AddedAs, Adds, PieceAs, PieceIs, QuickWordAs, QuickWordIs, added_bad, added_count, CutAt, LastAt, first_bad, is-added, is-refused, judged_as}
 use Rattle.character_reading.specs.declared.characters.Source.{Source}
-use Rattle.element_reading.specs.declared.elements.Added.{Added}
-use Rattle.element_reading.specs.declared.elements.Taken.{Taken}
+use Rattle.element_reading.specs.declared.elements.Held.{Held}
+use Rattle.element_reading.specs.declared.elements.Piece.{Piece}
+use Rattle.number.specs.declared.Integer.{Integer}
+use Rattle.std.specs.Prelude.{Err, None, Ok, Option, Result as Outcome, Some}
+use Rattle.table.specs.Reasons.{number_of}
+use Rattle.table.specs.declared.Reason.{Reason}
+
+-- ---- what was read, as the match on it has it
+
+pub piece-as : {W : Type 0} {Stands : W → List ℕ → Type 0} {source : Source} {s : List ℕ} {i : ℕ} {k j : Piece W} → k ≡ j → PieceIs Stands source s i (Ok k)
+    → PieceAs Stands source s i (Ok j)
+piece-as {W} {Stands} {source} {s} {i} e t = subst (λ (x : Piece W). PieceAs Stands source s i (Ok x)) e t.found
+
+pub quick-as : {kind : Integer} {source : Source} {s : List ℕ} {i : ℕ} {k j : Piece ℤ} → k ≡ j → QuickWordIs kind source s i (Some k) → QuickWordAs kind source s i (Some j)
+quick-as {kind} {source} {s} {i} e t = subst (λ (x : Piece ℤ). QuickWordAs kind source s i (Some x)) e t.found
 
 -- ---- the words of a text in two parts
 
@@ -74,51 +85,50 @@ unfolding every not_empty
 added-word f [] r h e = absurd (omega arith)
 added-word f (c ∷ w) r h e = rw e
 
--- ---- what was read so far, with the number of the first bad element
+-- ---- what was read so far, with the reason of the first bad element
 
-pub data CarriedAs (number count : ℕ) (scratch : List ℤ) : Result ℕ (List ℤ) → Type 0 where
-  no-bad : {es : List ℤ} → number ≡ 0 → Stored es count scratch → CarriedAs number count scratch (good es)
-  one-bad : {n : ℕ} → number ≡ n → 1 ≤ n → CarriedAs number count scratch (bad n)
+pub data CarriedAs (first : Option Reason) (count : ℕ) (scratch : List ℤ) : Result ℕ (List ℤ) → Type 0 where
+  no-bad : {es : List ℤ} → first ≡ None → Stored es count scratch → CarriedAs first count scratch (good es)
+  one-bad : {e : Reason} → first ≡ Some e → CarriedAs first count scratch (bad (number_of e))
 
 -- the elements of a word behind those there are
 abbrev behind : Result ℕ (List ℤ) → Result ℕ (List ℤ) → Result ℕ (List ℤ)
 behind r t = r >>= λ x. t >>= λ y. good (x ++ y)
 
-bad-stays : (number later : ℕ) → 1 ≤ number → first_bad number later ≡ number
-unfolding first_bad
-bad-stays number later h = rw (ne_eqb number 0 (λ e. omega arith))
+pub none-bad : (first : Option Reason) → first_bad first None ≡ first
+none-bad (Some e) = refl
+none-bad None = refl
 
-pub none-bad : (number : ℕ) → first_bad number 0 ≡ number
-unfolding first_bad
-none-bad number = cond_cases (λ (n : ℕ). n ≡ number) (eqb number 0) 0 number (λ e. sym (eqb-true number 0 e)) (λ _. refl)
-
-carried-more : {r t : Result ℕ (List ℤ)} {number count : ℕ} {l m : List ℤ} {added : Added} → CarriedAs number count l r → AddedAs count l m added t
-    → CarriedAs (first_bad number added.number) added.count m (behind r t)
-unfolding first_bad
-carried-more (no-bad z p) (is-added y a) = no-bad (rw (z, y)) (a _ p)
-carried-more (no-bad z p) (is-refused {n = n} y h) = one-bad {n = n} (rw z y) h
-carried-more {number = number} {added = added} (one-bad {n = n} y h) a = one-bad {n = n} (unfold first_bad in bad-stays number added.number (omega (arith, y, h)) ∙ y) h
+carried-more : {r t : Result ℕ (List ℤ)} {first : Option Reason} {count : ℕ} {l m : List ℤ} {added : Outcome ℕ Reason} → CarriedAs first count l r
+    → AddedAs count l m added t → CarriedAs (first_bad first (added_bad added)) (added_count count added) m (behind r t)
+carried-more (no-bad z p) (is-added y a) = rw (z, y) (no-bad refl (a _ p))
+carried-more (no-bad z p) (is-refused y) = rw (z, y) (one-bad refl)
+carried-more (one-bad z) a = rw z (one-bad refl)
 
 -- the text that ends with it
-carried-judged : (s : List ℕ) (place next : ℕ) {r : Result ℕ (List ℤ)} {definition : Result ℕ (List ℤ × List ℕ)} {number count : ℕ} {l : List ℤ} → CarriedAs number count l r
-    → definition ≡ (r >>= λ es. good (es, drop next s)) → place ≤ next → next ≤ length s → TakenAs definition s place l (judged_as number count next)
-unfolding judged_as
-carried-judged s place next {number = number} (no-bad z p) e low high = rw (eq-eqb number 0 z) (_, e, p, low, high)
-carried-judged s place next {number = number} (one-bad y h) e low high = rw (ne_eqb number 0 (λ z. omega (arith, y, h, z))) (e ∙ ap bad (sym y))
+carried-judged : (s : List ℕ) (place next : ℕ) {r : Result ℕ (List ℤ)} {definition : Result ℕ (List ℤ × List ℕ)} (first : Option Reason) (count : ℕ)
+    (added : Outcome ℕ Reason) {l : List ℤ} → CarriedAs (first_bad first (added_bad added)) (added_count count added) l r
+    → definition ≡ (r >>= λ es. good (es, drop next s)) → place ≤ next → next ≤ length s → TakenAs definition s place l (judged_as first added next)
+carried-judged s place next None count (Ok more) (no-bad z p) e low high = (_, e, p, low, high)
+carried-judged s place next None count (Ok more) (one-bad z) e low high = cc
+carried-judged s place next None count (Err x) (no-bad z p) e low high = cc
+carried-judged s place next None count (Err x) (one-bad {e = y} z) e low high = let q : y ≡ x = cc in e ∙ ap (λ (k : Reason). bad (number_of k)) q
+carried-judged s place next (Some x) count added (no-bad z p) e low high = cc
+carried-judged s place next (Some x) count added (one-bad {e = y} z) e low high = let q : y ≡ x = cc in e ∙ ap (λ (k : Reason). bad (number_of k)) q
 
 -- ---- a cell of words that was read up to the place i
 
-pub record WordsTo (f : List ℕ → Result ℕ ℤ) (source : Source) (s : List ℕ) (from i number count : ℕ) (entry scratch : List ℤ) : Type 0 where
+pub record WordsTo (f : List ℕ → Result ℕ ℤ) (source : Source) (s : List ℕ) (from i : ℕ) (first : Option Reason) (count : ℕ) (entry scratch : List ℤ) : Type 0 where
   pub w : List ℕ
   pub clean : Clean w
   pub passed : Passed source s from i w
-  pub carried : CarriedAs number count scratch (every f (words w))
+  pub carried : CarriedAs first count scratch (every f (words w))
   pub long : length scratch ≡ length entry
   pub few : count ≤ i
   pub low : from ≤ i
   pub high : i ≤ length s
 
-pub words-start : (f : List ℕ → Result ℕ ℤ) {source : Source} {s : List ℕ} {from : ℕ} {entry : List ℤ} → from ≤ length s → WordsTo f source s from from 0 0 entry entry
+pub words-start : (f : List ℕ → Result ℕ ℤ) {source : Source} {s : List ℕ} {from : ℕ} {entry : List ℤ} → from ≤ length s → WordsTo f source s from from None 0 entry entry
 unfolding every
 words-start f {from = from} h = record {
   w = [];
@@ -132,34 +142,36 @@ words-start f {from = from} h = record {
 }
 
 -- the word that comes there, with what it adds
-module _ (k : Shape) {f : List ℕ → Result ℕ ℤ} (q : (w : List ℕ) → text_elements k w ≡ every f (words w)) {source : Source} {s : List ℕ} {from i number n : ℕ} {entry l : List ℤ}
-    (r : WordsTo f source s from i number n entry l) where
-  pub words-broken : characters_of source (drop i s) ≡ bad 10 → TakesElements (elements_from source k (drop from s)) s from entry l (Taken.Refused 10)
+module _ (k : Shape) {f : List ℕ → Result ℕ ℤ} (q : (w : List ℕ) → text_elements k w ≡ every f (words w)) {source : Source} {s : List ℕ} {from i n : ℕ} {first : Option Reason} {entry l : List ℤ}
+    (r : WordsTo f source s from i first n entry l) where
+  pub words-broken : {e : Reason} {t : Outcome Held Reason} → t ≡ Err e → characters_of source (drop i s) ≡ bad (number_of e)
+      → TakesElements (elements_from source k (drop from s)) s from entry l t
   unfolding elements_from
-  words-broken e = record { found = r.passed.passes (text_elements k) ∙ ap (onward (λ cs. text_elements k (r.w ++ cs))) e ∙ onward-broken _; long = r.long }
+  words-broken h e = rw h (record { found = r.passed.passes (text_elements k) ∙ ap (onward (λ cs. text_elements k (r.w ++ cs))) e ∙ onward-broken _; long = r.long })
 
-  module _ {Stands : List ℕ → Type 0} {next : ℕ} {m : List ℤ} {added : Added} (d : Adds f Stands n l m added) where
-    pub word-last : {t : Taken} → LastAt Stands source s i next → t ≡ judged_as (first_bad number added.number) added.count next
+  module _ {Stands : List ℕ → Type 0} {next : ℕ} {m : List ℤ} {added : Outcome ℕ Reason} (d : Adds f Stands n l m added) where
+    pub word-last : {t : Outcome Held Reason} → LastAt Stands source s i next → t ≡ judged_as first added next
         → TakesElements (elements_from source k (drop from s)) s from entry m t
     unfolding elements_from
     word-last u e = record {
-      found = rw e (carried-judged s from next (carried-more r.carried (d.found u.w u.stands))
+      found = rw e (carried-judged s from next first n added (carried-more r.carried (d.found u.w u.stands))
           (r.passed.passes (text_elements k) ∙ u.ends (λ cs. text_elements k (r.w ++ cs))
           ∙ rw (q (r.w ++ u.w), r.clean u.w, words_last u.w u.word, every_append f (words r.w) (not_empty (u.w ∷ []))))
           (omega (arith, r.low, u.low)) u.high);
       long = d.long ∙ r.long;
     }
 
-    pub word_cut : {later : ℕ} → CutAt Stands source s i next → later ≡ first_bad number added.number → WordsTo f source s from next later added.count entry m
-    word_cut u e = record {
+    pub word_cut : {later : Option Reason} {more : ℕ} → CutAt Stands source s i next → later ≡ first_bad first (added_bad added) → more ≡ added_count n added
+        → WordsTo f source s from next later more entry m
+    word_cut u e h = record {
       w = r.w ++ (u.w ++ (u.white ∷ []));
       clean = clean-cut r.w u.w u.white r.clean u.word u.is_white;
       passed = passed_then r.passed u.passed;
       carried =
-          rw (e, words-to r.w u.w u.white r.clean u.word u.is_white, every_append f (words r.w) (not_empty (u.w ∷ [])))
+          rw (e, h, words-to r.w u.w u.white r.clean u.word u.is_white, every_append f (words r.w) (not_empty (u.w ∷ [])))
           (carried-more r.carried (d.found u.w u.stands));
       long = d.long ∙ r.long;
-      few = omega (arith, d.most, r.few, u.low);
+      few = omega (arith, h, d.most, r.few, u.low);
       low = omega (arith, r.low, u.low);
       high = u.high;
     }

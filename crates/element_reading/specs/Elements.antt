@@ -1,14 +1,13 @@
 -- What the contracts of the functions on a text's elements say: those that were read stand in the scratch.
-use Rattle.std.specs.Prelude.{◌+◌, ◌-◌, ◌≤◌, ℕ, Bool, cond, false, true, List, ◌++◌, map, ◌≡◌, eqb, pos, ℤ, drop, length, take}
+use Rattle.std.specs.Prelude.{Err, None, Ok, Option, Result as Outcome, Some, ◌+◌, ◌-◌, ◌≤◌, ℕ, Bool, false, true, List, ◌++◌, map, ◌≡◌, pos, ℤ, drop, length, take}
 use Rattle.table.specs.Result.{Result, ◌>>=◌, bad, good}
 use Rattle.table.specs.Shape.{Shape}
 use Rattle.tabledata.specs.TableData.{all_text, bit_letter, text_elements}
 use Rattle.character_reading.specs.Characters.{characters_of}
 use Rattle.character_reading.specs.declared.characters.Source.{Source}
-use Rattle.element_reading.specs.declared.elements.Counted.TheVariants.{All}
-use Rattle.element_reading.specs.declared.elements.Counted.{Counted}
-use Rattle.element_reading.specs.declared.elements.Taken.TheVariants.{Held}
-use Rattle.element_reading.specs.declared.elements.Taken.{Taken}
+use Rattle.element_reading.specs.declared.elements.Held.{Held}
+use Rattle.table.specs.Reasons.{number_of}
+use Rattle.table.specs.declared.Reason.{Reason}
 
 -- what g makes of a text's characters, and what follows the text
 unfoldable pub onward : (List ℕ → Result ℕ (List ℤ)) → Result ℕ (List ℕ × List ℕ) → Result ℕ (List ℤ × List ℕ)
@@ -23,21 +22,21 @@ pub record Stored (es : List ℤ) (count : ℕ) (scratch : List ℤ) : Type 0 wh
   pub all : count ≡ length es
   pub first : take count scratch ≡ take (length scratch) es
 
-abbrev pub TakenAs : Result ℕ (List ℤ × List ℕ) → List ℕ → ℕ → List ℤ → Taken → Type 0
-TakenAs definition s place scratch (Held count next) =
-    (es : List ℤ) × (definition ≡ good (es, drop next s)) × Stored es count scratch × (place ≤ next) × (next ≤ length s)
-TakenAs definition s place scratch (Taken.Refused n) = definition ≡ bad n
+abbrev pub TakenAs : Result ℕ (List ℤ × List ℕ) → List ℕ → ℕ → List ℤ → Outcome Held Reason → Type 0
+TakenAs definition s place scratch (Ok held) =
+    (es : List ℤ) × (definition ≡ good (es, drop held.next s)) × Stored es held.count scratch × (place ≤ held.next) × (held.next ≤ length s)
+TakenAs definition s place scratch (Err e) = definition ≡ bad (number_of e)
 
-pub record TakesElements (definition : Result ℕ (List ℤ × List ℕ)) (s : List ℕ) (place : ℕ) (entry exit : List ℤ) (r : Taken) : Type 0 where
+pub record TakesElements (definition : Result ℕ (List ℤ × List ℕ)) (s : List ℕ) (place : ℕ) (entry exit : List ℤ) (r : Outcome Held Reason) : Type 0 where
   pub found : TakenAs definition s place exit r
   pub long : length exit ≡ length entry
 
 -- a plain part is counted whole
-abbrev pub CountedAs : Result ℕ (List ℤ) → List ℤ → Counted → Type 0
-CountedAs definition scratch (All count) = (es : List ℤ) × (definition ≡ good es) × Stored es count scratch
-CountedAs definition scratch (Counted.Refused n) = definition ≡ bad n
+abbrev pub CountedAs : Result ℕ (List ℤ) → List ℤ → Outcome ℕ Reason → Type 0
+CountedAs definition scratch (Ok count) = (es : List ℤ) × (definition ≡ good es) × Stored es count scratch
+CountedAs definition scratch (Err e) = definition ≡ bad (number_of e)
 
-pub record CountsElements (definition : Result ℕ (List ℤ)) (entry exit : List ℤ) (r : Counted) : Type 0 where
+pub record CountsElements (definition : Result ℕ (List ℤ)) (entry exit : List ℤ) (r : Outcome ℕ Reason) : Type 0 where
   pub found : CountedAs definition exit r
   pub long : length exit ≡ length entry
 
@@ -58,9 +57,10 @@ pub record Copied (s : List ℕ) (from count : ℕ) (entry exit : List ℤ) (nex
 
 -- ---- bit
 
-unfoldable pub bit_as : ℕ → Result ℕ ℤ
-bit_as r = cond (eqb r 2) (bad 11) (good (pos r))
+abbrev pub bit_as : Option ℕ → Result ℕ ℤ
+bit_as (Some r) = good (pos r)
+bit_as None = bad 11
 
-abbrev pub BitIs : Bool → ℕ → ℕ → Type 0
-BitIs true c r = r ≡ 2
+abbrev pub BitIs : Bool → ℕ → Option ℕ → Type 0
+BitIs true c r = r ≡ None
 BitIs false c r = bit_as r ≡ bit_letter c

@@ -1,5 +1,5 @@
 -- What the contracts of the functions on a text's words say: how a word ends, what it is held as, and what it adds.
-use Rattle.std.specs.Prelude.{◌*◌, ◌+◌, ◌<◌, ◌≤◌, ℕ, Bool, ◌&&◌, ◌||◌, cond, false, true, List, [], ◌++◌, ◌∷◌, ◌≡◌, eqb, leb, ltb, ℤ, drop, get_or, length}
+use Rattle.std.specs.Prelude.{Err, None, Ok, Option, Result as Outcome, Some, ◌*◌, ◌+◌, ◌<◌, ◌≤◌, ℕ, Bool, ◌&&◌, ◌||◌, cond, false, true, List, [], ◌++◌, ◌∷◌, ◌≡◌, eqb, leb, ltb, ℤ, drop, get_or, length}
 use Rattle.number.specs.Clauses.{is_signed, size}
 use Rattle.number.specs.declared.Integer.{Integer}
 use Rattle.table.specs.All.{All}
@@ -9,14 +9,12 @@ use Rattle.tabledata.specs.TableData.{integer_word, lower}
 use Rattle.character_reading.specs.Characters.{characters_of}
 use Rattle.element_reading.specs.Elements.{Passed, Stored, onward}
 use Rattle.character_reading.specs.declared.characters.Source.{Source}
-use Rattle.element_reading.specs.declared.elements.Added.{Added}
-use Rattle.element_reading.specs.declared.elements.Taken.TheVariants.{Held}
-use Rattle.element_reading.specs.declared.elements.Taken.{Taken}
-use Rattle.element_reading.specs.declared.numerals.Numeral.{Numeral}
-use Rattle.element_reading.specs.declared.numerals.QuickWord.{QuickWord}
-use Rattle.element_reading.specs.declared.truths.Piece.TheVariants.{Cut, Last}
-use Rattle.element_reading.specs.declared.truths.Piece.{Piece}
-use Rattle.words.specs.Words.{feed, fresh}
+use Rattle.element_reading.specs.declared.elements.Held.{Held}
+use Rattle.element_reading.specs.declared.elements.Piece.TheVariants.{Cut, Last}
+use Rattle.element_reading.specs.declared.elements.Piece.{Piece}
+use Rattle.std.specs.Option.{option_or}
+use Rattle.table.specs.Reasons.{number_of}
+use Rattle.table.specs.declared.Reason.{Reason}
 use Rattle.words.specs.declared.Form.TheVariants.{Decimal, Hexadecimal, Minus, Plus, Start, Zero}
 use Rattle.words.specs.declared.Form.{Form}
 
@@ -31,12 +29,12 @@ spelled q (c ∷ w) = spelled (spell q c) w
 abbrev pub spelling : List ℕ → ℕ
 spelling w = spelled 1 w
 
--- 1 for true, 0 for false, 2 for unknown, 3 for no word
-unfoldable pub truth_number : ℕ → ℕ
+-- 1 for true, 0 for false, 2 for unknown, none for no word
+unfoldable pub truth_number : ℕ → Option ℕ
 truth_number q =
-    cond (eqb q 0x174) 1 (cond (eqb q 0x131) 1 (cond (eqb q 0x174727565) 1
-    (cond (eqb q 0x166) 0 (cond (eqb q 0x130) 0 (cond (eqb q 0x166616c7365) 0
-    (cond (eqb q 0x13f) 2 3))))))
+    cond (eqb q 0x174) (Some 1) (cond (eqb q 0x131) (Some 1) (cond (eqb q 0x174727565) (Some 1)
+    (cond (eqb q 0x166) (Some 0) (cond (eqb q 0x130) (Some 0) (cond (eqb q 0x166616c7365) (Some 0)
+    (cond (eqb q 0x13f) (Some 2) None))))))
 
 -- a character as a letter of an integer: one that is no byte is none, and neither is 255
 unfoldable pub letter_of : ℕ → ℕ
@@ -61,40 +59,45 @@ pub record LastAt (Stands : List ℕ → Type 0) (source : Source) (s : List ℕ
   pub low : from ≤ next
   pub high : next ≤ length s
 
-abbrev pub PieceAs : Source → List ℕ → ℕ → Piece → Type 0
-PieceAs source s from (Cut q next) = CutAt (λ w. q ≡ spelling w) source s from next
-PieceAs source s from (Last q next) = LastAt (λ w. q ≡ spelling w) source s from next
-PieceAs source s from Piece.Broken = characters_of source (drop from s) ≡ bad 10
+module _ {W : Type 0} (Stands : W → List ℕ → Type 0) (source : Source) (s : List ℕ) (from : ℕ) where
+  abbrev pub PieceAs : Outcome (Piece W) Reason → Type 0
+  PieceAs (Ok (Cut x next)) = CutAt (Stands x) source s from next
+  PieceAs (Ok (Last x next)) = LastAt (Stands x) source s from next
+  PieceAs (Err e) = characters_of source (drop from s) ≡ bad (number_of e)
 
-pub record PieceIs (source : Source) (s : List ℕ) (from : ℕ) (r : Piece) : Type 0 where
-  pub found : PieceAs source s from r
+  pub record PieceIs (r : Outcome (Piece W) Reason) : Type 0 where
+    pub found : PieceAs r
 
--- what a word's elements are in the code: they follow those that are stored, or there is a number
-pub data AddedAs (count : ℕ) (entry exit : List ℤ) (r : Added) : Result ℕ (List ℤ) → Type 0 where
-  is-added : {fs : List ℤ} → r.number ≡ 0 → ((es : List ℤ) → Stored es count entry → Stored (es ++ fs) r.count exit) → AddedAs count entry exit r (good fs)
-  is-refused : {n : ℕ} → r.number ≡ n → 1 ≤ n → AddedAs count entry exit r (bad n)
+-- what a word's elements are in the code: they follow those that are stored and are counted with them, or there is a reason
+pub data AddedAs (count : ℕ) (entry exit : List ℤ) (r : Outcome ℕ Reason) : Result ℕ (List ℤ) → Type 0 where
+  is-added : {fs : List ℤ} {more : ℕ} → r ≡ Ok more → ((es : List ℤ) → Stored es count entry → Stored (es ++ fs) more exit) → AddedAs count entry exit r (good fs)
+  is-refused : {e : Reason} → r ≡ Err e → AddedAs count entry exit r (bad (number_of e))
+
+-- how many elements there are with it
+abbrev pub added_count : ℕ → Outcome ℕ Reason → ℕ
+added_count count (Ok more) = more
+added_count count (Err e) = count
+
+-- why it was refused, if it was
+abbrev pub added_bad : Outcome ℕ Reason → Option Reason
+added_bad (Ok more) = None
+added_bad (Err e) = Some e
 
 -- the element of each word that `Stands` for what was read
-pub record Adds (f : List ℕ → Result ℕ ℤ) (Stands : List ℕ → Type 0) (count : ℕ) (entry exit : List ℤ) (r : Added) : Type 0 where
+pub record Adds (f : List ℕ → Result ℕ ℤ) (Stands : List ℕ → Type 0) (count : ℕ) (entry exit : List ℤ) (r : Outcome ℕ Reason) : Type 0 where
   pub found : (w : List ℕ) → Stands w → AddedAs count entry exit r (every f (not_empty (w ∷ [])))
-  pub most : r.count ≤ count + 1
+  pub most : added_count count r ≤ count + 1
   pub long : length exit ≡ length entry
 
--- 02, #104: "in one cell the first bad element decides": the number of the first of two refusals, 0 being none
-unfoldable pub first_bad : ℕ → ℕ → ℕ
-first_bad first later = cond (eqb first 0) later first
+-- 02, #104: "in one cell the first bad element decides": the first of two refusals
+abbrev pub first_bad : Option Reason → Option Reason → Option Reason
+first_bad first later = option_or first later
 
--- so many elements and what follows them, where none was refused
-unfoldable pub judged_as : ℕ → ℕ → ℕ → Taken
-judged_as number count next = cond (eqb number 0) (Held count next) (Taken.Refused number)
-
-abbrev pub NumeralAs : Source → List ℕ → ℕ → Numeral → Type 0
-NumeralAs source s from (Numeral.Cut x next) = CutAt (λ w. x ≡ feed fresh w) source s from next
-NumeralAs source s from (Numeral.Last x next) = LastAt (λ w. x ≡ feed fresh w) source s from next
-NumeralAs source s from Numeral.Broken = characters_of source (drop from s) ≡ bad 10
-
-pub record NumeralIs (source : Source) (s : List ℕ) (from : ℕ) (r : Numeral) : Type 0 where
-  pub found : NumeralAs source s from r
+-- so many elements and what follows them, where none was refused, nor the last
+abbrev pub judged_as : Option Reason → Outcome ℕ Reason → ℕ → Outcome Held Reason
+judged_as (Some e) added next = Err e
+judged_as None (Ok count) next = Ok (record { count = count; next = next })
+judged_as None (Err e) next = Err e
 
 -- is a place that of a space?
 abbrev pub space_at : List ℕ → ℕ → Bool
@@ -105,12 +108,12 @@ abbrev pub WordOf : Integer → ℤ → List ℕ → Type 0
 WordOf kind z w = (1 ≤ length w) × (integer_word (is_signed kind) (size kind) w ≡ good z)
 
 -- the quick way reads a word that ends before a space or with the cell, or leaves it to the careful way
-abbrev pub QuickWordAs : Integer → Source → List ℕ → ℕ → QuickWord → Type 0
-QuickWordAs kind source s from (QuickWord.Cut z next) = CutAt (WordOf kind z) source s from next
-QuickWordAs kind source s from (QuickWord.Last z next) = LastAt (WordOf kind z) source s from next
-QuickWordAs kind source s from QuickWord.Careful = Unit {0}
+abbrev pub QuickWordAs : Integer → Source → List ℕ → ℕ → Option (Piece ℤ) → Type 0
+QuickWordAs kind source s from (Some (Cut z next)) = CutAt (WordOf kind z) source s from next
+QuickWordAs kind source s from (Some (Last z next)) = LastAt (WordOf kind z) source s from next
+QuickWordAs kind source s from None = Unit {0}
 
-pub record QuickWordIs (kind : Integer) (source : Source) (s : List ℕ) (from : ℕ) (r : QuickWord) : Type 0 where
+pub record QuickWordIs (kind : Integer) (source : Source) (s : List ℕ) (from : ℕ) (r : Option (Piece ℤ)) : Type 0 where
   pub found : QuickWordAs kind source s from r
 
 -- has a word begun?

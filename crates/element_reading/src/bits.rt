@@ -3,26 +3,29 @@ ghost use Rattle.std.specs.Prelude.{◌≤◌, drop, length};
 ghost use Rattle.table.specs.Shape.{Bits};
 ghost use Rattle.element_reading.specs.Elements.{BitIs, TakesElements, elements_from};
 
-use super::elements::{Taken, as_element, put};
+use super::elements::{Held, as_element, put};
 use character_reading::characters::{Item, Source, character_at, spoiled};
+use table::Reason;
 use text::is_white;
 
-// A bit, or 2 for what is none: nothing is one behind the end of the word.
-fn bit_of(c: u32, closed: bool) -> u32
+// A bit, if it is one: nothing is behind the end of the word.
+fn bit_of(c: u32, closed: bool) -> Option<u32>
     ensures { BitIs closed c result }
 {
-    if closed {
-        return 2;
-    }
     match c {
-        48 => 0,
-        49 => 1,
-        _ => 2,
+        48 if !closed => Some(0),
+        49 if !closed => Some(1),
+        _ => None,
     }
 }
 
 // The elements of a bit cell: one word, with white space around it.
-pub(crate) fn bits(s: &[u8], from: usize, source: Source, scratch: &mut [i64]) -> Taken
+pub(crate) fn bits(
+    s: &[u8],
+    from: usize,
+    source: Source,
+    scratch: &mut [i64],
+) -> Result<Held, Reason>
     requires { from ≤ length s.now }
     ensures { TakesElements (elements_from source Bits (drop from s.now)) s.now from scratch.old scratch.new result }
 {
@@ -30,20 +33,18 @@ pub(crate) fn bits(s: &[u8], from: usize, source: Source, scratch: &mut [i64]) -
     let mut count = 0;
     let mut closed = false;
     loop {
-        match character_at(s, i, source) {
-            Item::Broken => return Taken::Refused(10),
-            Item::End(next) => return Taken::Held(count, next),
+        match character_at(s, i, source)? {
+            Item::End(next) => return Ok(Held { count, next }),
             Item::Code(c, next) => {
                 i = next;
                 if is_white(c) {
                     closed = 0 < count;
                     continue;
                 }
-                let x = bit_of(c, closed);
-                if x == 2 {
-                    return Taken::Refused(spoiled(s, next, source));
-                }
-                put(scratch, count, as_element(x));
+                let Some(bit) = bit_of(c, closed) else {
+                    return Err(spoiled(s, next, source));
+                };
+                put(scratch, count, as_element(bit));
                 count += 1;
             }
         }

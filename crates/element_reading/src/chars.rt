@@ -3,8 +3,9 @@ ghost use Rattle.std.specs.Prelude.{◌≤◌, drop, length};
 ghost use Rattle.table.specs.Shape.{Text};
 ghost use Rattle.element_reading.specs.Elements.{Copied, TakesElements, elements_from};
 
-use super::elements::{Taken, as_element, put};
+use super::elements::{Held, as_element, put};
 use character_reading::characters::{Item, Source, character_at, spoiled};
+use table::Reason;
 use tabledata::{is_plain, is_text};
 
 // Characters that stand for themselves, as long as there are some and they have room: the place after them.
@@ -30,7 +31,12 @@ fn copy_plain(s: &[u8], from: usize, scratch: &mut [i64], count: usize) -> usize
 }
 
 // The elements of a char cell, from its first character on.
-pub(crate) fn chars(s: &[u8], from: usize, source: Source, scratch: &mut [i64]) -> Taken
+pub(crate) fn chars(
+    s: &[u8],
+    from: usize,
+    source: Source,
+    scratch: &mut [i64],
+) -> Result<Held, Reason>
     requires { from ≤ length s.now }
     ensures { TakesElements (elements_from source Text (drop from s.now)) s.now from scratch.old scratch.new result }
 {
@@ -39,12 +45,11 @@ pub(crate) fn chars(s: &[u8], from: usize, source: Source, scratch: &mut [i64]) 
     loop {
         let j = copy_plain(s, i, scratch, count);
         count += j - i;
-        match character_at(s, j, source) {
-            Item::Broken => return Taken::Refused(10),
-            Item::End(next) => return Taken::Held(count, next),
+        match character_at(s, j, source)? {
+            Item::End(next) => return Ok(Held { count, next }),
             Item::Code(c, next) => {
                 if !is_text(c) {
-                    return Taken::Refused(spoiled(s, next, source));
+                    return Err(spoiled(s, next, source));
                 }
                 put(scratch, count, as_element(c));
                 count += 1;

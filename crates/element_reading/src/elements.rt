@@ -1,55 +1,38 @@
 // A text's elements: read so far, they stand in the scratch as far as it has room, and are counted on.
-ghost use Rattle.element_reading.specs.Words.{first_bad, judged_as};
+ghost use Rattle.element_reading.specs.Words.{judged_as};
 ghost use Rattle.std.specs.Prelude.{pos, set, ◌≡◌};
 
-// How many elements were read and the place after the text, or the number of its refusal.
-#[derive(Clone, Copy)]
-pub enum Taken {
-    Held(usize, usize),
-    Refused(u64),
-}
+use table::Reason;
 
-// How many elements a plain part has, or the number of its refusal.
+// How many elements were read, and the place after the text.
 #[derive(Clone, Copy)]
-pub enum Counted {
-    All(usize),
-    Refused(u64),
-}
-
-// How many elements there are with a word's, and the number of its refusal, or 0.
-#[derive(Clone, Copy)]
-pub struct Added {
+pub struct Held {
     pub count: usize,
-    pub number: u64,
+    pub next: usize,
 }
 
-// "in one cell the first bad element decides": the number of the first of two refusals, 0 being none.
-pub(crate) fn first_bad(first: u64, later: u64) -> u64
-    ensures { result ≡ first_bad first later }
+// A word up to white space, or up to the end of the text, as what reads it holds it; and the place after that.
+#[derive(Clone, Copy)]
+pub(crate) enum Piece<W> {
+    Cut(W, usize),
+    Last(W, usize),
+}
+
+// A text whose words were all read, up to the place `next`, with what the last of them adds: "in one cell the first bad element decides".
+pub(crate) fn judged(
+    bad: Option<Reason>,
+    added: Result<usize, Reason>,
+    next: usize,
+) -> Result<Held, Reason>
+    ensures { result ≡ judged_as bad added next }
 {
-    if first == 0 {
-        return later;
+    match bad {
+        Some(reason) => Err(reason),
+        None => Ok(Held {
+            count: added?,
+            next,
+        }),
     }
-    first
-}
-
-// A text whose elements were all read, up to the place `next`: they are held, or one of them was refused.
-pub(crate) fn judged(number: u64, count: usize, next: usize) -> Taken
-    ensures { result ≡ judged_as number count next }
-{
-    if number == 0 {
-        return Taken::Held(count, next);
-    }
-    Taken::Refused(number)
-}
-
-// The same with what the last word adds.
-pub(crate) fn with_last(number: u64, added: Added, next: usize) -> Taken
-    ensures { result ≡ judged_as (first_bad number added.number) added.count next }
-{
-    let refused = added.number;
-    let count = added.count;
-    judged(first_bad(number, refused), count, next)
 }
 
 // An element is stored where there is room for it.

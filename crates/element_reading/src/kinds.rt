@@ -6,12 +6,12 @@ ghost use Rattle.table.specs.Shape.{shape};
 
 use super::bits::bits;
 use super::chars::chars;
-use super::elements::{Counted, Taken};
+use super::elements::Held;
 use super::numerals::integers;
 use super::truths::truths;
 use character_reading::characters::Source;
 use number::{Elements, elements_of};
-use table::Kind;
+use table::{Kind, Reason};
 
 // The elements from a place on, by their kind.
 pub fn read_elements(
@@ -20,7 +20,7 @@ pub fn read_elements(
     source: Source,
     kind: Kind,
     scratch: &mut [i64],
-) -> Taken
+) -> Result<Held, Reason>
     requires { from ≤ length s.now }
     ensures { TakesElements (elements_from source (shape kind) (drop from s.now)) s.now from scratch.old scratch.new result }
 {
@@ -33,11 +33,9 @@ pub fn read_elements(
 }
 
 // The elements of a plain part of a text, as those of a cell whose characters it has.
-pub fn plain_elements(part: &[u8], kind: Kind, scratch: &mut [i64]) -> Counted
+pub fn plain_elements(part: &[u8], kind: Kind, scratch: &mut [i64]) -> Result<usize, Reason>
     ensures { CountsElements (text_elements (shape kind) part.now) scratch.old scratch.new result }
 {
-    match read_elements(part, 0, Source::Plain, kind, scratch) {
-        Taken::Held(count, _) => Counted::All(count),
-        Taken::Refused(n) => Counted::Refused(n),
-    }
+    let held = read_elements(part, 0, Source::Plain, kind, scratch)?;
+    Ok(held.count)
 }

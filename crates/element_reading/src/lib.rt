@@ -9,5 +9,5 @@ mod numerals;
 mod truths;
 
 pub use character_reading::characters::Source;
-pub use elements::{Counted, Taken};
+pub use elements::Held;
 pub use kinds::{plain_elements, read_elements};

@@ -5,30 +5,20 @@ ghost use Rattle.tabledata.specs.TableData.{lower, truth_word};
 ghost use Rattle.element_reading.specs.Words.{Adds, PieceIs, spell, spelling, truth_number};
 ghost use Rattle.element_reading.specs.Elements.{TakesElements, elements_from};
 
-use super::elements::{Added, Taken, as_element, first_bad, put, with_last};
+use super::elements::{Held, Piece, as_element, judged, put};
 use character_reading::characters::{Item, Source, character_at};
+use table::Reason;
 use text::is_white;
-
-// A word up to white space, or up to the end tag, and the place after that.
-#[derive(Clone, Copy)]
-pub enum Piece {
-    Cut(u64, usize),
-    Last(u64, usize),
-    Broken,
-}
 
 // A capital as a small letter.
 fn lower_case(c: u32) -> u32
     requires { c < 128 }
     ensures { (result ≡ lower c) × (result < 128) }
 {
-    if c < 65 {
-        return c;
+    match c {
+        65..=90 => c + 32,
+        _ => c,
     }
-    if 90 < c {
-        return c;
-    }
-    c + 32
 }
 
 // A word as a number, base 256 and without capitals, with a 1 before its first letter; more than six letters are all the same, and so is what has
@@ -36,29 +26,25 @@ fn lower_case(c: u32) -> u32
 fn with_letter(word: u64, c: u32) -> u64
     ensures { result ≡ spell word c }
 {
-    if 281474976710656 <= word {
-        return 281474976710656;
-    }
-    if 128 <= c {
+    if 281474976710656 <= word || 128 <= c {
         return 281474976710656;
     }
     word * 256 + (lower_case(c) as u64)
 }
 
 // The word at a place, spelled as a number.
-fn truth_piece(s: &[u8], from: usize, source: Source) -> Piece
+fn truth_piece(s: &[u8], from: usize, source: Source) -> Result<Piece<u64>, Reason>
     requires { from ≤ length s.now }
-    ensures { PieceIs source s.now from result }
+    ensures { PieceIs (λ q w. q ≡ spelling w) source s.now from result }
 {
     let mut i = from;
     let mut word: u64 = 1;
     loop {
-        match character_at(s, i, source) {
-            Item::Broken => return Piece::Broken,
-            Item::End(next) => return Piece::Last(word, next),
+        match character_at(s, i, source)? {
+            Item::End(next) => return Ok(Piece::Last(word, next)),
             Item::Code(c, next) => {
                 if is_white(c) {
-                    return Piece::Cut(word, next);
+                    return Ok(Piece::Cut(word, next));
                 }
                 word = with_letter(word, c);
                 i = next;
@@ -67,59 +53,55 @@ fn truth_piece(s: &[u8], from: usize, source: Source) -> Piece
     }
 }
 
-// "boolean: `T t 1 F f 0 ?`, or true or false in any capitals": 3 for any other word.
-fn truth_of(word: u64) -> u32
+// "boolean: `T t 1 F f 0 ?`, or true or false in any capitals".
+#[tactic(auto, unfolding(crate::specs::Words::truth_number))]
+fn truth_of(word: u64) -> Option<u32>
     ensures { result ≡ truth_number word }
 {
     match word {
-        0x174 => 1,
-        0x131 => 1,
-        0x1_7472_7565 => 1,
-        0x166 => 0,
-        0x130 => 0,
-        0x166_616c_7365 => 0,
-        0x13f => 2,
-        _ => 3,
+        0x174 | 0x131 | 0x1_7472_7565 => Some(1),
+        0x166 | 0x130 | 0x166_616c_7365 => Some(0),
+        0x13f => Some(2),
+        _ => None,
     }
 }
 
-// A word's element is stored; a word of no letters has none.
-fn add_truth(word: u64, scratch: &mut [i64], count: usize) -> Added
+// A word's element is stored; a word of no letters has none. How many elements there are with it.
+fn add_truth(word: u64, scratch: &mut [i64], count: usize) -> Result<usize, Reason>
     requires { count < 18446744073709551615 }
     ensures { Adds truth_word (λ w. word ≡ spelling w) count scratch.old scratch.new result }
 {
     if word == 1 {
-        return Added { count, number: 0 };
+        return Ok(count);
     }
-    let x = truth_of(word);
-    if x == 3 {
-        return Added { count, number: 11 };
-    }
-    put(scratch, count, as_element(x));
-    Added {
-        count: count + 1,
-        number: 0,
-    }
+    let truth = truth_of(word).ok_or(Reason::NoElement)?;
+    put(scratch, count, as_element(truth));
+    Ok(count + 1)
 }
 
 // The elements of a boolean cell, word by word.
-pub(crate) fn truths(s: &[u8], from: usize, source: Source, scratch: &mut [i64]) -> Taken
+pub(crate) fn truths(
+    s: &[u8],
+    from: usize,
+    source: Source,
+    scratch: &mut [i64],
+) -> Result<Held, Reason>
     requires { from ≤ length s.now }
     ensures { TakesElements (elements_from source Truths (drop from s.now)) s.now from scratch.old scratch.new result }
 {
     let mut i = from;
     let mut count = 0;
-    let mut number = 0;
+    let mut bad = None;
     loop {
-        match truth_piece(s, i, source) {
-            Piece::Broken => return Taken::Refused(10),
+        match truth_piece(s, i, source)? {
             Piece::Last(word, next) => {
-                return with_last(number, add_truth(word, scratch, count), next);
+                return judged(bad, add_truth(word, scratch, count), next);
             }
             Piece::Cut(word, next) => {
-                let added = add_truth(word, scratch, count);
-                number = first_bad(number, added.number);
-                count = added.count;
+                match add_truth(word, scratch, count) {
+                    Ok(more) => count = more,
+                    Err(reason) => bad = bad.or(Some(reason)),
+                }
                 i = next;
             }
         }

@@ -45,13 +45,13 @@ ends-bare None t = record { found = tt }
 
 -- ---- what `?` hands on where nothing was found
 
-pub markup-failed : {A B : Type 0} {r : Outcome A Reason} {o : Option B} {e : Reason} → IsErrAnd r (λ (f : Reason). f ≡ e)
-    → ◌≡◌ {A = Outcome B Reason} (Err e) (ok_or o Reason.Markup) → o ≡ None → r ≡ Err Reason.Markup
-markup-failed {B = B} {o = None} h v q = handed-on h ∙ ap Err (errs {A = B} v)
+pub nothing-found : {A B : Type 0} {r : Outcome A Reason} {o : Option B} {e f : Reason} → IsErrAnd r (λ (x : Reason). x ≡ e)
+    → ◌≡◌ {A = Outcome B Reason} (Err e) (ok_or o f) → o ≡ None → r ≡ Err f
+nothing-found {A} {B} {o = None} h v q = handed-on h ∙ ap {B = Outcome A Reason} Err (errs v)
   where
-    errs : {A : Type 0} {e f : Reason} → ◌≡◌ {A = Outcome A Reason} (Err e) (Err f) → e ≡ f
+    errs : {e f : Reason} → ◌≡◌ {A = Outcome B Reason} (Err e) (Err f) → e ≡ f
     errs q = cc
-markup-failed {o = Some x} h v q = cc
+nothing-found {o = Some x} h v q = cc
 
 -- ---- a reference up to its `;`
 

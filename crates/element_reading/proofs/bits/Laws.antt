@@ -8,7 +8,7 @@ use mathlib.Core.Path.{◌∙◌, ◌≡◌, ap, refl, sym}
 use lib.Dec.{ltb}
 use lib.IntN.{pos, ℤ}
 use lib.ListN.{drop, length, length-append, set}
-use borrow.Author.Tests.{eq-eqb, le-ltb, lt-ltb, ne_eqb}
+use borrow.Author.Tests.{le-ltb, lt-ltb}
 use Rattle.table.proofs.Bytes.{between-no}
 use Rattle.table.proofs.Laws.{NoWhite, bad-good, between_is, no-white, not-empty}
 use Rattle.table.proofs.Words.{no-white-more, words-cut, words_last, words-none, words-white}
@@ -22,12 +22,18 @@ use Rattle.element_reading.proofs.elements.Laws.{ReadTo, read_more, read-spoilt}
 use Rattle.character_reading.specs.Characters.{ItemIs, characters_of, spoiled_number}
 use Rattle.element_reading.specs.Elements.{BitIs, TakesElements, bit_as, elements_from}
 use Rattle.character_reading.specs.declared.characters.Item.TheVariants.{Code}
-use Rattle.element_reading.specs.declared.elements.Taken.{Taken}
+use Rattle.std.specs.Prelude.{Err, None, Ok, Some}
+use Rattle.table.specs.Reasons.{number_of}
+use Rattle.table.specs.declared.Reason.{Reason}
 use Rattle.character_reading.specs.declared.characters.Source.{Source}
 
-pub bit-none : (c : ℕ) → (c ≡ 48 → ⊥) → (c ≡ 49 → ⊥) → bit_as 2 ≡ bit_letter c
-unfolding bit_as bit_letter
+bit-none : (c : ℕ) → (c ≡ 48 → ⊥) → (c ≡ 49 → ⊥) → bit_as None ≡ bit_letter c
+unfolding bit_letter
 bit-none c x y = rw (between-no 48 49 c (λ h k. y (omega arith)))
+
+pub none-of : (closed : Bool) (c : ℕ) → (c ≡ 48 → ⊥) → (c ≡ 49 → ⊥) → BitIs closed c None
+none-of true c x y = refl
+none-of false c x y = bit-none c x y
 
 pub record BitsAt (w u : List ℕ) (es : List ℤ) (closed : Bool) (n : ℕ) : Type 0 where
   pub shape_is : (v : List ℕ) → words (w ++ v) ≡ cond closed (u ∷ words v) (words (u ++ v))
@@ -75,10 +81,9 @@ bit-white c e h = go (between 48 49 c) refl h
     go false q r = absurd (bad-good r)
 
 -- what the code takes a character for
-bit-known : (closed : Bool) (c r : ℕ) → BitIs closed c r → (r ≡ 2 → ⊥) → (closed ≡ false) × (bit_letter c ≡ good (pos r))
-unfolding bit_as
-bit-known true c r b n = absurd (n b)
-bit-known false c r b n = (refl, sym b ∙ rw (ne_eqb r 2 n))
+bit-known : (closed : Bool) (c r : ℕ) → BitIs closed c (Some r) → (closed ≡ false) × (bit_letter c ≡ good (pos r))
+bit-known true c r b = cc
+bit-known false c r b = (refl, sym b)
 
 every_one : (c : ℕ) (e : ℤ) → bit_letter c ≡ good e → every bit_letter (c ∷ []) ≡ good (e ∷ [])
 unfolding every
@@ -142,15 +147,14 @@ bad-letter : (c : ℕ) (x : List ℕ) → bit_letter c ≡ bad 11 → every bit_
 unfolding every
 bad-letter c x e = rw e
 
-bits-bad : (w u : List ℕ) (es : List ℤ) (closed : Bool) (n c r : ℕ) → BitsAt w u es closed n → is_white c ≡ false → BitIs closed c r → r ≡ 2
+bits-bad : (w u : List ℕ) (es : List ℤ) (closed : Bool) (n c : ℕ) → BitsAt w u es closed n → is_white c ≡ false → BitIs closed c None
     → (v : List ℕ) → text_elements Bits (w ++ (c ∷ []) ++ v) ≡ bad 11
-unfolding bit_as
-bits-bad w u es true n c r p h b e v =
+bits-bad w u es true n c p h b v =
     let f : (x : List ℕ) × (ws : List (List ℕ)) × (words (c ∷ v) ≡ (c ∷ x) ∷ ws) = words-first [] c v tt h in
     bits_are (w ++ (c ∷ []) ++ v) ∙ ap bit_words (ap words (append_assoc w (c ∷ []) v) ∙ p.shape_is (c ∷ v) ∙ ap (λ (ws : List (List ℕ)). u ∷ ws) f.2) ∙ two-words u (c ∷ f.0) f.1
-bits-bad w u es false n c r p h b e v =
+bits-bad w u es false n c p h b v =
     let f : (x : List ℕ) × (ws : List (List ℕ)) × (words (u ++ (c ∷ v)) ≡ (u ++ (c ∷ x)) ∷ ws) = words-first u c v p.word h in
-    let k : bit_letter c ≡ bad 11 = sym b ∙ rw (eq-eqb r 2 e) in
+    let k : bit_letter c ≡ bad 11 = sym b in
     bits_are (w ++ (c ∷ []) ++ v) ∙ ap bit_words (ap words (append_assoc w (c ∷ []) v) ∙ p.shape_is (c ∷ v) ∙ f.2)
     ∙ bad-word (u ++ (c ∷ f.0)) f.1 (rw (every_append bit_letter u (c ∷ f.0), p.elements, bad-letter c f.0 k))
 
@@ -159,7 +163,7 @@ abbrev pub BitsTo : Bool → ℕ → List ℕ → List ℤ → Type 0
 BitsTo closed n w es = (u : List ℕ) × BitsAt w u es closed n
 
 module _ {source : Source} {s : List ℕ} {from i n : ℕ} {closed : Bool} {entry l : List ℤ} (r : ReadTo (BitsTo closed n) source s from i n entry l)
-    {c next : ℕ} (t : ItemIs source (characters_of source (drop i s)) s i (Code c next)) where
+    {c next : ℕ} (t : ItemIs source (characters_of source (drop i s)) s i (Ok (Code c next))) where
   pub bits-passed : is_white c ≡ true → ReadTo (BitsTo (ltb 0 n) n) source s from next n entry l
   bits-passed h = record {
     w = r.w ++ (c ∷ []);
@@ -173,13 +177,13 @@ module _ {source : Source} {s : List ℕ} {from i n : ℕ} {closed : Bool} {entr
     high = t.within.1;
   }
 
-  pub bits-spoilt : {x m : ℕ} → is_white c ≡ false → BitIs closed c x → x ≡ 2 → m ≡ spoiled_number (characters_of source (drop next s))
-      → TakesElements (elements_from source Bits (drop from s)) s from entry l (Taken.Refused m)
-  bits-spoilt {x} h b k e = read-spoilt r Bits t (bits-bad r.w r.means.0 r.es closed n c x r.means.1 h b k) e
+  pub bits-spoilt : {m : Reason} → is_white c ≡ false → BitIs closed c None → number_of m ≡ spoiled_number (characters_of source (drop next s))
+      → TakesElements (elements_from source Bits (drop from s)) s from entry l (Err m)
+  bits-spoilt h b e = read-spoilt r Bits t (bits-bad r.w r.means.0 r.es closed n c r.means.1 h b) e
 
-  pub bits-read : {m : List ℤ} {x : ℕ} {y : ℤ} → BitIs closed c x → (x ≡ 2 → ⊥) → m ≡ set l n y → y ≡ pos x → ReadTo (BitsTo closed (n + 1)) source s from next (n + 1) entry m
-  bits-read {x = x} b k e q =
-      let f = bit-known closed c x b k in
+  pub bits-read : {m : List ℤ} {x : ℕ} {y : ℤ} → BitIs closed c (Some x) → m ≡ set l n y → y ≡ pos x → ReadTo (BitsTo closed (n + 1)) source s from next (n + 1) entry m
+  bits-read {x = x} b e q =
+      let f = bit-known closed c x b in
       read_more r t e q (_, bits-more r.w r.means.0 r.es closed n c (pos x) r.means.1 f.0 f.1)
 
 pub bits-to-end : {w : List ℕ} {es : List ℤ} {closed : Bool} {n : ℕ} → BitsTo closed n w es → text_elements Bits w ≡ good es

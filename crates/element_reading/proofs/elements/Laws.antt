@@ -19,8 +19,10 @@ use Rattle.element_reading.proofs.Passing.{onward-bad, onward-broken, onward-end
 use Rattle.character_reading.specs.Characters.{ItemIs, characters_of, spoiled_number}
 use Rattle.element_reading.specs.Elements.{Passed, Stored, TakesElements, elements_from, onward}
 use Rattle.character_reading.specs.declared.characters.Item.TheVariants.{Code, End}
-use Rattle.element_reading.specs.declared.elements.Taken.TheVariants.{Held}
-use Rattle.element_reading.specs.declared.elements.Taken.{Taken}
+use Rattle.element_reading.specs.declared.elements.Held.{Held}
+use Rattle.std.specs.Prelude.{Err, Ok, Result as Outcome}
+use Rattle.table.specs.Reasons.{number_of}
+use Rattle.table.specs.declared.Reason.{Reason}
 use Rattle.character_reading.specs.declared.characters.Source.{Source}
 
 -- ---- elements in the scratch
@@ -81,11 +83,12 @@ module _ {As : List ℕ → List ℤ → Type 0} {source : Source} {s : List ℕ
   unfolding elements_from
   read-on k = r.passed.passes (text_elements k)
 
-  pub read-broken : (k : Shape) → characters_of source (drop i s) ≡ bad 10 → TakesElements (elements_from source k (drop from s)) s from entry l (Taken.Refused 10)
-  read-broken k e = record { found = read-on k ∙ ap (onward (λ cs. text_elements k (r.w ++ cs))) e ∙ onward-broken _; long = r.long }
+  pub read-broken : (k : Shape) {e : Reason} {t : Outcome Held Reason} → t ≡ Err e → characters_of source (drop i s) ≡ bad (number_of e)
+      → TakesElements (elements_from source k (drop from s)) s from entry l t
+  read-broken k q e = rw q (record { found = read-on k ∙ ap (onward (λ cs. text_elements k (r.w ++ cs))) e ∙ onward-broken _; long = r.long })
 
-  pub read-end : (k : Shape) {next : ℕ} → ItemIs source (characters_of source (drop i s)) s i (End next) → text_elements k r.w ≡ good r.es
-      → TakesElements (elements_from source k (drop from s)) s from entry l (Held n next)
+  pub read-end : (k : Shape) {next : ℕ} → ItemIs source (characters_of source (drop i s)) s i (Ok (End next)) → text_elements k r.w ≡ good r.es
+      → TakesElements (elements_from source k (drop from s)) s from entry l (Ok (record { count = n; next = next }))
   read-end k {next} t e = record {
     found = (
       r.es,
@@ -99,16 +102,16 @@ module _ {As : List ℕ → List ℤ → Type 0} {source : Source} {s : List ℕ
   }
 
   -- a character with which there is no value of the kind, whatever follows
-  pub read-spoilt : (k : Shape) {c next m : ℕ} → ItemIs source (characters_of source (drop i s)) s i (Code c next)
-      → ((v : List ℕ) → text_elements k (r.w ++ (c ∷ []) ++ v) ≡ bad 11) → m ≡ spoiled_number (characters_of source (drop next s))
-      → TakesElements (elements_from source k (drop from s)) s from entry l (Taken.Refused m)
+  pub read-spoilt : (k : Shape) {c next : ℕ} {m : Reason} → ItemIs source (characters_of source (drop i s)) s i (Ok (Code c next))
+      → ((v : List ℕ) → text_elements k (r.w ++ (c ∷ []) ++ v) ≡ bad 11) → number_of m ≡ spoiled_number (characters_of source (drop next s))
+      → TakesElements (elements_from source k (drop from s)) s from entry l (Err m)
   unfolding elements_from
   read-spoilt k {c} {next} t f e =
       let p : Passed source s from next (r.w ++ (c ∷ [])) = passed_then r.passed (passed-code {s = s} {i = i} {j = next} {c = c} t.found) in
       record { found = p.passes (text_elements k) ∙ onward-bad (λ cs. text_elements k (r.w ++ (c ∷ []) ++ cs)) (characters_of source (drop next s)) f ∙ ap bad (sym e); long = r.long }
 
   -- a character more, which is stored
-  pub read_more : {Next : List ℕ → List ℤ → Type 0} {c next : ℕ} {m : List ℤ} {x y : ℤ} → ItemIs source (characters_of source (drop i s)) s i (Code c next)
+  pub read_more : {Next : List ℕ → List ℤ → Type 0} {c next : ℕ} {m : List ℤ} {x y : ℤ} → ItemIs source (characters_of source (drop i s)) s i (Ok (Code c next))
       → m ≡ set l n y → y ≡ x → Next (r.w ++ (c ∷ [])) (r.es ++ (x ∷ [])) → ReadTo Next source s from next (n + 1) entry m
   read_more t e q a = record {
     w = _;

@@ -6,10 +6,9 @@ use lib.IntN.{ℤ}
 use Rattle.tabledata.specs.TableData.{text_elements}
 use Rattle.element_reading.specs.Elements.{CountsElements, TakesElements, elements_from, onward}
 use Rattle.character_reading.specs.declared.characters.Source.TheVariants.{Plain}
-use Rattle.element_reading.specs.declared.elements.Counted.TheVariants.{All}
-use Rattle.element_reading.specs.declared.elements.Counted.{Counted}
-use Rattle.element_reading.specs.declared.elements.Taken.TheVariants.{Held}
-use Rattle.element_reading.specs.declared.elements.Taken.{Taken}
+use Rattle.element_reading.specs.declared.elements.Held.{Held}
+use Rattle.std.specs.Prelude.{Err, Ok, Result as Outcome}
+use Rattle.table.specs.declared.Reason.{Reason}
 use Rattle.table.specs.Result.{Result, ◌>>=◌, bad, good}
 use Rattle.table.specs.Shape.{Shape}
 
@@ -33,11 +32,12 @@ part-means : (k : Shape) (part : List ℕ) {r : Result ℕ (List ℤ × List ℕ
 part-means k part e = firsts-whole (text_elements k part) ∙ ap firsts (sym (part-is k part) ∙ e)
 
 module _ (k : Shape) {part : List ℕ} {place : ℕ} {entry exit : List ℤ} where
-  pub part-counted : {count next : ℕ} → TakesElements (elements_from Plain k part) part place entry exit (Held count next) → CountsElements (text_elements k part) entry exit (All count)
+  pub part-counted : {held : Held} → TakesElements (elements_from Plain k part) part place entry exit (Ok held) → CountsElements (text_elements k part) entry exit (Ok held.count)
   part-counted t = record {
     found = (t.found.0, part-means k part t.found.1, t.found.2);
     long = t.long;
   }
 
-  pub part-refused : {n : ℕ} → TakesElements (elements_from Plain k part) part place entry exit (Taken.Refused n) → CountsElements (text_elements k part) entry exit (Counted.Refused n)
-  part-refused t = record { found = part-means k part t.found; long = t.long }
+  pub part-refused : {e : Reason} {r : Outcome ℕ Reason} → r ≡ Err e → TakesElements (elements_from Plain k part) part place entry exit (Err e)
+      → CountsElements (text_elements k part) entry exit r
+  part-refused q t = rw q (record { found = part-means k part t.found; long = t.long })

@@ -17,8 +17,8 @@ use Rattle.table.proofs.Bytes.{between-no}
 use Rattle.table.proofs.Laws.{all-weaken, and_both, cond_cases, no-white}
 use Rattle.table.proofs.Places.{next1}
 use Rattle.table.specs.All.{All}
-use Rattle.table.specs.Bytes.{between, is_white, words}
-use Rattle.table.specs.Result.{Result, bad, every, good, refused_as}
+use Rattle.table.specs.Bytes.{between, is_white, not_empty, words}
+use Rattle.table.specs.Result.{Result, ◌>>=◌, bad, every, good, refused_as}
 use Rattle.table.specs.Shape.{Shape, Whole}
 use Rattle.tabledata.proofs.Characters.{plain-yes}
 use Rattle.tabledata.specs.Clauses.{is_plain}
@@ -31,7 +31,7 @@ use Rattle.character_reading.specs.Characters.{TextEnds, ItemIs, characters_of}
 use Rattle.element_reading.specs.Elements.{Passed}
 use Rattle.element_reading.specs.Words.{Adds, CutAt, LastAt, WordOf, begun_form, is-added, letter_of, space_at}
 use Rattle.character_reading.specs.declared.characters.Item.TheVariants.{Code}
-use Rattle.text.specs.declared.Tag.TheVariants.{At}
+use Rattle.std.specs.Prelude.{Ok, Some}
 use Rattle.words.proofs.WordLaws.{fed-reads, feed-more}
 use Rattle.words.specs.Clauses.{IsPlain, QuickAt}
 use Rattle.words.specs.Words.{add_decimal, add_hexadecimal, broken_word, capped, decimal_next, feed, first_next, fresh, hexadecimal_next, reading, next_word as letter, next_from, word, zero_next}
@@ -148,6 +148,13 @@ pub integer-as : (k : Integer) (w : List ℕ) (r : Result Fault ℤ) → reading
 unfolding integer_word
 integer-as k w r e = ap (refused_as fault_number) (sym (fed-reads k w) ∙ e)
 
+-- a word that was read adds what it reads as
+pub read-word : (k : Integer) (w : List ℕ) (r : Result Fault ℤ) {x : Word} → x ≡ feed fresh w → begun_form x.form ≡ true → reading k x ≡ r
+    → every (integer_word (is_signed k) (size k)) (not_empty (w ∷ [])) ≡ (refused_as fault_number r >>= λ e. good (e ∷ []))
+read-word k w r e b q =
+    added-word (integer_word (is_signed k) (size k)) w _ (fed-some w (ap (λ (y : Word). begun_form y.form) (sym e) ∙ b))
+    (integer-as k w r (ap (reading k) (sym e) ∙ q))
+
 abbrev pub whole : Integer → Shape
 whole k = Whole (is_signed k) (width_of k)
 
@@ -192,18 +199,18 @@ module _ {k : Integer} {source : Source} {s : List ℕ} {from end : ℕ} {z : �
   quick-cut b =
       let both = and_both (ltb end (length s)) (eqb (get_or s end 0) 32) b in
       let h = ltb-true end (length s) both.0 in let e = eqb-true (get_or s end 0) 32 both.1 in
-      let t : ItemIs source (characters_of source (drop end s)) s end (Code (get_or s end 0) (end + 1)) = record {
-        found = itself s end source h (λ x. omega (arith, e, x)) (λ x. omega (arith, e, x)) (λ x. omega (arith, e, x));
+      let t : ItemIs source (characters_of source (drop end s)) s end (Ok (Code (get_or s end 0) (end + 1))) = record {
+        found = itself s end source h (λ _. (λ x. omega (arith, e, x), λ x. omega (arith, e, x), λ x. omega (arith, e, x)));
         within = (omega arith, omega arith);
       } in
       word-cuts quick-to t (ap is_white e)
 
-  pub quick-last : {next : ℕ} → TextEnds source s end (At next) → LastAt (WordOf k z) source s from next
+  pub quick-last : {next : ℕ} → TextEnds source s end (Some next) → LastAt (WordOf k z) source s from next
   quick-last t = word-ends quick-to t.found
 
 -- a word that was read at once adds its integer
 pub quick-adds : (k : Integer) {z y : ℤ} {n : ℕ} {l m : List ℤ} → m ≡ set l n y → y ≡ z
-    → Adds (integer_word (is_signed k) (size k)) (WordOf k z) n l m (record { count = n + 1; number = 0 })
+    → Adds (integer_word (is_signed k) (size k)) (WordOf k z) n l m (Ok (n + 1))
 quick-adds k {z} e q = record {
   found = λ w h. rw (added-word (integer_word (is_signed k) (size k)) w (good z) h.0 h.1) (is-added refl (λ es p. put-more p e q));
   most = omega arith;

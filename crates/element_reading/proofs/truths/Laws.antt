@@ -2,7 +2,7 @@
 use Prim.Native.Nat.{◌*◌, ◌+◌, ◌<◌, ◌≤◌, ℕ}
 use native.Mathlib.Nat.{le_refl}
 use native.Mathlib.Omega.{arith}
-use mathlib.Core.Bool.{Bool, ◌&&◌, ◌||◌, and_assoc, and-false, and-true, cond, false, or-true, true}
+use mathlib.Core.Bool.{Bool, ◌&&◌, ◌||◌, and_assoc, and-false, and-true, cond, false, false≢true, or-true, true}
 use mathlib.Core.List.{List, [], ◌++◌, ◌∷◌, map}
 use mathlib.Core.Path.{◌∙◌, ◌≡◌, ap, refl, sym}
 use lib.Dec.{eqb, leb, lit≤}
@@ -13,6 +13,7 @@ use Rattle.table.proofs.Bytes.{between-no}
 use Rattle.table.proofs.Laws.{all_below, and_both, between_is, between-yes, cond_cases, each_below}
 use Rattle.table.specs.Bytes.{between, bytes, same, words}
 use Rattle.table.specs.Result.{Result, bad, every, good}
+use Rattle.std.specs.Prelude.{None, Option, Some}
 use Rattle.table.specs.Shape.{Truths}
 use Rattle.tabledata.proofs.Laws.{text-lt}
 use Rattle.tabledata.specs.TableData.{all_text, is_text, lower, text_elements, truth_letter, truth_word}
@@ -119,16 +120,17 @@ same_word : (w v : List ℕ) → all_text v ≡ true → number_from 1 v < 28147
 same_word w v a h = same_number 1 1 1 w v (lit≤ tt, lit≤ tt, lit≤ tt, lit≤ tt, lit≤ tt) a h
 
 -- what a value stands for
-unfoldable pub truth_as : ℕ → Result ℕ ℤ
-truth_as n = cond (eqb n 3) (bad 11) (good (pos n))
+abbrev pub truth_as : Option ℕ → Result ℕ ℤ
+truth_as (Some n) = good (pos n)
+truth_as None = bad 11
 
-abbrev code_of : Result ℕ ℤ → ℕ
-code_of (good (pos n)) = n
-code_of (good (negsuc n)) = 3
-code_of (bad e) = 3
+abbrev code_of : Result ℕ ℤ → Option ℕ
+code_of (good (pos n)) = Some n
+code_of (good (negsuc n)) = None
+code_of (bad e) = None
 
 letter-as : (a : ℕ) → truth_letter a ≡ truth_as (code_of (truth_letter a))
-unfolding truth_letter truth_as
+unfolding truth_letter
 letter-as a =
     cond_cases P (eqb a 84 || eqb a 116 || eqb a 49) _ _ (λ _. refl) (λ _.
     cond_cases P (eqb a 70 || eqb a 102 || eqb a 48) _ _ (λ _. refl) (λ _.
@@ -138,15 +140,27 @@ letter-as a =
     P r = r ≡ truth_as (code_of r)
 
 -- the number of one letter stands for what the letter does
+abbrev same_code : Option ℕ → Option ℕ → Bool
+same_code (Some n) (Some m) = eqb n m
+same_code (Some n) None = false
+same_code None (Some m) = false
+same_code None None = true
+
+codes-same : (a b : Option ℕ) → same_code a b ≡ true → a ≡ b
+codes-same (Some n) (Some m) e = ap Some (eqb-true n m e)
+codes-same (Some n) None e = absurd (false≢true e)
+codes-same None (Some m) e = absurd (false≢true e)
+codes-same None None e = refl
+
 abbrev one_same : ℕ → Bool
-one_same a = eqb (code_of (truth_letter a)) (truth_number (spelling (a ∷ [])))
+one_same a = same_code (code_of (truth_letter a)) (truth_number (spelling (a ∷ [])))
 
 letters-same : all_below one_same 128 ≡ true
 unfolding truth_letter truth_number spelled spell lower between
 letters-same = refl
 
 letter-wide : (a : ℕ) → 128 ≤ a → truth_letter a ≡ truth_as (truth_number (spelling (a ∷ [])))
-unfolding truth_letter spelled truth_number truth_as
+unfolding truth_letter spelled truth_number
 letter-wide a h =
     rw (
       spell-wide 1 a h,
@@ -166,13 +180,14 @@ value-one a = go (leb 128 a) refl
     go : (t : Bool) → leb 128 a ≡ t → truth_letter a ≡ truth_as (truth_number (spelling (a ∷ [])))
     go true e = letter-wide a (leb-true 128 a e)
     go false e =
-        letter-as a ∙ ap truth_as (eqb-true (code_of (truth_letter a)) (truth_number (spelling (a ∷ []))) (each_below one_same 128 letters-same a (leb-false 128 a e)))
+        letter-as a ∙ ap truth_as (codes-same (code_of (truth_letter a)) (truth_number (spelling (a ∷ []))) (each_below one_same 128 letters-same a (leb-false 128 a e)))
 
 -- the number of a word, by the words that it may be
 number_is : (w : List ℕ) → let small = map lower w in
     truth_number (spelling w)
-    ≡ cond (same small (bytes "t")) 1 (cond (same small (bytes "1")) 1 (cond (same small (bytes "true")) 1
-    (cond (same small (bytes "f")) 0 (cond (same small (bytes "0")) 0 (cond (same small (bytes "false")) 0 (cond (same small (bytes "?")) 2 3))))))
+    ≡ cond (same small (bytes "t")) (Some 1) (cond (same small (bytes "1")) (Some 1) (cond (same small (bytes "true")) (Some 1)
+    (cond (same small (bytes "f")) (Some 0) (cond (same small (bytes "0")) (Some 0) (cond (same small (bytes "false")) (Some 0)
+    (cond (same small (bytes "?")) (Some 2) None))))))
 unfolding truth_number number_from all_text is_text between
 number_is w =
     rw (
@@ -189,8 +204,7 @@ longer : (a b c : ℕ) (w : List ℕ) → same (a ∷ b ∷ w) (c ∷ []) ≡ fa
 unfolding same
 longer a b c w = rw and-false
 
-decided : (x y : Bool) → ◌≡◌ {A = Result ℕ ℤ} (cond x (good (pos 1)) (cond y (good (pos 0)) (bad 11))) (truth_as (cond x 1 (cond y 0 3)))
-unfolding truth_as
+decided : (x y : Bool) → ◌≡◌ {A = Result ℕ ℤ} (cond x (good (pos 1)) (cond y (good (pos 0)) (bad 11))) (truth_as (cond x (Some 1) (cond y (Some 0) None)))
 decided true y = refl
 decided false true = refl
 decided false false = refl
@@ -217,14 +231,6 @@ pub spelling-some : (w : List ℕ) → (spelling w ≡ 1 → ⊥) → 1 ≤ leng
 unfolding spelled
 spelling-some [] h = absurd (h refl)
 spelling-some (c ∷ w) h = omega arith
-
-pub truth-none : (n : ℕ) → n ≡ 3 → truth_as n ≡ bad 11
-unfolding truth_as
-truth-none n e = rw (eq-eqb n 3 e)
-
-pub truth-some : (n : ℕ) → (n ≡ 3 → ⊥) → truth_as n ≡ good (pos n)
-unfolding truth_as
-truth-some n e = rw (ne_eqb n 3 e)
 
 pub truths-are : (w : List ℕ) → text_elements Truths w ≡ every truth_word (words w)
 unfolding text_elements

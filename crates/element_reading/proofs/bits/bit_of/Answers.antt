@@ -2,20 +2,17 @@
 -- case.
 use Rattle.table.specs.Bytes.{between}
 use Rattle.tabledata.specs.TableData.{bit_letter}
-use Rattle.element_reading.proofs.bits.Laws.{bit-none}
-use Rattle.element_reading.specs.Elements.{bit_as}
+use Rattle.element_reading.proofs.bits.Laws.{none-of}
+use native.Mathlib.Omega.{arith}
 use Rattle.element_reading.proofs.bits.bit_of.Goals as goal
 
-pub returns-then-closed : goal.returns-then-closed
-returns-then-closed c = rw c.if-closed.true
-
 pub returns-in-48 : goal.returns-in-48
-unfolding bit_as bit_letter between
-returns-in-48 c = rw (c.if-closed.false, c.in-48.is)
+unfolding bit_letter between
+returns-in-48 c = rw (c.if-not-closed.true, c.in-48.is)
 
 pub returns-in-49 : goal.returns-in-49
-unfolding bit_as bit_letter between
-returns-in-49 c = rw (c.if-closed.false, c.in-49.is)
+unfolding bit_letter between
+returns-in-49 c = rw (c.if-not-closed-2.true, c.in-49.is)
 
-pub returns-in_default : goal.returns-in_default
-returns-in_default c = rw c.if-closed.false (bit-none _ c.in_default.in_default-own.rest.0.1 c.in_default.in_default-own.rest.1)
+pub returns-in_default-3 : goal.returns-in_default-3
+returns-in_default-3 c = none-of c.args.closed c.args.c (λ e. grind (arith, e)) (λ e. grind (arith, e))
