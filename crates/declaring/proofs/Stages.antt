@@ -13,7 +13,7 @@ use Rattle.declaring.specs.Readers.{FieldIs, element_of}
 use Rattle.fields.specs.Fields.{declare, fields_f, fields_then, judge, read_field}
 use Rattle.declaring.specs.declared.Declared.{Declared}
 use Rattle.declaring.specs.declared.elements.Element.{Element}
-use Rattle.declaring.specs.declared.elements.FieldRead.TheVariants as of_field
+use Rattle.std.specs.Prelude.{None, Some}
 use Rattle.table.proofs.Places.{done, next1}
 use Rattle.table.specs.Outcome.{Refusal, at, most_declarations}
 use Rattle.table.specs.Result.{Result, ◌>>=◌, bad, good, refused_as}
@@ -82,10 +82,10 @@ join (good ds) c cs = ap good (sym (append_assoc cs (c ∷ []) ds))
 join (bad e) c cs = refl
 
 module _ (s : List ℕ) (place k : ℕ) (columns : Columns) (g : Stage s place k columns) (h : place < length s) where
-  pub stage-broken : FieldIs s place (read_field (drop place s)) of_field.Broken → declare s ≡ bad (at k 1)
+  pub stage-broken : FieldIs s place (read_field (drop place s)) None → declare s ≡ bad (at k 1)
   stage-broken f = g.onward ∙ rw (field-then s place k (rest k) h) (rw f.rest)
 
-  module _ (e : Element) (f : FieldIs s place (read_field (drop place s)) (of_field.Whole e)) where
+  module _ (e : Element) (f : FieldIs s place (read_field (drop place s)) (Some e)) where
     pub stage-refused : (n : ℕ) → judge (element_of s e) ≡ bad n → declare s ≡ bad (at k n)
     stage-refused n j = g.onward ∙ rw (field-then s place k (rest k) h) (rw (f.rest, j))
 

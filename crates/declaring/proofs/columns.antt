@@ -1,2 +1,3 @@
 pub mod Numerals
 pub mod Nulls
+pub mod Names

@@ -3,28 +3,14 @@ ghost use Rattle.std.specs.Prelude.{◌≡◌, ◌<◌, ◌≤◌, drop, length}
 ghost use Rattle.fields.specs.Fields.{read_value};
 ghost use Rattle.declaring.specs.Readers.{AttributesIs, QuotedIs, assigned, is_quote, met_again, with_attribute};
 
-use crate::spans::{Class, span_end};
-use text::{Tag, ends, same_bytes, skip_white};
-
-// A value as written: where it begins and where it ends.
-#[derive(Clone, Copy)]
-pub enum Value {
-    Absent,
-    Present(usize, usize),
-}
-
-// A value in its quotes.
-#[derive(Clone, Copy)]
-enum Quoted {
-    Broken,
-    Holds(usize, usize),
-}
+use crate::spans::{Class, Span, span_end};
+use text::{ends, same_bytes, skip_white};
 
 // How often an attribute was met, and its value if once.
 #[derive(Clone, Copy)]
 pub enum Met {
     Never,
-    Once(usize, usize),
+    Once(Span),
     Often,
 }
 
@@ -38,9 +24,9 @@ pub struct Tally {
 
 // The attributes of a tag, and the place behind them.
 #[derive(Clone, Copy)]
-pub enum Attributes {
-    Broken,
-    Tallied(Tally, usize),
+pub struct Attributes {
+    pub tally: Tally,
+    pub next: usize,
 }
 
 fn is_quote(c: u8) -> bool
@@ -53,75 +39,62 @@ fn is_quote(c: u8) -> bool
 }
 
 // The value that a quote at `from` opens.
-fn read_quoted(s: &[u8], from: usize) -> Quoted
+fn read_quoted(s: &[u8], from: usize) -> Option<Span>
     requires { from < length s.now }
     ensures { QuotedIs s.now from (read_value (drop from s.now)) result }
 {
     let quote = s[from];
     if !is_quote(quote) {
-        return Quoted::Broken;
+        return None;
     }
-    let end = span_end(s, from + 1, Class::Quoted(quote));
-    if s.len() <= end {
-        return Quoted::Broken;
+    let start = from + 1;
+    let end = span_end(s, start, Class::Quoted(quote));
+    if end < s.len() && s[end] == quote {
+        return Some(Span { start, end });
     }
-    if s[end] == quote {
-        return Quoted::Holds(from + 1, end);
-    }
-    Quoted::Broken
+    None
 }
 
 // `=` and the value behind it.
-fn read_value(s: &[u8], at: usize) -> Quoted
+fn read_value(s: &[u8], at: usize) -> Option<Span>
     requires { at ≤ length s.now }
     ensures { QuotedIs s.now at (assigned (drop at s.now)) result }
 {
-    let Tag::At(i) = ends(s, at, b"=") else {
-        return Quoted::Broken;
-    };
-    let from = skip_white(s, i);
+    let from = skip_white(s, ends(s, at, b"=")?);
     if from < s.len() {
         return read_quoted(s, from);
     }
-    Quoted::Broken
+    None
 }
 
-fn met_again(m: Met, counts: bool, start: usize, end: usize) -> Met
-    ensures { result ≡ met_again counts m start end }
+fn met_again(m: Met, counts: bool, value: Span) -> Met
+    ensures { result ≡ met_again counts m value }
 {
-    if counts {
-        match m {
-            Met::Never => Met::Once(start, end),
-            Met::Once(_, _) => Met::Often,
-            Met::Often => Met::Often,
-        }
-    } else {
-        m
+    if !counts {
+        return m;
+    }
+    match m {
+        Met::Never => Met::Once(value),
+        Met::Once(_) | Met::Often => Met::Often,
     }
 }
 
-fn with_attribute(t: Tally, name: &[u8], start: usize, end: usize) -> Tally
-    ensures { result ≡ with_attribute t name.now start end }
+fn with_attribute(t: Tally, name: &[u8], value: Span) -> Tally
+    ensures { result ≡ with_attribute t name.now value }
 {
-    let d = t.datatype;
-    let a = t.arraysize;
-    let n = t.null;
-    let datatype = met_again(d, same_bytes(b"datatype", name), start, end);
-    let arraysize = met_again(a, same_bytes(b"arraysize", name), start, end);
-    let null = met_again(n, same_bytes(b"null", name), start, end);
     Tally {
-        datatype,
-        arraysize,
-        null,
+        datatype: met_again(t.datatype, same_bytes(b"datatype", name), value),
+        arraysize: met_again(t.arraysize, same_bytes(b"arraysize", name), value),
+        null: met_again(t.null, same_bytes(b"null", name), value),
     }
 }
 
-pub fn read_attributes(s: &[u8], from: usize) -> Attributes
+pub fn read_attributes(s: &[u8], from: usize) -> Option<Attributes>
     requires { from ≤ length s.now }
     ensures { AttributesIs s.now from result }
 {
     let mut at = from;
-    let mut t = Tally {
+    let mut tally = Tally {
         datatype: Met::Never,
         arraysize: Met::Never,
         null: Met::Never,
@@ -129,18 +102,11 @@ pub fn read_attributes(s: &[u8], from: usize) -> Attributes
     loop {
         let name = skip_white(s, at);
         let name_end = span_end(s, name, Class::Name);
-        if name == at {
-            return Attributes::Tallied(t, at);
+        if name == at || name_end == name {
+            return Some(Attributes { tally, next: at });
         }
-        if name_end == name {
-            return Attributes::Tallied(t, at);
-        }
-        match read_value(s, name_end) {
-            Quoted::Broken => return Attributes::Broken,
-            Quoted::Holds(start, end) => {
-                t = with_attribute(t, &s[name..name_end], start, end);
-                at = end + 1;
-            }
-        }
+        let value = read_value(s, name_end)?;
+        tally = with_attribute(tally, &s[name..name_end], value);
+        at = value.end + 1;
     }
 }

@@ -14,8 +14,8 @@ ghost use Rattle.fields.specs.Fields.{declare};
 ghost use Rattle.fields.specs.Front.{front};
 ghost use Rattle.declaring.specs.Clauses.{answered};
 
-use columns::{Judged, judge};
-use elements::{FieldRead, read_field};
+use columns::judge;
+use elements::read_field;
 use table::{Columns, Kind, Len, column_of};
 use text::skip_white;
 
@@ -62,13 +62,12 @@ pub fn declare(text: &[u8]) -> Declared
     let mut at = skip_white(text, 0);
     let mut k: usize = 0;
     while at < text.len() {
-        let FieldRead::Whole(e) = read_field(text, at) else {
+        let Some(e) = read_field(text, at) else {
             return refuse(1, k);
         };
-        let next = e.next;
         match judge(text, e) {
-            Judged::Refused(number) => return refuse(number, k),
-            Judged::Declares(c) => {
+            Err(reason) => return refuse(reason.number(), k),
+            Ok(c) => {
                 if k == 64 {
                     return refuse(5, 64);
                 }
@@ -76,7 +75,7 @@ pub fn declare(text: &[u8]) -> Declared
                 k += 1;
             }
         }
-        at = skip_white(text, next);
+        at = skip_white(text, e.next);
     }
     if k == 0 {
         return refuse(5, 0);

@@ -3,6 +3,13 @@ ghost use Rattle.std.specs.Prelude.{◌≡◌, ◌≤◌, length};
 ghost use Rattle.fields.specs.Fields.{is_name_byte};
 ghost use Rattle.declaring.specs.Readers.{SpanEnd, in_class};
 
+// A part of the text, by where it begins and where it ends.
+#[derive(Clone, Copy)]
+pub struct Span {
+    pub start: usize,
+    pub end: usize,
+}
+
 // Bytes that stand together: a name, or what a quote holds.
 #[derive(Clone, Copy)]
 pub enum Class {
@@ -39,13 +46,10 @@ pub fn span_end(s: &[u8], from: usize, class: Class) -> usize
     requires { from ≤ length s.now }
     ensures { SpanEnd class s.now from result }
 {
-    let mut i = from;
-    while i < s.len() {
-        if belongs(class, s[i]) {
-            i += 1;
-        } else {
+    for i in from..s.len() {
+        if !belongs(class, s[i]) {
             return i;
         }
     }
-    i
+    s.len()
 }

@@ -5,16 +5,16 @@ use Prim.Native.Nat.{◌+◌, ◌<◌, ◌≤◌, suc, zero, ℕ}
 use native.Mathlib.Omega.{arith}
 use mathlib.Core.Bool.{Bool, ◌&&◌, cond, false, true}
 use mathlib.Core.List.{List, [], ◌∷◌}
-use mathlib.Core.Path.{◌∙◌, ◌≡◌, ap, refl, sym}
+use mathlib.Core.Path.{◌∙◌, ◌≡◌, ap, refl}
 use lib.ListN.{drop, length, length-drop, length-take}
 use Rattle.declaring.proofs.spans.Scan.{name-at}
-use Rattle.declaring.specs.Readers.{MetIn, QuotedIs, SpanEnd, Tallied, TallyIn, another, met_again, assigned, met_of, with_attribute, part, span, tallied, tallied_in, tally_of}
+use Rattle.declaring.specs.Readers.{MetIn, QuotedIs, SpanEnd, SpanIn, Tallied, TallyIn, met_again, assigned, met_of, with_attribute, part, span, spanned, tallied, tallied_in, tally_of}
 use Rattle.fields.specs.Fields.{Attribute, at_most_one, attribute_comes, attributes, attributes_f, is_name_byte, name_comes, read_attribute, read_value, some_name, values_of}
 use Rattle.declaring.specs.declared.spans.Class.TheVariants as of-class
 use Rattle.declaring.specs.declared.attributes.Met.{Met}
 use Rattle.declaring.specs.declared.attributes.Met.TheVariants as of-met
 use Rattle.declaring.specs.declared.attributes.Tally.{Tally}
-use Rattle.declaring.specs.declared.attributes.Quoted.TheVariants as of-quoted
+use Rattle.declaring.specs.declared.spans.Span.{Span}
 use Rattle.table.proofs.Laws.{skip-le}
 use Rattle.table.specs.Bytes.{bytes, ends, is_white, same, skip_white}
 use Rattle.table.specs.Result.{Result, ◌>>=◌, bad, good}
@@ -95,33 +95,30 @@ unfolding gathered gather noted
 gathered-more t a attrs = refl
 
 -- what the code notes is what is noted
-met-once-more : (s : List ℕ) (counts : Bool) (m : Met) (a b : ℕ) → met_of s (met_again counts m a b) ≡ cond counts (once_more (met_of s m) (part s a b)) (met_of s m)
-met-once-more s true of-met.Never a b = refl
-met-once-more s true (of-met.Once c d) a b = refl
-met-once-more s true of-met.Often a b = refl
-met-once-more s false m a b = refl
+met-once-more : (s : List ℕ) (counts : Bool) (m : Met) (v : Span) → met_of s (met_again counts m v) ≡ cond counts (once_more (met_of s m) (spanned s v)) (met_of s m)
+met-once-more s true of-met.Never v = refl
+met-once-more s true (of-met.Once w) v = refl
+met-once-more s true of-met.Often v = refl
+met-once-more s false m v = refl
 
-tally-with : (s : List ℕ) (t : Tally) (name : List ℕ) (a b : ℕ) → tally_of s (with_attribute t name a b) ≡ noted (tally_of s t) (record { name = name; value = part s a b })
+tally-with : (s : List ℕ) (t : Tally) (name : List ℕ) (v : Span) → tally_of s (with_attribute t name v) ≡ noted (tally_of s t) (record { name = name; value = spanned s v })
 unfolding tally_of with_attribute noted
-tally-with s t name a b =
-    rw (met-once-more s (same (bytes "datatype") name) t.datatype a b, met-once-more s (same (bytes "arraysize") name) t.arraysize a b, met-once-more s (same (bytes "null") name) t.null a b)
+tally-with s t name v =
+    rw (met-once-more s (same (bytes "datatype") name) t.datatype v, met-once-more s (same (bytes "arraysize") name) t.arraysize v, met-once-more s (same (bytes "null") name) t.null v)
 
-met-in : (s : List ℕ) (counts : Bool) (m : Met) (a b : ℕ) → a ≤ b → b ≤ length s → MetIn s m → MetIn s (met_again counts m a b)
-met-in s true of-met.Never a b h k i = (h, k)
-met-in s true (of-met.Once c d) a b h k i = tt
-met-in s true of-met.Often a b h k i = tt
-met-in s false m a b h k i = i
+met-in : (s : List ℕ) (counts : Bool) (m : Met) (v : Span) → SpanIn s v → MetIn s m → MetIn s (met_again counts m v)
+met-in s true of-met.Never v h i = h
+met-in s true (of-met.Once w) v h i = tt
+met-in s true of-met.Often v h i = tt
+met-in s false m v h i = i
 
-pub tally-in : (s : List ℕ) (t : Tally) (name : List ℕ) (a b : ℕ) → a ≤ b → b ≤ length s → TallyIn s t → TallyIn s (with_attribute t name a b)
+pub tally-in : (s : List ℕ) (t : Tally) (name : List ℕ) (v : Span) → SpanIn s v → TallyIn s t → TallyIn s (with_attribute t name v)
 unfolding with_attribute
-tally-in s t name a b h k i = record {
-  datatype-in = met-in s (same (bytes "datatype") name) t.datatype a b h k i.datatype-in;
-  arraysize-in = met-in s (same (bytes "arraysize") name) t.arraysize a b h k i.arraysize-in;
-  null-in = met-in s (same (bytes "null") name) t.null a b h k i.null-in;
+tally-in s t name v h i = record {
+  datatype-in = met-in s (same (bytes "datatype") name) t.datatype v h i.datatype-in;
+  arraysize-in = met-in s (same (bytes "arraysize") name) t.arraysize v h i.arraysize-in;
+  null-in = met-in s (same (bytes "null") name) t.null v h i.null-in;
 }
-
-pub met-again-is : (counts : Bool) (m of : Met) (a b : ℕ) → counts ≡ true → m ≡ of → another of a b ≡ met_again counts m a b
-met-again-is counts m of a b e f = sym (ap (λ (t : Bool). met_again t m a b) e ∙ ap (λ (x : Met). another x a b) f)
 
 abbrev pub sums : Tallied → List Attribute × List ℕ → Result ℕ (Tallied × List ℕ)
 sums t r = good (gathered t r.0, r.1)
@@ -170,18 +167,18 @@ module _ (s : List ℕ) (from at : ℕ) (t : Tally) (inside : at ≤ length s) w
   unfolding attributes_f
   going-broken g e r = g.whole ∙ rw (step g).1 (rw (e, r))
 
-  pub going_more : (name : List ℕ) (a b : ℕ) → Going s from at t → attribute_comes (drop at s) ≡ true
-      → read_attribute (skip_white (drop at s)) ≡ good (record { name = name; value = part s a b }, drop (b + 1) s) → at ≤ b → Going s from (b + 1) (with_attribute t name a b)
+  pub going_more : (name : List ℕ) (v : Span) → Going s from at t → attribute_comes (drop at s) ≡ true
+      → read_attribute (skip_white (drop at s)) ≡ good (record { name = name; value = spanned s v }, drop (v.end + 1) s) → at ≤ v.end → Going s from (v.end + 1) (with_attribute t name v)
   unfolding attributes_f
-  going_more name a b g e r h = record {
+  going_more name v g e r h = record {
     fuel = (step g).0;
     enough = omega (arith, g.enough, (step g).1);
-    whole = g.whole ∙ ap (λ (n : ℕ). attributes_f n (drop at s) >>= sums (tally_of s t)) (step g).1 ∙ rw (e, r) (go (attributes_f (step g).0 (drop (b + 1) s)));
+    whole = g.whole ∙ ap (λ (n : ℕ). attributes_f n (drop at s) >>= sums (tally_of s t)) (step g).1 ∙ rw (e, r) (go (attributes_f (step g).0 (drop (v.end + 1) s)));
   }
     where
       go : (x : Result ℕ (List Attribute × List ℕ))
-          → ((x >>= onto (record { name = name; value = part s a b })) >>= sums (tally_of s t)) ≡ (x >>= sums (tally_of s (with_attribute t name a b)))
-      go (good x) = rw (tally-with s t name a b, gathered-more (tally_of s t) (record { name = name; value = part s a b }) x.0)
+          → ((x >>= onto (record { name = name; value = spanned s v })) >>= sums (tally_of s t)) ≡ (x >>= sums (tally_of s (with_attribute t name v)))
+      go (good x) = rw (tally-with s t name v, gathered-more (tally_of s t) (record { name = name; value = spanned s v }) x.0)
       go (bad n) = refl
 
 -- ---- whether an attribute comes
@@ -255,9 +252,9 @@ module _ (s : List ℕ) (at name end : ℕ) (white : Skipped s at name) (bytes_o
       go (good u) = refl
       go (bad n) = refl
 
-  pub attribute-broken : QuotedIs s end (assigned (drop end s)) of-quoted.Broken → read_attribute (skip_white (drop at s)) ≡ bad 1
+  pub attribute-broken : QuotedIs s end (assigned (drop end s)) None → read_attribute (skip_white (drop at s)) ≡ bad 1
   attribute-broken q = attribute-is ∙ rw q.rest
 
-  pub attribute-at : (a b : ℕ) → QuotedIs s end (assigned (drop end s)) (of-quoted.Holds a b)
-      → read_attribute (skip_white (drop at s)) ≡ good (record { name = part s name end; value = part s a b }, drop (b + 1) s)
-  attribute-at a b q = attribute-is ∙ rw q.rest
+  pub attribute-at : (v : Span) → QuotedIs s end (assigned (drop end s)) (Some v)
+      → read_attribute (skip_white (drop at s)) ≡ good (record { name = part s name end; value = spanned s v }, drop (v.end + 1) s)
+  attribute-at v q = attribute-is ∙ rw q.rest

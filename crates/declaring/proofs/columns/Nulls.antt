@@ -1,6 +1,6 @@
 -- The null value of a scalar: what its one element is. An integer's elements are those of its words, so the words of the definition and the
 -- elements that the code counts say the same; and whatever number refuses a word, the null is 4.
-use Rattle.std.specs.Prelude.{Some, None}
+use Rattle.std.specs.Prelude.{Err, None, Ok, Some}
 use Prim.Native.Nat.{suc, ℕ}
 use native.Mathlib.Omega.{arith}
 use mathlib.Core.Bool.{Bool, false, true}
@@ -10,8 +10,7 @@ use lib.IntN.{ℤ}
 use lib.ListN.{get_or, length}
 use Rattle.declaring.specs.Readers.{null_of_scalar, one_null}
 use Rattle.element_reading.specs.Elements.{CountsElements, Stored}
-use Rattle.element_reading.specs.declared.elements.Counted.TheVariants.{All}
-use Rattle.element_reading.specs.declared.elements.Counted.{Counted}
+use Rattle.table.specs.declared.Reason.{Reason}
 use Rattle.fields.specs.Fields.{null_of, null_value}
 use Rattle.number.specs.Number.{Fault, read_integer}
 use Rattle.table.specs.Bytes.{words}
@@ -60,14 +59,14 @@ not-one [] n = refl
 not-one (z ∷ []) n = absurd (n refl)
 not-one (z ∷ y ∷ es) n = refl
 
-module _ {r : Result ℕ (List ℤ)} {count : ℕ} {entry exit : List ℤ} (c : CountsElements r entry exit (All count)) where
+module _ {r : Result ℕ (List ℤ)} {count : ℕ} {entry exit : List ℤ} (c : CountsElements r entry exit (Ok count)) where
   pub counted-one : (d : ℤ) → length entry ≡ 1 → count ≡ 1 → one_null r ≡ good (Some (get_or exit 0 d))
   counted-one d l e = ap one_null c.found.1 ∙ one-held c.found.0 exit d (c.long ∙ l) (subst (λ (n : ℕ). Stored c.found.0 n exit) e c.found.2)
 
   pub counted-other : (count ≡ 1 → ⊥) → one_null r ≡ bad 4
   counted-other n = ap one_null c.found.1 ∙ not-one c.found.0 (λ e. n (c.found.2.all ∙ e))
 
-pub counted_none : {r : Result ℕ (List ℤ)} {n : ℕ} {entry exit : List ℤ} → CountsElements r entry exit (Counted.Refused n) → one_null r ≡ bad 4
+pub counted_none : {r : Result ℕ (List ℤ)} {e : Reason} {entry exit : List ℤ} → CountsElements r entry exit (Err e) → one_null r ≡ bad 4
 unfolding one_null
 counted_none c = rw c.found
 

@@ -1,14 +1,14 @@
 -- A length: one to four digits, the first not 0, at most 4096.
 use Rattle.std.specs.Prelude.{None, Some}
-use Prim.Native.Nat.{◌*◌, ◌+◌, ◌-◌, ◌<◌, ◌^◌, ◌≤◌, suc, zero, ℕ}
-use native.Mathlib.Nat.{pow-le-pow_right, pow-succ'}
+use Prim.Native.Nat.{◌*◌, ◌+◌, ◌-◌, ◌<◌, ◌^◌, ◌≤◌, ℕ}
+use native.Mathlib.Nat.{pow-succ'}
 use native.Mathlib.Numerals.{add-one}
 use native.Mathlib.Omega.{arith}
 use mathlib.Core.Bool.{Bool, ◌&&◌, cond, false, false≢true, true}
-use mathlib.Core.List.{List, [], ◌∷◌}
+use mathlib.Core.List.{List, [], ◌++◌, ◌∷◌}
 use mathlib.Core.Path.{◌∙◌, ◌≡◌, ap, refl, sym}
-use lib.Dec.{leb, lit<}
-use lib.ListN.{drop, get_or, length, take}
+use lib.Dec.{leb}
+use lib.ListN.{drop, get_or, length}
 use borrow.Author.Tests.{eq-eqb, le-leb, lt-leb, ne_eqb}
 use Rattle.table.proofs.Bytes.{between-no}
 use Rattle.table.proofs.Places.{done, next1}
@@ -78,10 +78,7 @@ capped-more r n e h = rw e (rw (lt-leb n most_elements h))
 pub capped-no : (r : Result Fault ℕ) (f : Fault) → r ≡ bad f → capped r ≡ bad 3
 capped-no r f e = rw e
 
--- a number of i digits, i at most 4, and a digit more
-pub digits-small : (n i : ℕ) → n < 10 ^ i → i ≤ 4 → n < 10000
-digits-small n i h k = let p : 10 ^ i ≤ 10 ^ 4 = pow-le-pow_right (lit< tt) k in omega arith
-
+-- a digit more
 pub digits-grow : (n i d : ℕ) → n < 10 ^ i → d < 10 → n * 10 + d < 10 ^ (i + 1)
 digits-grow n i d h k = rw (add-one, pow-succ') (omega arith)
 
@@ -92,21 +89,17 @@ unfolding before_star
 star-none [] h = refl
 star-none (b ∷ t) h = absurd (omega arith)
 
-pub star-no : (t : List ℕ) (k : ℕ) → length t ≡ suc k → (get_or t k 0 ≡ 42 → ⊥) → before_star t ≡ None
+pub star-no : (t : List ℕ) (b : ℕ) → (b ≡ 42 → ⊥) → before_star (t ++ (b ∷ [])) ≡ None
 unfolding before_star
-star-no [] k h n = refl
-star-no (b ∷ []) zero h n = rw (ne_eqb b 42 n)
-star-no (b ∷ []) (suc k) h n = absurd (omega arith)
-star-no (b ∷ c ∷ t) zero h n = absurd (omega arith)
-star-no (b ∷ c ∷ t) (suc k) h n = rw (star-no (c ∷ t) k (omega arith) n)
+star-no [] b n = rw (ne_eqb b 42 n)
+star-no (a ∷ []) b n = rw (ne_eqb b 42 n)
+star-no (a ∷ c ∷ t) b n = rw (star-no (c ∷ t) b n)
 
-pub star-yes : (t : List ℕ) (k : ℕ) → length t ≡ suc k → get_or t k 0 ≡ 42 → before_star t ≡ Some (take k t)
+pub star-yes : (t : List ℕ) (b : ℕ) → b ≡ 42 → before_star (t ++ (b ∷ [])) ≡ Some t
 unfolding before_star
-star-yes [] k h e = absurd (omega arith)
-star-yes (b ∷ []) zero h e = rw (eq-eqb b 42 e)
-star-yes (b ∷ []) (suc k) h e = absurd (omega arith)
-star-yes (b ∷ c ∷ t) zero h e = absurd (omega arith)
-star-yes (b ∷ c ∷ t) (suc k) h e = rw (star-yes (c ∷ t) k (omega arith) e)
+star-yes [] b e = rw (eq-eqb b 42 e)
+star-yes (a ∷ []) b e = rw (eq-eqb b 42 e)
+star-yes (a ∷ c ∷ t) b e = rw (star-yes (c ∷ t) b e)
 
 pub bounded-none : (t : List ℕ) → length t ≡ 0 → bounded_len t ≡ good Free
 unfolding bounded_len

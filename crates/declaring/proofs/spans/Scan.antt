@@ -12,14 +12,13 @@ use Rattle.declaring.specs.Readers.{EndsIs, QuotedIs, SpanEnd, assigned, in_clas
 use Rattle.fields.specs.Fields.{is_name_byte, read_value, span_name, span_value}
 use Rattle.declaring.specs.declared.spans.Class.{Class}
 use Rattle.declaring.specs.declared.spans.Class.TheVariants as of-class
-use Rattle.declaring.specs.declared.attributes.Quoted.{Quoted}
-use Rattle.declaring.specs.declared.attributes.Quoted.TheVariants as of-quoted
+use Rattle.declaring.specs.declared.spans.Span.{Span}
+use Rattle.std.specs.Prelude.{None, Option, Some}
 use Rattle.table.proofs.Laws.{cond_cases}
 use Rattle.table.proofs.Places.{done, next1}
 use Rattle.table.specs.Bytes.{bytes}
 use Rattle.table.specs.Result.{Result, ◌>>=◌, bad, good}
 use Rattle.text.specs.Clauses.{Skipped}
-use Rattle.text.specs.declared.Tag.TheVariants.{At, Broken}
 
 -- ---- a span
 
@@ -112,44 +111,44 @@ module _ (s : List ℕ) (from : ℕ) (h : from < length s) where
   unfolding read_value is_quote
   quote-first = rw (next1 s from h)
 
-  pub quoted-none : is_quote (get_or s from 0) ≡ false → QuotedIs s from (read_value (drop from s)) of-quoted.Broken
+  pub quoted-none : is_quote (get_or s from 0) ≡ false → QuotedIs s from (read_value (drop from s)) None
   quoted-none e = record { rest = quote-first ∙ rw e; places = tt }
 
   module _ (q : is_quote (get_or s from 0) ≡ true) (end : ℕ) (v : SpanEnd (of-class.Quoted (get_or s from 0)) s (from + 1) end) where
     quote-then : read_value (drop from s) ≡ until_quote (get_or s from 0) (part s (from + 1) end) (drop end s)
     quote-then = quote-first ∙ rw q (value-at (get_or s from 0) s (from + 1) end v)
 
-    pub quoted-open : length s ≤ end → QuotedIs s from (read_value (drop from s)) of-quoted.Broken
+    pub quoted-open : length s ≤ end → QuotedIs s from (read_value (drop from s)) None
     quoted-open g = record { rest = quote-then ∙ rw (done s end g); places = tt }
 
-    pub quoted-yes : end < length s → get_or s end 0 ≡ get_or s from 0 → QuotedIs s from (read_value (drop from s)) (of-quoted.Holds (from + 1) end)
+    pub quoted-yes : end < length s → get_or s end 0 ≡ get_or s from 0 → QuotedIs s from (read_value (drop from s)) (Some (record { start = from + 1; end = end }))
     quoted-yes g e = record {
       rest = quote-then ∙ rw (next1 s end g) (rw (eq-eqb (get_or s end 0) (get_or s from 0) e));
       places = (omega arith, omega (arith, v.onward), g);
     }
 
-    pub quoted-less : end < length s → (get_or s end 0 ≡ get_or s from 0 → ⊥) → QuotedIs s from (read_value (drop from s)) of-quoted.Broken
+    pub quoted-less : end < length s → (get_or s end 0 ≡ get_or s from 0 → ⊥) → QuotedIs s from (read_value (drop from s)) None
     quoted-less g n = record { rest = quote-then ∙ rw (next1 s end g) (rw (ne_eqb (get_or s end 0) (get_or s from 0) n)); places = tt }
 
 -- ---- `=` and the value behind it
 
-pub quoted-from : (s : List ℕ) (from at : ℕ) (p : Result ℕ (List ℕ × List ℕ)) (r : Quoted) → from ≤ at → QuotedIs s at p r → QuotedIs s from p r
-quoted-from s from at p of-quoted.Broken h q = record { rest = q.rest; places = tt }
-quoted-from s from at p (of-quoted.Holds a b) h q = record { rest = q.rest; places = (omega (arith, q.places), q.places.1, q.places.2) }
+pub quoted-from : (s : List ℕ) (from at : ℕ) (p : Result ℕ (List ℕ × List ℕ)) (r : Option Span) → from ≤ at → QuotedIs s at p r → QuotedIs s from p r
+quoted-from s from at p None h q = record { rest = q.rest; places = tt }
+quoted-from s from at p (Some v) h q = record { rest = q.rest; places = (omega (arith, q.places), q.places.1, q.places.2) }
 
 module _ (s : List ℕ) (from : ℕ) where
-  pub assigned-not : EndsIs (bytes "=") s from Broken → QuotedIs s from (assigned (drop from s)) of-quoted.Broken
+  pub assigned-not : EndsIs (bytes "=") s from None → QuotedIs s from (assigned (drop from s)) None
   unfolding assigned
   assigned-not h = record { rest = rw (h.found 1); places = tt }
 
-  module _ (i : ℕ) (h : EndsIs (bytes "=") s from (At i)) (at : ℕ) (white : Skipped s i at) where
+  module _ (i : ℕ) (h : EndsIs (bytes "=") s from (Some i)) (at : ℕ) (white : Skipped s i at) where
     behind : assigned (drop from s) ≡ read_value (drop at s)
     unfolding assigned
     behind = rw (h.found 1, white.rest)
 
-    pub assigned-none : length s ≤ at → QuotedIs s from (assigned (drop from s)) of-quoted.Broken
+    pub assigned-none : length s ≤ at → QuotedIs s from (assigned (drop from s)) None
     unfolding read_value
     assigned-none g = record { rest = behind ∙ rw (done s at g); places = tt }
 
-    pub assigned-at : (r : Quoted) → QuotedIs s at (read_value (drop at s)) r → QuotedIs s from (assigned (drop from s)) r
+    pub assigned-at : (r : Option Span) → QuotedIs s at (read_value (drop at s)) r → QuotedIs s from (assigned (drop from s)) r
     assigned-at r q = rw behind (quoted-from s from at _ r (omega (arith, h.within.0, white.low)) q)

@@ -6,7 +6,7 @@ use lib.ListN.{length}
 use Rattle.declaring.proofs.attributes.read_attributes.Given as goal
 
 abbrev pub invariant-loop-at : goal.invariant-loop-at
-invariant-loop-at l = (l.from ≤ l.at) × (l.at ≤ length l.s) × TallyIn l.s l.t × Going l.s l.from l.at l.t
+invariant-loop-at l = (l.from ≤ l.at) × (l.at ≤ length l.s) × TallyIn l.s l.tally × Going l.s l.from l.at l.tally
 
 abbrev pub decreases-loop-at : goal.decreases-loop-at
 decreases-loop-at l = length l.s - l.at

@@ -5,11 +5,4 @@ use Rattle.declaring.proofs.attributes.with_attribute.Goals as goal
 pub returns : goal.returns
 unfolding with_attribute
 returns c =
-    rw (
-      c.met_again-null.ensures,
-      c.met_again-arraysize.ensures,
-      c.met_again-datatype.ensures,
-      c.same_bytes-3.ensures,
-      c.same_bytes-2.ensures,
-      c.same_bytes.ensures,
-    )
+    rw (c.met_again.ensures, c.met_again-2.ensures, c.met_again-3.ensures, c.same_bytes.ensures, c.same_bytes-2.ensures, c.same_bytes-3.ensures)

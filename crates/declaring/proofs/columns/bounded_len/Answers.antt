@@ -1,16 +1,14 @@
 -- declaring::columns::bounded_len: a bounded length, or none where nothing stands before the `*`.
 use Rattle.declaring.proofs.columns.Numerals.{bounded-none, bounded-some}
-use Rattle.declaring.specs.Readers.{length_read}
-use mathlib.Core.Path.{◌∙◌, ap}
+use borrow.Author.Tests.{eqb-false, eqb-true}
+use mathlib.Core.Path.{◌∙◌, sym}
 use Rattle.declaring.proofs.columns.bounded_len.Goals as goal
 
-pub returns-then-t-eq0 : goal.returns-then-t-eq0
-returns-then-t-eq0 c = bounded-none _ c.if-t-eq0.true
+pub returns-then-is_empty : goal.returns-then-is_empty
+returns-then-is_empty c = bounded-none _ (eqb-true _ 0 (sym c.is_empty.ensures ∙ c.if-is_empty.true))
 
-pub returns-in-Broken : goal.returns-in-Broken
-returns-in-Broken c =
-    bounded-some _ c.if-t-eq0.false ∙ rw (c.length_of.ensures ∙ ap length_read c.in-Broken.is)
+pub returns-in_err-length_of : goal.returns-in_err-length_of
+returns-in_err-length_of c = rw c.from_residual.ensures (bounded-some _ (eqb-false _ 0 (sym c.is_empty.ensures ∙ c.if-is_empty.false)) ∙ rw c.in_err-length_of.ensures)
 
-pub returns-in-Elements : goal.returns-in-Elements
-returns-in-Elements c =
-    bounded-some _ c.if-t-eq0.false ∙ rw (c.length_of.ensures ∙ ap length_read c.in-Elements.is)
+pub returns : goal.returns
+returns c = bounded-some _ (eqb-false _ 0 (sym c.is_empty.ensures ∙ c.if-is_empty.false)) ∙ rw c.in_ok-length_of.ensures

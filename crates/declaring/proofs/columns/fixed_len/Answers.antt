@@ -1,12 +1,11 @@
 -- declaring::columns::fixed_len: a fixed length.
-use Rattle.declaring.specs.Readers.{fixed_len, length_read}
-use mathlib.Core.Path.{◌∙◌, ap}
+use Rattle.declaring.specs.Readers.{fixed_len}
 use Rattle.declaring.proofs.columns.fixed_len.Goals as goal
 
-pub returns-in-Broken : goal.returns-in-Broken
+pub returns-in_err-length_of : goal.returns-in_err-length_of
 unfolding fixed_len
-returns-in-Broken c = rw (c.length_of.ensures ∙ ap length_read c.in-Broken.is)
+returns-in_err-length_of c = rw c.from_residual.ensures (rw c.in_err-length_of.ensures)
 
-pub returns-in-Elements : goal.returns-in-Elements
+pub returns : goal.returns
 unfolding fixed_len
-returns-in-Elements c = rw (c.length_of.ensures ∙ ap length_read c.in-Elements.is)
+returns c = rw c.in_ok-length_of.ensures

@@ -8,14 +8,11 @@ use lib.IntN.{pos, ℤ}
 use mathlib.Core.Path.{◌∙◌, ap, refl, subst, sym}
 use Rattle.declaring.proofs.columns.null_value.Goals as goal
 
-pub returns-then-count-eq1 : goal.returns-then-count-eq1
-returns-then-count-eq1 c =
-    let counted = subst (CountsElements _ _ _) c.in-All.is c.plain_elements.ensures in
-    counted-one counted (pos 0) refl c.if-count-eq1.true ∙ ap (λ (z : ℤ). good (Some z)) (sym (search rules))
+pub returns-in-Ok-eq1 : goal.returns-in-Ok-eq1
+returns-in-Ok-eq1 c = counted-one c.in-Ok-eq1.ensures (pos 0) refl c.in-Ok-eq1.field-0-test ∙ ap (λ (z : ℤ). good (Some z)) (sym (search rules))
 
-pub returns-in-Refused : goal.returns-in-Refused
-returns-in-Refused c = counted_none (subst (CountsElements _ _ _) c.in-Refused.is c.plain_elements.ensures)
+pub returns-in_default : goal.returns-in_default
+returns-in_default c = counted-other c.in_default.ensures c.in_default.field-0-test.1
 
-pub returns-else-count-eq1 : goal.returns-else-count-eq1
-returns-else-count-eq1 c =
-    counted-other (subst (CountsElements _ _ _) c.in-All.is c.plain_elements.ensures) c.if-count-eq1.false
+pub returns-in_default-2 : goal.returns-in_default-2
+returns-in_default-2 c = counted_none (subst (CountsElements _ _ _) c.in_default.is c.plain_elements.ensures)

@@ -12,13 +12,13 @@ loop-i-init c = (search rules, search rules, refl)
 pub loop-i-preserved : goal.loop-i-preserved
 loop-i-preserved c =
     let more = span_more (in_class c.args.class) c.args.s.now c.loop-i.i c.loop-i-test.true (sym
-    c.belongs.ensures ∙ c.if-belongs.true) in
+    c.belongs.ensures ∙ c.if-not-belongs.false) in
     (search rules, search rules, c.loop-i.invariant.2 ∙ omega (arith, more))
 
-pub returns-else-belongs : goal.returns-else-belongs
-returns-else-belongs c =
+pub returns-then-not-belongs : goal.returns-then-not-belongs
+returns-then-not-belongs c =
     let stop = span-stop (in_class c.args.class) c.args.s.now c.loop-i.i c.loop-i-test.true (sym
-    c.belongs.ensures ∙ c.if-belongs.false) in
+    c.belongs.ensures ∙ c.if-not-belongs.true) in
     record { count = omega (arith, stop); onward = search rules; inside = search rules }
 
 pub returns : goal.returns
