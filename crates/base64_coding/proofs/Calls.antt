@@ -9,7 +9,6 @@ use Rattle.base64_rules.proofs.Laws.{Only, acceptance, decode-accepted, decode-o
 use Rattle.base64_coding.proofs.Turns.{sets-start}
 use Rattle.base64_rules.specs.Base64.{decode, decode_call, encode, encode_call}
 use Rattle.base64_coding.specs.Clauses.{FitsAt, acceptance_of, buffer_with, refusal_of, decoded_size}
-use Rattle.base64_coding.specs.declared.decoding.DecodedSize.TheVariants.{Good, Refused}
 use Rattle.table.specs.Outcome.{Call, most_input}
 use Rattle.table.specs.Result.{Result, bad, good}
 use Rattle.table.specs.declared.Answer.{Answer}
@@ -32,17 +31,17 @@ made-acceptance c b out new n a e l h r s =
 
 -- ---- what the first pass found
 
-found-bad : (r : Result ℕ (List ℕ)) (n : ℕ) → Only 7 r → Refused n ≡ decoded_size 0 r → (r ≡ bad 7) × (7 ≡ n)
+found-bad : (r : Result ℕ (List ℕ)) (n : ℕ) → Only 7 r → bad n ≡ decoded_size 0 r → (r ≡ bad 7) × (7 ≡ n)
 unfolding decoded_size
 found-bad (bad m) n only e = (refl, cc)
 found-bad (good b) n o e = let z : ◌≡◌ {A = ℕ} 0 1 = cc in absurd (omega arith)
 
-found : (r : Result ℕ (List ℕ)) (n : ℕ) → Good n ≡ decoded_size 0 r → (b : List ℕ) × (r ≡ good b) × (length b ≡ n)
+found : (r : Result ℕ (List ℕ)) (n : ℕ) → good n ≡ decoded_size 0 r → (b : List ℕ) × (r ≡ good b) × (length b ≡ n)
 unfolding decoded_size
 found (bad m) n e = let z : ◌≡◌ {A = ℕ} 0 1 = cc in absurd (omega arith)
 found (good b) n e = let z : n ≡ 0 + length b = cc in (b, refl, omega arith)
 
-pub fits : (r : Result ℕ (List ℕ)) (n room : ℕ) → Good n ≡ decoded_size 0 r → n ≤ room → FitsAt 0 r room
+pub fits : (r : Result ℕ (List ℕ)) (n room : ℕ) → good n ≡ decoded_size 0 r → n ≤ room → FitsAt 0 r room
 unfolding FitsAt decoded_size
 fits (bad m) n room e h = let z : ◌≡◌ {A = ℕ} 0 1 = cc in absurd (omega arith)
 fits (good b) n room e h = let z : n ≡ 0 + length b = cc in omega arith
@@ -50,14 +49,14 @@ fits (good b) n room e h = let z : n ≡ 0 + length b = cc in omega arith
 -- ---- decoding
 
 module _ (input out : List ℕ) (h : length input ≤ most_input) where
-  pub decode-bad : (n : ℕ) → Refused n ≡ decoded_size 0 (decode input) → decode_call input out ≡ refusal n out
+  pub decode-bad : (n : ℕ) → bad n ≡ decoded_size 0 (decode input) → decode_call input out ≡ refusal n out
   decode-bad n e =
       let f = found-bad (decode input) n (decode-only input) e in decode-refused-7 input out h f.0 ∙ ap (λ (m : ℕ). refusal m out) f.1
 
-  pub decode-long : (n : ℕ) → Good n ≡ decoded_size 0 (decode input) → length out < n → decode_call input out ≡ refusal 17 out
+  pub decode-long : (n : ℕ) → good n ≡ decoded_size 0 (decode input) → length out < n → decode_call input out ≡ refusal 17 out
   decode-long n e k = let f = found (decode input) n e in let l = f.2 in decode-refused-17 input out f.0 h f.1 (omega arith)
 
-  pub decode-made : (n : ℕ) (new : List ℕ) (a : Answer) → Good n ≡ decoded_size 0 (decode input) → n ≤ length out → a ≡ acceptance_of n
+  pub decode-made : (n : ℕ) (new : List ℕ) (a : Answer) → good n ≡ decoded_size 0 (decode input) → n ≤ length out → a ≡ acceptance_of n
       → new ≡ buffer_with out 0 (decode input) → Made (decode_call input out) a new
   unfolding buffer_with
   decode-made n new a e k r s =

@@ -12,7 +12,6 @@ use Rattle.base64_coding.proofs.Fours.{dense-keep, fours-plain}
 use Rattle.base64_rules.specs.Base64.{decode, dense, fours, three_bytes}
 use Rattle.base64_coding.specs.Clauses.{Bounded, LettersTo, before, four_number, four_sum, fours_bytes, number_bytes, value_at, values_at}
 use Rattle.base64_letters.specs.Letters.{letter_value}
-use Rattle.base64_coding.specs.declared.decoding.FourValues.{FourValues}
 use Rattle.table.proofs.Wrote.{sets-append}
 use Rattle.table.specs.Result.{Result, bad, good}
 
@@ -34,7 +33,7 @@ pub record FourLetters (s : List ℕ) (i : ℕ) : Type 0 where
   pub third : value_at s (i + 2) < 64
   pub fourth : value_at s (i + 3) < 64
 
-pub bounded : (s : List ℕ) (i : ℕ) (v : FourValues) → v ≡ values_at s i → Bounded v
+pub bounded : (s : List ℕ) (i : ℕ) (v : List ℕ) → v ≡ values_at s i → Bounded v
 unfolding values_at
 bounded s i v e = subst Bounded (sym e) (value-most _ _ refl, value-most _ _ refl, value-most _ _ refl, value-most _ _ refl)
 
@@ -68,12 +67,12 @@ module _ (x y z w : ℕ) (rest : List ℕ) (a : letter_value x < 64) (b : letter
       dense-keep x _ (black x a)
       ∙ ap (◌∷◌ x) (dense-keep y _ (black y b) ∙ ap (◌∷◌ y) (dense-keep z _ (black z c) ∙ ap (◌∷◌ z) (dense-keep w _ (black w d))))
 
-  three-of : three_bytes x y z w ≡ good (bytes_of x y z w)
+  bytes-three : three_bytes x y z w ≡ good (bytes_of x y z w)
   unfolding three_bytes
-  three-of = rw (is-letter x _ refl a, is-letter y _ refl b, is-letter z _ refl c, is-letter w _ refl d)
+  bytes-three = rw (is-letter x _ refl a, is-letter y _ refl b, is-letter z _ refl c, is-letter w _ refl d)
 
   four-first : fours (dense (x ∷ y ∷ z ∷ w ∷ rest)) ≡ before (bytes_of x y z w) (fours (dense rest))
-  four-first = ap fours four-dense ∙ fours-plain x y z w (dense rest) (no-pad w d) ∙ rw three-of
+  four-first = ap fours four-dense ∙ fours-plain x y z w (dense rest) (no-pad w d) ∙ rw bytes-three
 
 next4 : (s : List ℕ) (i : ℕ) → i + 4 ≤ length s
     → drop i s ≡ get_or s i 0 ∷ get_or s (i + 1) 0 ∷ get_or s (i + 2) 0 ∷ get_or s (i + 3) 0 ∷ drop (i + 4) s
@@ -121,6 +120,14 @@ pub fours-count : (s : List ℕ) (from i : ℕ) (l : LettersTo s from i) → l.c
 fours-count s from i l = let e = l.far in omega arith
 
 -- ---- their bytes, stored from n on
+
+-- three numbers, one by one
+pub three-of : (v : List ℕ) → length v ≡ 3 → get_or v 0 0 ∷ get_or v 1 0 ∷ get_or v 2 0 ∷ [] ≡ v
+three-of [] h = absurd (omega arith)
+three-of (x ∷ []) h = absurd (omega arith)
+three-of (x ∷ y ∷ []) h = absurd (omega arith)
+three-of (x ∷ y ∷ z ∷ []) h = refl
+three-of (x ∷ y ∷ z ∷ a ∷ v) h = absurd (omega arith)
 
 pub record Stored (s out : List ℕ) (from n i o : ℕ) (buffer : List ℕ) : Type 0 where
   pub letters : LettersTo s from i

@@ -1,17 +1,14 @@
 -- What the functions of this crate promise each other, in terms of `decode` and `encode`: views of their answers.
 use Rattle.std.specs.Prelude.{◌%◌, ◌*◌, ◌+◌, ◌/◌, ◌<◌, ◌≤◌, suc, zero, ℕ, cond, List, [], ◌++◌, ◌∷◌, ◌≡◌, ltb, drop, get_or, length, take}
+use Rattle.std.specs.Prelude.{Option, None, Some, Result as Outcome, Ok, Err}
 use Rattle.std.proofs.lemmas.List.Edits.{sets}
 use Rattle.base64_rules.specs.Base64.{decode, dense}
 use Rattle.base64_coding.specs.declared.decoding.Four.{Four}
-use Rattle.base64_coding.specs.declared.decoding.Four.TheVariants as four
-use Rattle.base64_coding.specs.declared.decoding.Next.{Next}
-use Rattle.base64_coding.specs.declared.decoding.Next.TheVariants as next
-use Rattle.base64_coding.specs.declared.decoding.FourValues.{FourValues}
-use Rattle.base64_coding.specs.declared.decoding.DecodedSize.{DecodedSize}
-use Rattle.base64_coding.specs.declared.decoding.DecodedSize.TheVariants as size
 use Rattle.base64_letters.specs.Letters.{none, letter_value}
 use Rattle.table.specs.All.{All}
+use Rattle.table.specs.Reasons.{number_of}
 use Rattle.table.specs.declared.Answer.{Answer}
+use Rattle.table.specs.declared.Reason.{Reason}
 use Rattle.table.specs.Result.{Result, ◌>>=◌, bad, good}
 
 -- ---- letters
@@ -28,15 +25,15 @@ highest_from most (c ∷ s) = highest_from (cond (ltb most c) c most) s
 -- ---- one character after the other
 
 -- what is left of the text, white space aside
-abbrev pub left : List ℕ → Next → List ℕ
-left s next.End = []
-left s (next.Byte c j) = c ∷ dense (drop j s)
+abbrev pub left : List ℕ → Option (ℕ × ℕ) → List ℕ
+left s None = []
+left s (Some (c, j)) = c ∷ dense (drop j s)
 
-abbrev pub NextWithin : List ℕ → ℕ → Next → Type 0
-NextWithin s i next.End = Unit {0}
-NextWithin s i (next.Byte c j) = (i < j) × (j ≤ length s)
+abbrev pub NextWithin : List ℕ → ℕ → Option (ℕ × ℕ) → Type 0
+NextWithin s i None = Unit {0}
+NextWithin s i (Some (c, j)) = (i < j) × (j ≤ length s)
 
-pub record NextIs (s : List ℕ) (i : ℕ) (r : Next) : Type 0 where
+pub record NextIs (s : List ℕ) (i : ℕ) (r : Option (ℕ × ℕ)) : Type 0 where
   pub rest : dense (drop i s) ≡ left s r
   pub places : NextWithin s i r
 
@@ -45,25 +42,22 @@ pub record NextIs (s : List ℕ) (i : ℕ) (r : Next) : Type 0 where
 abbrev pub before : List ℕ → Result ℕ (List ℕ) → Result ℕ (List ℕ)
 before p r = r >>= λ q. good (p ++ q)
 
--- one, two or three bytes as an answer, with the place where the text goes on
-abbrev pub four_of : ℕ → Result ℕ (List ℕ) → Four
-four_of j (bad e) = four.Bad
-four_of j (good []) = four.Bytes 0 0 0 0 j
-four_of j (good (x ∷ [])) = four.Bytes 1 x 0 0 j
-four_of j (good (x ∷ y ∷ [])) = four.Bytes 2 x y 0 j
-four_of j (good (x ∷ y ∷ z ∷ p)) = four.Bytes 3 x y z j
+-- one, two or three bytes, or why none
+abbrev pub bytes_as : Option (List ℕ) → Result ℕ (List ℕ)
+bytes_as (Some b) = good b
+bytes_as None = bad 7
 
 -- what an answer says of the text
-abbrev pub given : List ℕ → Four → Result ℕ (List ℕ)
-given s four.Bad = bad 7
-given s (four.Bytes n x y z j) = before (take n (x ∷ y ∷ z ∷ [])) (decode (drop j s))
+abbrev pub given : List ℕ → Option Four → Result ℕ (List ℕ)
+given s None = bad 7
+given s (Some f) = before (take f.count f.bytes) (decode (drop f.next s))
 
 -- with fewer than three bytes nothing follows
-abbrev pub FourWithin : List ℕ → ℕ → Four → Type 0
-FourWithin s i four.Bad = Unit {0}
-FourWithin s i (four.Bytes n x y z j) = (n ≤ 3) × (i + n ≤ j) × (j ≤ length s) × (n < 3 → decode (drop j s) ≡ good [])
+abbrev pub FourWithin : List ℕ → ℕ → Option Four → Type 0
+FourWithin s i None = Unit {0}
+FourWithin s i (Some f) = (f.count ≤ 3) × (i + f.count ≤ f.next) × (f.next ≤ length s) × (f.count < 3 → decode (drop f.next s) ≡ good [])
 
-pub record FourIs (s : List ℕ) (i : ℕ) (r : Four) : Type 0 where
+pub record FourIs (s : List ℕ) (i : ℕ) (r : Option Four) : Type 0 where
   pub rest : decode (drop i s) ≡ given s r
   pub places : FourWithin s i r
 
@@ -73,19 +67,19 @@ abbrev pub value_at : List ℕ → ℕ → ℕ
 value_at s i = letter_value (get_or s i 0)
 
 -- four of them from a place on
-unfoldable pub values_at : List ℕ → ℕ → FourValues
-values_at s i = record { w = value_at s i; x = value_at s (i + 1); y = value_at s (i + 2); z = value_at s (i + 3) }
+unfoldable pub values_at : List ℕ → ℕ → List ℕ
+values_at s i = value_at s i ∷ value_at s (i + 1) ∷ value_at s (i + 2) ∷ value_at s (i + 3) ∷ []
 
 -- none is over what stands for no letter
-abbrev pub Bounded : FourValues → Type 0
-Bounded v = (v.w ≤ none) × (v.x ≤ none) × (v.y ≤ none) × (v.z ≤ none)
+abbrev pub Bounded : List ℕ → Type 0
+Bounded v = (get_or v 0 0 ≤ none) × (get_or v 1 0 ≤ none) × (get_or v 2 0 ≤ none) × (get_or v 3 0 ≤ none)
 
-abbrev pub four_sum : FourValues → ℕ
-four_sum v = v.w + v.x + v.y + v.z
+abbrev pub four_sum : List ℕ → ℕ
+four_sum v = get_or v 0 0 + get_or v 1 0 + get_or v 2 0 + get_or v 3 0
 
 -- four values as the digits of one number
-abbrev pub four_number : FourValues → ℕ
-four_number v = ((v.w * 64 + v.x) * 64 + v.y) * 64 + v.z
+abbrev pub four_number : List ℕ → ℕ
+four_number v = ((get_or v 0 0 * 64 + get_or v 1 0) * 64 + get_or v 2 0) * 64 + get_or v 3 0
 
 -- its three bytes
 abbrev pub number_bytes : ℕ → List ℕ
@@ -105,10 +99,15 @@ pub record LettersTo (s : List ℕ) (from to : ℕ) : Type 0 where
 
 -- ---- a whole text
 
+-- a size, or the refusal's number
+abbrev pub size_as : Outcome ℕ Reason → Result ℕ ℕ
+size_as (Ok n) = good n
+size_as (Err e) = bad (number_of e)
+
 -- how many bytes, with n before them; or the refusal's number
-unfoldable pub decoded_size : ℕ → Result ℕ (List ℕ) → DecodedSize
-decoded_size n (bad e) = size.Refused e
-decoded_size n (good b) = size.Good (n + length b)
+unfoldable pub decoded_size : ℕ → Result ℕ (List ℕ) → Result ℕ ℕ
+decoded_size n (bad e) = bad e
+decoded_size n (good b) = good (n + length b)
 
 -- there are bytes, and they fit from n on
 unfoldable pub FitsAt : ℕ → Result ℕ (List ℕ) → ℕ → Type 0
@@ -128,3 +127,8 @@ refusal_of n = record { number = n; row = 0; column = 0; rows = 0; bytes = 0 }
 
 abbrev pub acceptance_of : ℕ → Answer
 acceptance_of n = record { number = 0; row = 0; column = 0; rows = 0; bytes = n }
+
+-- so many bytes written, or why none, as an answer
+abbrev pub answer_as : Outcome ℕ Reason → Answer
+answer_as (Ok n) = acceptance_of n
+answer_as (Err e) = refusal_of (number_of e)

@@ -19,7 +19,6 @@ use Rattle.table.specs.Result.{Holds, Result, bad, good, holds}
 
 -- THE TABLE'S RULE, at each entry, from one test over the whole table
 pub table_is : (values : List ℕ) → all_below (λ (c : ℕ). eqb (get_or values c 0) (letter_value c)) 128 ≡ true → TableIs values
-unfolding TableIs
 table_is values h c k = eqb-true _ _ (each_below (λ (b : ℕ). eqb (get_or values b 0) (letter_value b)) 128 h c k)
 
 -- ---- a byte's value says whether it is a letter

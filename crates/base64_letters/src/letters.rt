@@ -21,17 +21,22 @@ const VALUES: [u32; 128] = [
 ];
 
 // The table. It is made once in a call and lent from there on: named where it is used it would be made anew at each use.
-pub fn letter_table() -> [u32; 128]
-    ensures { TableIs result }
-{
-    VALUES
+#[derive(Clone, Copy)]
+pub struct LetterTable {
+    pub values: [u32; 128],
+    pub ghost is_table: { TableIs values },
 }
 
-// A character's value, by the table.
-pub fn letter_value(c: u8, values: &[u32; 128]) -> u32
-    requires { (c < 128) × TableIs values.now }
-    ensures { result ≡ letter_value c }
-{
-    let place = c as usize;
-    values[place]
+impl LetterTable {
+    pub fn new() -> Self {
+        LetterTable { values: VALUES }
+    }
+
+    // A character's value.
+    pub fn value(&self, c: u8) -> u32
+        requires { c < 128 }
+        ensures { result ≡ letter_value c }
+    {
+        self.values[c as usize]
+    }
 }

@@ -2,25 +2,20 @@
 -- it. Cited by measure.
 use Prim.Native.Nat.{◌+◌, ◌-◌, ◌<◌, ◌≤◌, suc, zero, ℕ}
 use native.Mathlib.Omega.{arith}
-use mathlib.Core.Bool.{Bool, false, true}
+use mathlib.Core.Bool.{Bool, false, false≢true, not, true}
 use mathlib.Core.List.{List, ◌++◌, ◌∷◌, [], append-nil}
 use mathlib.Core.Path.{◌∙◌, ◌≡◌, ap, ap₂, refl, subst, sym}
 use lib.Dec.{ltb}
 use lib.IntN.{ℤ}
 use lib.ListN.{drop, length, length-drop, length-set, set, take}
-use lib.Seq.{drop-length, take-length}
-use borrow.Author.Tests.{le-leb, lt-leb, ltb-false, ltb-true}
+use lib.Seq.{drop-length, length-take-le, take-length}
 use borrow.Rule.Slice.PartMut.{mid_of, Post-is, put_mid, same_len_mid}
-use Rattle.convert.specs.Clauses.{HoldsAs, holding_of, scratch_length}
-use Rattle.row_writing.specs.Clauses.{held_cell}
-use Rattle.row_writing.specs.declared.Holding.{Holding}
-use Rattle.table.specs.Cell.{Cell, most_elements}
-
-holding-held : (held : ℕ) → held ≤ scratch_length → holding_of held ≡ Holding.Holds held
-holding-held held h = rw (le-leb held scratch_length h)
-
-holding-lost : (held : ℕ) → scratch_length < held → holding_of held ≡ Holding.Lost
-holding-lost held h = rw (lt-leb held scratch_length h)
+use Rattle.convert.specs.Clauses.{HoldsAs, held_count, held_with, place_for}
+use Rattle.row_writing.specs.Clauses.{FewIn, held_cell}
+use Rattle.table.specs.Clauses.{ShownUpTo, ShownWithin, shown_as}
+use Rattle.table.specs.declared.Column.{Column}
+use Rattle.std.specs.Prelude.{None, Option, Some, cond, is_none, is_some, pos, unwrap_or}
+use Rattle.table.specs.Cell.{Cell, bound, is_null, most_elements}
 
 -- ---- a cell that was read into the scratch behind a place, with its count put at that place
 
@@ -58,16 +53,36 @@ module _ (place : ℕ) (l m : List ℤ) (h : place < length l) (e : length m ≡
       ap₂ take n d ∙ take-length m
 
   -- the cell x stands behind the cells before it, where they are held
-  pub keep : (n : ℕ) (x : Cell) → z ∷ take n m ≡ held_cell x → n ≤ most_elements → (held after : ℕ) → (held < most_elements → place ≡ held)
-      → (held < most_elements → after ≡ held + 1 + n) → (most_elements ≤ held → scratch_length < after)
-      → (cells : List ℤ) → HoldsAs l cells (holding_of held) → HoldsAs back (cells ++ held_cell x) (holding_of after)
-  keep n x e few held after p a b cells k = go (ltb held most_elements) refl
+  pub keep : (n : ℕ) (x : Cell) → z ∷ take n m ≡ held_cell x → (held : Option ℕ) → place ≡ place_for held
+      → (cells : List ℤ) → HoldsAs l cells held → HoldsAs back (cells ++ held_cell x) (held_with held n)
+  keep n x e None p cells k = tt
+  keep n x e (Some before) p cells k = go (ltb before most_elements) refl
     where
-      go : (t : Bool) → ltb held most_elements ≡ t → HoldsAs back (cells ++ held_cell x) (holding_of after)
+      go : (t : Bool) → ltb before most_elements ≡ t → HoldsAs back (cells ++ held_cell x) (cond t (Some (before + 1 + n)) None)
       go true q =
-          let s : held < most_elements = ltb-true held most_elements q in
-          let before : take held l ≡ cells = subst (HoldsAs l cells) (holding-held held (omega arith)) k in
-          subst (HoldsAs back (cells ++ held_cell x)) (sym (holding-held after (omega (arith, a s))))
-          (ap₂ take (a s ∙ ap (λ (i : ℕ). i + 1 + n) (sym (p s))) back_is ∙ put-held place n l m z h ∙ ap₂ (λ (i : ℕ) (y : List ℤ). take i l ++ y) (p s) e
-          ∙ ap (λ (c : List ℤ). c ++ held_cell x) before)
-      go false q = subst (HoldsAs back (cells ++ held_cell x)) (sym (holding-lost after (b (ltb-false held most_elements q)))) tt
+          let here : place ≡ before = p ∙ rw q in
+          ap₂ take (ap (λ (i : ℕ). i + 1 + n) (sym here)) back_is ∙ put-held place n l m z h ∙ ap₂ (λ (i : ℕ) (y : List ℤ). take i l ++ y) here e
+          ∙ ap (λ (c : List ℤ). c ++ held_cell x) k
+      go false q = tt
+
+-- what is held of a cell that was found
+pub count-then : (m : List ℤ) (o : Option ℕ) → ShownWithin m o → held_count o ∷ take (unwrap_or o 0) m ≡ held_cell (shown_as m o)
+unfolding held_cell
+count-then m None h = refl
+count-then m (Some k) h = ap (λ (i : ℕ). pos i ∷ take k m) (sym (length-take-le k m h))
+
+pub null-is : (m : List ℤ) (o : Option ℕ) → is_none o ≡ is_null (shown_as m o)
+unfolding is_null
+null-is m None = refl
+null-is m (Some k) = refl
+
+pub few-in : (c : Column) (m : List ℤ) (o : Option ℕ) → ShownWithin m o → ShownUpTo (bound c.len) o → FewIn c (shown_as m o)
+few-in c m None h k = tt
+few-in c m (Some n) h k = omega (arith, length-take-le n m h)
+
+-- what the library says of a value that is not there
+pub told-none : (o : Option ℕ) (b : Bool) → is_some o ≡ not b → b ≡ is_none o
+told-none None true e = refl
+told-none None false e = absurd (false≢true e)
+told-none (Some n) true e = absurd (false≢true (sym e))
+told-none (Some n) false e = refl

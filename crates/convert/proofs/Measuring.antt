@@ -11,7 +11,7 @@ use lib.Dec.{eqb}
 use lib.IntN.{ℤ}
 use lib.ListN.{drop, drop_of_length-le, length, length-append, take-append-drop}
 use borrow.Author.Tests.{eq-eqb, ne_eqb}
-use Rattle.convert.specs.Clauses.{Grown, GrownBy, HoldsAs, added_to, measured_as, holding_of, size_or_refusal}
+use Rattle.convert.specs.Clauses.{Grown, GrownBy, HoldsAs, added_to, held_with, measured_as, size_or_refusal}
 use Rattle.convert.specs.declared.Measured.{Measured}
 use Rattle.table.specs.ColumnList.{listed}
 use Rattle.binary.specs.Binary.{flag_bit}
@@ -21,17 +21,20 @@ use Rattle.row_reading.specs.Clauses.{flags_in}
 use Rattle.row_writing.proofs.HeldForm.{FewCells, held-form, held-row-more, held-within, held_row}
 use Rattle.row_writing.proofs.RowForm.{join, join-assoc, join-end, join-nil, null_bits, nulls-more, row-form, start-bytes, unroll-write}
 use Rattle.row_writing.specs.Clauses.{FewIn, HeldReady, HeldWithin, held_cell, held_next, most_cell_bytes, put_form, row_bytes, row_form, start_bytes}
-use Rattle.row_writing.specs.declared.Holding.{Holding}
 use Rattle.rows.specs.Stream.{write_cell, write_cells, write_end, write_row}
 use Rattle.table.proofs.Laws.{bad-good}
 use Rattle.table.specs.Cell.{Cell, is_null}
 use Rattle.table.specs.Clauses.{size_as, size_of}
 use Rattle.table.specs.Outcome.{Refusal, at}
+use Rattle.table.specs.Reasons.{number_of, refusal_of}
+use Rattle.table.specs.declared.Reason.{Reason}
+use Rattle.table.specs.declared.Refused.{Refused}
+use Rattle.std.specs.Option.{option_or}
+use Rattle.std.specs.Prelude.{None, Option, Result as Returned, Some, is_none, unwrap_or}
 use Rattle.table.specs.Result.{Result, ◌>>=◌, bad, good, refused_as}
 use Rattle.table.specs.declared.Column.{Column}
 use Rattle.table.specs.declared.Columns.{Columns}
 use Rattle.table.specs.declared.Rows.{Rows}
-use Rattle.table.specs.declared.Size.{Size}
 
 -- ---- the bytes of cells one behind the other
 
@@ -58,29 +61,30 @@ few-more (d ∷ cs) (y ∷ xs) c more x f e g = (f.0, few-more cs xs c more x f.
 
 -- what it takes is added; the first refusal stays
 module _ (m : Measured) where
-  pub measured-bytes : (b : ℕ) → size_or_refusal (m.size + b) m.number m.column ≡ added_to (measured_as m) (good b)
-  measured-bytes b = go (eqb m.number 0)
+  pub measured-bytes : (b : ℕ) → size_or_refusal (m.size + b) m.refused ≡ added_to (measured_as m) (good b)
+  measured-bytes b = go m.refused
     where
-      go : (t : Bool) → cond t (good (m.size + b)) (bad (at m.column m.number)) ≡ added_to (cond t (good m.size) (bad (at m.column m.number))) (good b)
-      go true = refl
-      go false = refl
+      go : (o : Option Refused) → size_or_refusal (m.size + b) o ≡ added_to (size_or_refusal m.size o) (good b)
+      go None = refl
+      go (Some f) = refl
 
-  pub measured-first : (size i k : ℕ) → m.number ≡ 0 → 0 < k → size_or_refusal size k i ≡ added_to (measured_as m) (bad (at i k))
-  measured-first size i k z p = rw (ne_eqb k 0 (λ e. omega (arith, e, p)), eq-eqb m.number 0 z)
-
-  pub measured-later : (size : ℕ) (v : Result Refusal ℕ) → (m.number ≡ 0 → ⊥) → size_or_refusal size m.number m.column ≡ added_to (measured_as m) v
-  measured-later size v h = rw (ne_eqb m.number 0 h)
+  pub measured-refused : (f : Refused) → size_or_refusal m.size (option_or m.refused (Some f)) ≡ added_to (measured_as m) (bad (refusal_of f))
+  measured-refused f = go m.refused
+    where
+      go : (o : Option Refused) → size_or_refusal m.size (option_or o (Some f)) ≡ added_to (size_or_refusal m.size o) (bad (refusal_of f))
+      go None = refl
+      go (Some g) = refl
 
 -- a cell that was measured
-pub grown-of : (to : Rows) (c : Column) (i : ℕ) (m : Measured) (x : Cell) (entry exit : List ℤ) (q : Measured) (b : Bool) (n : ℕ) (size : Size)
-    → GrownBy i b n size m q → size_as size ≡ size_of (write_cell to c x) → b ≡ is_null x → FewIn c x
-    → ((cells : List ℤ) → HoldsAs entry cells (holding_of m.held) → HoldsAs exit (cells ++ held_cell x) (holding_of q.held)) → Grown to c i m x entry exit q
-grown-of to c i m x entry exit q b n size g e be few k = record {
+pub grown-of : (to : Rows) (c : Column) (i : ℕ) (m : Measured) (x : Cell) (entry exit : List ℤ) (q : Measured) (o : Option ℕ) (size : Returned ℕ Reason)
+    → GrownBy i o size m q → size_as size ≡ size_of (write_cell to c x) → is_none o ≡ is_null x → FewIn c x
+    → ((cells : List ℤ) → HoldsAs entry cells m.held → HoldsAs exit (cells ++ held_cell x) (held_with m.held (unwrap_or o 0))) → Grown to c i m x entry exit q
+grown-of to c i m x entry exit q o size g e be few k = record {
   nulls = g.nulls ∙ ap (λ (y : Bool). to_digits 2 i m.nulls ++ (flag_bit y ∷ [])) be;
   form = g.form ∙ ap (λ (y : Result ℕ ℕ). added_to (measured_as m) (refused_as (at i) y)) e;
   short = g.short;
   few = few;
-  held = k;
+  held = λ cells h. subst (HoldsAs exit (cells ++ held_cell x)) (sym g.holds) (k cells h);
 }
 
 -- the columns before i are read, and their cells are acc
@@ -92,10 +96,10 @@ pub record RowMeasured (to : Rows) (cols : List Column) (acc : List Cell) (scrat
   pub word : to_digits 2 i m.nulls ≡ null_bits acc
   pub many : length acc ≡ i
   pub few : FewCells cols acc
-  pub held : HoldsAs scratch (held_row acc) (holding_of m.held)
+  pub held : HoldsAs scratch (held_row acc) m.held
 
 module _ (to : Rows) (cols : List Column) where
-  pub measured-start : (scratch : List ℤ) (m : Measured) → m ≡ record { nulls = 0; size = 0; number = 0; column = 0; held = 0 } → RowMeasured to cols [] scratch m 0
+  pub measured-start : (scratch : List ℤ) (m : Measured) → m ≡ record { nulls = 0; size = 0; refused = None; held = Some 0 } → RowMeasured to cols [] scratch m 0
   unfolding to_digits
   measured-start scratch m e = rw e record {
     short = omega arith;
@@ -127,7 +131,7 @@ module _ (to : Rows) (cols : List Column) where
         word = g.nulls ∙ ap (λ (l : List ℕ). l ++ (flag_bit (is_null x) ∷ [])) inv.word ∙ nulls-more acc x;
         many = length-append acc (x ∷ []) ∙ ap (λ (n : ℕ). n + 1) inv.many;
         few = few-more cols acc c (drop (suc i) cols) x inv.few (ap (λ (n : ℕ). drop n cols) inv.many ∙ e) g.few;
-        held = subst (λ (l : List ℤ). HoldsAs exit l (holding_of q.held)) (held-row-more acc x) (g.held (held_row acc) inv.held);
+        held = subst (λ (l : List ℤ). HoldsAs exit l q.held) (held-row-more acc x) (g.held (held_row acc) inv.held);
       }
 
 -- ---- all columns of a row are read
@@ -149,32 +153,31 @@ module _ (from to : Rows) (cols : Columns) (flags : ℕ) (s : List ℕ) (body pl
       let e : drop i (listed cols) ≡ [] = drop_of_length-le (listed cols) past in
       ap (λ (xs : List Cell). write_cells to (listed cols) xs 0) (sym (append-nil read.acc)) ∙ inv.writes [] ∙ rw (e, join-end)
 
-  pub row-cannot : (m.number ≡ 0 → ⊥) → write_row to (listed cols) read.acc ≡ bad (at m.column m.number)
+  pub row-cannot : (f : Refused) → m.refused ≡ Some f → write_row to (listed cols) read.acc ≡ bad (refusal_of f)
   unfolding write_row
-  row-cannot h =
-      let f : measured_as m ≡ bad (at m.column m.number) = rw (ne_eqb m.number 0 h) in
-      rw (write-all, said-cannot inv.w m.number m.column (sym f ∙ inv.says))
+  row-cannot f h =
+      let says : bad (refusal_of f) ≡ length_of inv.w = sym (ap (size_or_refusal m.size) h) ∙ inv.says in
+      rw (write-all, said-cannot inv.w (number_of f.reason) f.column says)
 
   -- the whole scratch: the cells, and whatever is behind them
-  held_whole : (n : ℕ) → holding_of m.held ≡ Holding.Holds n → scratch ≡ held_row read.acc ++ drop n scratch
+  held_whole : (n : ℕ) → m.held ≡ Some n → scratch ≡ held_row read.acc ++ drop n scratch
   held_whole n e =
       sym (take-append-drop n scratch) ∙ ap (λ (y : List ℤ). y ++ drop n scratch) (subst (HoldsAs scratch (held_row read.acc)) e inv.held)
 
   full : length read.acc ≡ length (listed cols)
   full = omega (arith, inv.many, read.upto, l)
 
-  pub held-ready : HeldReady (listed cols) scratch (holding_of m.held)
-  held-ready = go (holding_of m.held) refl
+  pub held-ready : HeldReady (listed cols) scratch m.held
+  held-ready = go m.held refl
     where
-      go : (h : Holding) → holding_of m.held ≡ h → HeldReady (listed cols) scratch h
-      go (Holding.Holds n) e = subst (HeldWithin (listed cols)) (sym (held_whole n e)) (held-within (listed cols) read.acc (drop n scratch) full inv.few)
-      go Holding.Lost e = tt
+      go : (h : Option ℕ) → m.held ≡ h → HeldReady (listed cols) scratch h
+      go (Some n) e = subst (HeldWithin (listed cols)) (sym (held_whole n e)) (held-within (listed cols) read.acc (drop n scratch) full inv.few)
+      go None e = tt
 
-  module _ (z : m.number ≡ 0) where
+  module _ (z : m.refused ≡ None) where
     formed : good m.size ≡ length_of inv.w
     formed =
-        let f : measured_as m ≡ good m.size = rw (eq-eqb m.number 0 z) in
-        sym f ∙ inv.says
+        sym (ap (size_or_refusal m.size) z) ∙ inv.says
 
     cells : List ℕ
     cells = (said-wrote inv.w m.size formed).0
@@ -183,29 +186,29 @@ module _ (from to : Rows) (cols : Columns) (flags : ℕ) (s : List ℕ) (body pl
     unfolding cells
     cells-wrote = write-all ∙ (said-wrote inv.w m.size formed).1
 
-    cells-put : put_form from to cols flags (drop body s) scratch (holding_of m.held) ≡ cells
-    cells-put = go (holding_of m.held) refl
+    cells-put : put_form from to cols flags (drop body s) scratch m.held ≡ cells
+    cells-put = go m.held refl
       where
-        go : (h : Holding) → holding_of m.held ≡ h → put_form from to cols flags (drop body s) scratch h ≡ cells
-        go (Holding.Holds k) e =
+        go : (h : Option ℕ) → m.held ≡ h → put_form from to cols flags (drop body s) scratch h ≡ cells
+        go (Some k) e =
             ap (row_form held_next to (listed cols) []) (held_whole k e) ∙ held-form to (listed cols) read.acc (drop k scratch) 0 cells full cells-wrote
-        go Holding.Lost e =
+        go None e =
             row-form from to (listed cols) (flags_in from cols.count flags) 0 (drop body s) read.acc (drop place s) cells
             (read-end from (listed cols) (flags_in from cols.count flags) s body place i read (omega (arith, l, end))) cells-wrote
 
     -- the row's bytes are those that put_row writes
-    pub row_wrote : write_row to (listed cols) read.acc ≡ good (row_bytes to cols.count m.nulls (put_form from to cols flags (drop body s) scratch (holding_of m.held)))
+    pub row_wrote : write_row to (listed cols) read.acc ≡ good (row_bytes to cols.count m.nulls (put_form from to cols flags (drop body s) scratch m.held))
     unfolding write_row row_bytes
     row_wrote =
         let d : to_digits 2 cols.count m.nulls ≡ null_bits read.acc = let k : cols.count ≡ i = omega (arith, read.upto, l) in rw k inv.word in
         rw (cells-wrote, start-bytes to cols.count m.nulls read.acc d, cells-put)
 
     -- and this is how many they are
-    pub row-length : length (row_bytes to cols.count m.nulls (put_form from to cols flags (drop body s) scratch (holding_of m.held)))
+    pub row-length : length (row_bytes to cols.count m.nulls (put_form from to cols flags (drop body s) scratch m.held))
         ≡ length (start_bytes to cols.count m.nulls) + (m.size + length (write_end to))
     unfolding row_bytes cells
     row-length =
         length-append (start_bytes to cols.count m.nulls) _
         ∙ ap (λ (k : ℕ). length (start_bytes to cols.count m.nulls) + k)
-        (length-append (put_form from to cols flags (drop body s) scratch (holding_of m.held)) (write_end to)
+        (length-append (put_form from to cols flags (drop body s) scratch m.held) (write_end to)
         ∙ ap (λ (k : ℕ). k + length (write_end to)) (ap length cells-put ∙ sym (said-wrote inv.w m.size formed).2))

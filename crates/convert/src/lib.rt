@@ -1,8 +1,9 @@
 // Rows of one kind to rows of another: a loop over rows with a loop over columns inside.
 #![tactic(auto)]
 
-ghost use Rattle.std.specs.Prelude.{◌≡◌, ◌*◌, ◌+◌, ◌<◌, ◌^◌, ◌≤◌, drop, length};
+ghost use Rattle.std.specs.Prelude.{None, Some, ◌≡◌, ◌*◌, ◌+◌, ◌<◌, ◌^◌, ◌≤◌, drop, length};
 ghost use Rattle.table.specs.Cell.{bound, most_elements};
+ghost use Rattle.table.specs.Clauses.{ShownUpTo};
 ghost use Rattle.table.specs.Outcome.{answer_of, buffer_of};
 ghost use Rattle.table.specs.ColumnList.{listed};
 ghost use Rattle.moving.specs.Rows.{MovesRows, most_frame_bytes};
@@ -11,14 +12,14 @@ ghost use Rattle.rows.specs.Bounds.{Within};
 ghost use Rattle.rows.specs.Convert.{Converts};
 ghost use Rattle.rows.specs.Pieces.{ConvertsPiece, place_of};
 ghost use Rattle.rows.specs.Stream.{read_cell, run};
-ghost use Rattle.convert.specs.Clauses.{GrownBy, MeasuredBy, holding_of, scratch_length};
+ghost use Rattle.convert.specs.Clauses.{GrownBy, MeasuredBy, held_count, held_with, place_for, scratch_length};
 
 use declaring::front;
 use flags::add_flag;
 use row_moving::{Done, move_rows};
-use row_reading::{Begin, Close, at_end, begin_row, end_row, flag_of, read_cell};
-use row_writing::{Holding, frame_size, put_row, size_cell};
-use table::{Answer, Column, Columns, Found, Rows, Size};
+use row_reading::{at_end, begin_row, end_row, flag_of, read_cell};
+use row_writing::{frame_size, put_row, size_cell};
+use table::{Answer, Column, Columns, Reason, Refused, Rows};
 
 // A place in the input, where the next row begins.
 #[derive(Clone, Copy)]
@@ -68,26 +69,25 @@ impl Progress {
     }
 }
 
-// A row while it is measured: its null cells as a word of flags, the length of its cells as they will be written, the first refusal in writing with
-// its column, and how much of the scratch holds the cells so far. Numbers, and not enums, since they are carried from cell to cell.
+// A row while it is measured: its null cells as a word of flags, the length of its cells as they will be written, the first refusal in writing, and
+// how much of the scratch holds the cells so far, unless they are too many to be held.
 #[derive(Clone, Copy)]
 struct Measured {
     nulls: u64,
     size: usize,
-    number: u64,
-    column: usize,
-    held: usize,
+    refused: Option<Refused>,
+    held: Option<usize>,
 }
 
-// A cell more: where it ends, and the row with it; or the number of its refusal.
+// A cell more: where it ends, and the row with it.
 #[derive(Clone, Copy)]
-enum Turn {
-    Next(usize, Measured),
-    Refused(u64),
+struct Turn {
+    next: usize,
+    measured: Measured,
 }
 
 // What stops the loop over rows: a refusal's number, row and column, as the answer has them, all 0 where no row is left; and the place in the input
-// where the rows done end.
+// where the rows done end. Not a Result: the loop is left by label in five ways, and each copies its own numbers into the answer (01, `convert_rows`).
 #[derive(Clone, Copy)]
 struct Stop {
     number: u64,
@@ -112,94 +112,77 @@ const ROW: usize = 16384;
 // And where few rows are converted.
 const SHORT_ROW: usize = 512;
 
-// More than the scratch has says that the cells are not held.
-const LOST: usize = SCRATCH + 1;
-
 // What stands in the scratch for a cell that is null, in the place of its count.
 const NULL: i64 = -1;
-
-// The number of no refusal.
-const NONE: u64 = 0;
 
 // ---- a cell of a row
 
 // Where the next cell is held: behind those that are, while a cell of any size has room there.
-fn place_for(held: usize) -> usize
-    ensures { (result < most_elements) × (held < most_elements → result ≡ held) }
+fn place_for(held: Option<usize>) -> usize
+    ensures { (result ≡ place_for held) × (result < most_elements) }
 {
-    if held < table::MOST_ELEMENTS { held } else { 0 }
+    match held {
+        None => 0,
+        Some(n) => { if n < table::MOST_ELEMENTS { n } else { 0 } }
+    }
 }
 
 // How much is held with a cell of n elements more.
-fn held_with(held: usize, n: usize) -> usize
+fn held_with(held: Option<usize>, n: usize) -> Option<usize>
     requires { n ≤ most_elements }
-    ensures { (held < most_elements → result ≡ held + 1 + n) × (most_elements ≤ held → scratch_length < result) }
+    ensures { result ≡ held_with held n }
 {
-    if held < table::MOST_ELEMENTS {
-        held + 1 + n
+    let before = held?;
+    if before < table::MOST_ELEMENTS {
+        Some(before + 1 + n)
     } else {
-        LOST
+        None
     }
 }
 
-// What the scratch holds.
-fn holding_of(held: usize) -> Holding
-    ensures { result ≡ holding_of held }
+// What the scratch has before a cell's elements.
+fn held_count(shown: Option<usize>) -> i64
+    requires { ShownUpTo most_elements shown }
+    ensures { result ≡ held_count shown }
 {
-    if held <= SCRATCH {
-        return Holding::Holds(held);
+    match shown {
+        None => NULL,
+        Some(n) => n as i64,
     }
-    Holding::Lost
 }
 
 impl Measured {
     fn start() -> Self
-        ensures { result ≡ record { nulls = 0; size = 0; number = 0; column = 0; held = 0 } }
+        ensures { result ≡ record { nulls = 0; size = 0; refused = None; held = Some 0 } }
     {
         Measured {
             nulls: 0,
             size: 0,
-            number: NONE,
-            column: 0,
-            held: 0,
+            refused: None,
+            held: Some(0),
         }
     }
 
-    // One more cell: column i's, null or not, of n elements, which takes so much; the first refusal stays.
-    fn after(self, i: usize, null: bool, n: usize, size: Size) -> Measured
-        requires { (self.size ≤ most_cell_bytes * i) × (i < 64) × SizeWithin size × (n ≤ most_elements) }
-        ensures { GrownBy i null n size self result }
+    // One more cell: column i's, null or of so many elements, which takes so much; the first refusal stays.
+    fn after(self, i: usize, shown: Option<usize>, size: Result<usize, Reason>) -> Measured
+        requires { (self.size ≤ most_cell_bytes * i) × (i < 64) × SizeWithin size × ShownUpTo most_elements shown }
+        ensures { GrownBy i shown size self result }
     {
-        let nulls = add_flag(self.nulls, i, null);
-        let held = held_with(self.held, n);
-        let number = self.number;
+        let nulls = add_flag(self.nulls, i, shown.is_none());
+        let held = held_with(self.held, shown.unwrap_or(0));
         match size {
-            Size::Bytes(b) => Measured {
+            Ok(bytes) => Measured {
                 nulls,
-                size: self.size + b,
-                number,
-                column: self.column,
+                size: self.size + bytes,
+                refused: self.refused,
                 held,
             },
-            Size::NoForm(k) => {
-                if number == NONE {
-                    Measured {
-                        nulls,
-                        size: self.size,
-                        number: k,
-                        column: i,
-                        held,
-                    }
-                } else {
-                    Measured {
-                        nulls,
-                        size: self.size,
-                        number,
-                        column: self.column,
-                        held,
-                    }
-                }
-            }
+            Err(reason) => Measured {
+                nulls,
+                size: self.size,
+                refused: self.refused.or(Some(Refused { reason, column: i })),
+                held,
+            },
         }
     }
 }
@@ -215,27 +198,20 @@ fn measure(
     flagged: bool,
     s: &[u8],
     scratch: &mut [i64],
-) -> Turn
+) -> Result<Turn, Reason>
     requires { (at ≤ length s.now) × (i < 64) × (m.size ≤ most_cell_bytes * i) × (bound column.len ≤ most_elements) × (scratch_length ≤ length scratch.old) }
     ensures measured_by { MeasuredBy to column i (read_cell from column flagged (drop at s.now)) s.now at m scratch.old scratch.new result }
     ensures scratch_len_unchanged { length scratch.new ≡ length scratch.old }
 {
     let place = place_for(m.held);
     let first = place + 1;
-    let found = read_cell(from, s, at, column, flagged, &mut scratch[first..]);
-    match found {
-        Found::Refused(n) => Turn::Refused(n),
-        Found::Null(next) => {
-            scratch[place] = NULL;
-            let size = size_cell(to, column, true, 0, scratch);
-            Turn::Next(next, m.after(i, true, 0, size))
-        }
-        Found::Shown(n, next) => {
-            scratch[place] = n as i64;
-            let size = size_cell(to, column, false, n, &scratch[first..]);
-            Turn::Next(next, m.after(i, false, n, size))
-        }
-    }
+    let found = read_cell(from, s, at, column, flagged, &mut scratch[first..])?;
+    scratch[place] = held_count(found.shown);
+    let size = size_cell(to, column, found.shown, &scratch[first..]);
+    Ok(Turn {
+        next: found.next,
+        measured: m.after(i, found.shown, size),
+    })
 }
 
 // ---- the converter
@@ -301,76 +277,63 @@ fn convert_rows(
         bytes: first.bytes,
     };
     let mut stop = Stop {
-        number: NONE,
+        number: 0,
         row: 0,
         column: 0,
         place: s.len(),
     };
     'rows: while !at_end(from, s, cursor.at) {
         let start = cursor.at;
-        let b = begin_row(from, s, start, count);
-        let flags: u64;
-        let body: usize;
-        match b {
-            Begin::Refused(n) => {
+        let begin = match begin_row(from, s, start, count) {
+            Ok(begin) => begin,
+            Err(reason) => {
                 stop = Stop {
-                    number: n,
+                    number: reason.number(),
                     row: p.rows,
                     column: 0,
                     place: start,
                 };
                 break 'rows;
             }
-            Begin::Row(f, a) => {
-                flags = f;
-                body = a;
-            }
-        }
-        let mut at = body;
+        };
+        let mut at = begin.cells;
         let mut m = Measured::start();
-        let mut i: usize = 0;
-        while i < count {
+        for i in 0..count {
             let c = cols.list[i];
-            let flagged = flag_of(from, flags, count, i);
-            let t = measure(at, m, i, from, to, c, flagged, s, scratch);
-            match t {
-                Turn::Refused(n) => {
+            let flagged = flag_of(from, begin.flags, count, i);
+            match measure(at, m, i, from, to, c, flagged, s, scratch) {
+                Ok(turn) => {
+                    at = turn.next;
+                    m = turn.measured;
+                }
+                Err(reason) => {
                     stop = Stop {
-                        number: n,
+                        number: reason.number(),
                         row: p.rows,
                         column: i,
                         place: start,
                     };
                     break 'rows;
                 }
-                Turn::Next(a, q) => {
-                    at = a;
-                    m = q;
-                }
             }
-            i += 1;
         }
-        let e = end_row(from, s, at);
-        let next: usize;
-        match e {
-            Close::Refused(n) => {
+        let next = match end_row(from, s, at) {
+            Ok(next) => next,
+            Err(reason) => {
                 stop = Stop {
-                    number: n,
+                    number: reason.number(),
                     row: p.rows,
                     column: count,
                     place: start,
                 };
                 break 'rows;
             }
-            Close::Closed(a) => {
-                next = a;
-            }
-        }
-        if m.number != NONE {
+        };
+        if let Some(refused) = m.refused {
             stop = Stop {
-                number: m.number,
+                number: refused.reason.number(),
                 row: p.rows,
-                column: m.column,
+                column: refused.column,
                 place: start,
             };
             break 'rows;
@@ -379,17 +342,25 @@ fn convert_rows(
         let room = out.len() - p.bytes;
         if room < size {
             stop = Stop {
-                number: 17,
+                number: Reason::NoRoom.number(),
                 row: p.rows,
                 column: 0,
                 place: start,
             };
             break 'rows;
         }
-        let nulls = m.nulls;
-        let holding = holding_of(m.held);
         put_row(
-            cols, from, to, s, flags, body, nulls, holding, out, p.bytes, scratch,
+            cols,
+            from,
+            to,
+            s,
+            begin.flags,
+            begin.cells,
+            m.nulls,
+            m.held,
+            out,
+            p.bytes,
+            scratch,
         );
         let more = moved(
             cols,

@@ -1,7 +1,7 @@
 // Parts that were converted each by itself, joined in order: a part more, and a list of them as numbers.
 #![tactic(auto)]
 
-ghost use Rattle.std.specs.Prelude.{◌≡◌, cond, true, ◌+◌, ◌≤◌, eqb, leb, length};
+ghost use Rattle.std.specs.Prelude.{◌≡◌, cond, true, ◌+◌, ◌≤◌, eqb};
 ghost use Rattle.parts.specs.Join.{is_counted, is_final, is_used, join, joined_with, first_part, parts_of};
 
 use parts::{Joined, Part};
@@ -9,38 +9,16 @@ use parts::{Joined, Part};
 const MOST_INPUT: u64 = 1_073_741_824;
 
 // What 64 bits hold at most.
-const MOST_COUNT: u64 = 18_446_744_073_709_551_615;
+const MOST_COUNT: u128 = 18_446_744_073_709_551_615;
 
 // How many numbers a part has.
 const NUMBERS: usize = 9;
 
-// ---- sums that may be more than 64 bits hold
-
-fn sum_within(a: u64, b: u64, most: u64) -> bool
-    ensures { result ≡ leb (a + b) most }
+// A sum that may be more than 64 bits hold.
+fn sum(a: u64, b: u64) -> u128
+    ensures { result ≡ a + b }
 {
-    if most < a {
-        return false;
-    }
-    b <= most - a
-}
-
-fn sum_reaches(a: u64, b: u64, least: u64) -> bool
-    ensures { result ≡ leb least (a + b) }
-{
-    if least < a {
-        return true;
-    }
-    least - a <= b
-}
-
-fn sum_is(a: u64, b: u64, sum: u64) -> bool
-    ensures { result ≡ eqb (a + b) sum }
-{
-    if sum < a {
-        return false;
-    }
-    b == sum - a
+    u128::from(a) + u128::from(b)
 }
 
 // ---- a part more
@@ -48,45 +26,29 @@ fn sum_is(a: u64, b: u64, sum: u64) -> bool
 fn is_counted(j: Joined, p: Part) -> bool
     ensures { result ≡ is_counted j p }
 {
-    if !sum_within(j.place, p.place, MOST_COUNT) {
-        return false;
-    }
-    if !sum_within(j.rows, p.rows, MOST_COUNT) {
-        return false;
-    }
-    if !sum_within(j.rows, p.row, MOST_COUNT) {
-        return false;
-    }
-    sum_within(j.parts, 1, MOST_COUNT)
+    sum(j.place, p.place) <= MOST_COUNT
+        && sum(j.rows, p.rows) <= MOST_COUNT
+        && sum(j.rows, p.row) <= MOST_COUNT
+        && sum(j.parts, 1) <= MOST_COUNT
 }
 
 // Does it begin where the rows done end, and have its rows room?
 fn is_used(room: u64, j: Joined, p: Part) -> bool
     ensures { result ≡ is_used room j p }
 {
-    if j.ended != 0 {
+    if j.ended != 0 || p.start != j.place || MOST_INPUT < p.length {
         return false;
     }
-    if p.start != j.place {
-        return false;
-    }
-    if MOST_INPUT < p.length {
-        return false;
-    }
-    if !sum_within(j.bytes, p.bytes, room) {
-        return false;
-    }
-    is_counted(j, p)
+    sum(j.bytes, p.bytes) <= u128::from(room) && is_counted(j, p)
 }
 
 // Does the whole end with it? A part that was cut, or had too little room, says nothing of the row that it stopped at.
 fn is_final(length: u64, room: u64, j: Joined, p: Part) -> bool
     ensures { result ≡ is_final length room j p }
 {
-    let number = p.number;
-    match number {
-        17 => sum_reaches(j.bytes, p.room, room),
-        0 | 8 | 10 => sum_is(p.start, p.length, length),
+    match p.number {
+        17 => u128::from(room) <= sum(j.bytes, p.room),
+        0 | 8 | 10 => sum(p.start, p.length) == u128::from(length),
         _ => true,
     }
 }
@@ -99,56 +61,49 @@ fn row_behind(rows: u64, p: Part) -> u64
     if p.number == 0 { 0 } else { rows + p.row }
 }
 
-// The sums are within what 64 bits hold.
+// The sums are within what 64 bits hold. That it has ended is a number, as all of it are numbers that the caller in C lends.
 fn joined_with(length: u64, room: u64, j: Joined, p: Part) -> Joined
     requires { (is_counted j p ≡ true) × (j.bytes + p.bytes ≤ room) }
     ensures { result ≡ joined_with length room j p }
 {
-    let rows = j.rows + p.rows;
-    let bytes = j.bytes + p.bytes;
-    let place = j.place + p.place;
-    let parts = j.parts + 1;
+    let gone_on = Joined {
+        number: 0,
+        row: 0,
+        column: 0,
+        rows: j.rows + p.rows,
+        bytes: j.bytes + p.bytes,
+        place: j.place + p.place,
+        parts: j.parts + 1,
+        ended: 0,
+    };
     if is_final(length, room, j, p) {
         return Joined {
             number: p.number,
             row: row_behind(j.rows, p),
             column: p.column,
-            rows,
-            bytes,
-            place,
-            parts,
             ended: 1,
+            ..gone_on
         };
     }
-    Joined {
-        number: 0,
-        row: 0,
-        column: 0,
-        rows,
-        bytes,
-        place,
-        parts,
-        ended: 0,
-    }
+    gone_on
 }
 
 // ---- parts as numbers
 
-// The part at the front.
-fn first_part(s: &[u64]) -> Part
-    requires { 9 ≤ length s.now }
-    ensures { result ≡ first_part s.now }
+fn part_of(numbers: &[u64; NUMBERS]) -> Part
+    ensures { result ≡ first_part numbers.now }
 {
+    let [start, length, room, number, row, column, rows, bytes, place] = *numbers;
     Part {
-        start: s[0],
-        length: s[1],
-        room: s[2],
-        number: s[3],
-        row: s[4],
-        column: s[5],
-        rows: s[6],
-        bytes: s[7],
-        place: s[8],
+        start,
+        length,
+        room,
+        number,
+        row,
+        column,
+        rows,
+        bytes,
+        place,
     }
 }
 
@@ -156,17 +111,14 @@ fn first_part(s: &[u64]) -> Part
 pub fn join(length: u64, room: u64, parts: &[u64], joined: Joined) -> Joined
     ensures { result ≡ join length room joined (parts_of parts.now) }
 {
-    let count = parts.len() / NUMBERS;
+    let (nines, _) = parts.as_chunks::<NUMBERS>();
     let mut j = joined;
-    let mut i: usize = 0;
-    while i < count {
-        let at = i * NUMBERS;
-        let p = first_part(&parts[at..]);
+    for numbers in nines {
+        let p = part_of(numbers);
         if !is_used(room, j, p) {
             return j;
         }
         j = joined_with(length, room, j, p);
-        i += 1;
     }
     j
 }

@@ -14,7 +14,7 @@ use native.Mathlib.Nat.{le_refl}
 use native.Mathlib.Omega.{arith}
 use Rattle.convert.proofs.Converting.{Finished, acceptance, read-refusal, room-refusal, write-refusal}
 use Rattle.convert.proofs.Measuring.{RowMeasured, held-ready, measured-more, measured-start, row-cannot, row-length, row_wrote}
-use Rattle.convert.specs.Clauses.{MeasuredBy, holding_of, scratch_length}
+use Rattle.convert.specs.Clauses.{MeasuredBy, scratch_length}
 use Rattle.moving.proofs.Rows.{row_done, rows_start}
 use Rattle.moving.proofs.Written.{rows-further}
 use Rattle.moving.specs.Rows.{RowsDone, RowsFurther}
@@ -25,10 +25,11 @@ use Rattle.row_reading.proofs.Parts.{RowRead, begun-within, cells-closed, cells_
 use Rattle.row_reading.proofs.Parts.{read-end, read_more, read-start, read-stop, row-begun, row-onward, row-unbegun}
 use Rattle.row_reading.specs.Clauses.{cells_end, flags_in}
 use Rattle.row_writing.specs.Clauses.{HeldReady, put_form, row_bytes}
-use Rattle.row_writing.specs.declared.Holding.{Holding}
 use Rattle.rows.specs.Bounds.{Within}
 use Rattle.rows.specs.Stream.{at_end, read_cells, read_row, write_row}
 use Rattle.table.specs.Outcome.{at}
+use Rattle.table.specs.Reasons.{number_of}
+use Rattle.std.specs.Prelude.{Option}
 use Rattle.table.specs.Result.{bad, good}
 use Rattle.table.specs.declared.Column.{Column}
 use Rattle.table.specs.declared.Columns.{Columns}
@@ -53,8 +54,8 @@ rows-init c =
 pub at_end-requires : goal.at_end-requires
 at_end-requires c = c.rows.invariant.0.inside
 
-pub begin_row-b-requires : goal.begin_row-b-requires
-begin_row-b-requires c =
+pub begin_row-requires : goal.begin_row-requires
+begin_row-requires c =
     let cols-at : Columns = c.args.cols in
     let are : Within (listed cols-at) = c.requires.0 in
     let few : cols-at.count ≤ 64 = omega (arith, are.few, listed-length cols-at) in
@@ -67,12 +68,12 @@ loop-i-init c =
     let to_at : Rows = c.args.to in
     let cols-at : Columns = c.args.cols in
     let s-at : List ℕ = c.args.s.now in
-    let flags-at : ℕ = c.in-Row.f in
-    let body_at : ℕ = c.in-Row.a in
+    let flags-at : ℕ = c.in-Ok.begin.flags in
+    let body_at : ℕ = c.in-Ok.begin.cells in
     let within : (c.rows.cursor.at ≤ body_at) × (body_at ≤ length s-at) = (
-    let g = c.begin_row-b in
-    begun-within from_at (listed cols-at) cols-at.count (listed-length cols-at) s-at c.rows.cursor.at g.result g.ensures flags-at body_at
-    c.in-Row.is) in (
+    let g = c.begin_row in
+    begun-within from_at (listed cols-at) cols-at.count (listed-length cols-at) s-at c.rows.cursor.at g.result g.ensures c.in-Ok.begin
+    c.in-Ok.is) in (
       read-start from_at (listed cols-at) _ s-at body_at within.1,
       measured-start to_at (listed cols-at) c.rows.scratch c.start-m.result
           c.start-m.ensures,
@@ -101,8 +102,8 @@ flag_of-flagged-requires c =
     let few : cols-at.count ≤ 64 = omega (arith, are.few, listed-length cols-at) in
     (c.loop-i-test.true, few)
 
-pub measure-t-requires : goal.measure-t-requires
-measure-t-requires c =
+pub measure-requires : goal.measure-requires
+measure-requires c =
     let cols-at : Columns = c.args.cols in
     let are : Within (listed cols-at) = c.requires.0 in
     let scratch-kept : length c.rows.scratch ≡ length c.args.scratch.now = c.rows.invariant.2 ∙ c.moved-first.ensures.scratch_len_unchanged in
@@ -111,16 +112,6 @@ measure-t-requires c =
     let l = c.loop-i in
     (l.invariant.0.inside, omega (arith, few, c.loop-i-test.true), l.invariant.1.short, listed-bound cols-at l.i are c.loop-i-test.true, scratch-long _ l.invariant.3)
 
-pub overflow_add-i : goal.overflow_add-i
-overflow_add-i c =
-    let cols-at : Columns = c.args.cols in
-    let are : Within (listed cols-at) = c.requires.0 in
-    let few : cols-at.count ≤ 64 = omega (arith, are.few, listed-length cols-at) in
-    omega (arith, few, c.loop-i-test.true)
-
-pub loop-i-smaller : goal.loop-i-smaller
-loop-i-smaller c = omega (arith, c.loop-i-test.true)
-
 pub loop-i-preserved : goal.loop-i-preserved
 unfolding read_more
 loop-i-preserved c =
@@ -128,13 +119,13 @@ loop-i-preserved c =
     let to_at : Rows = c.args.to in
     let cols-at : Columns = c.args.cols in
     let s-at : List ℕ = c.args.s.now in
-    let body_at : ℕ = c.in-Row.a in
+    let body_at : ℕ = c.in-Ok.begin.cells in
     let column-at : Column = get_or cols-at.list c.loop-i.i no_column in
     let next-column : drop c.loop-i.i (listed cols-at) ≡ column-at ∷ drop (suc c.loop-i.i) (listed cols-at) = listed_next cols-at c.loop-i.i c.loop-i-test.true in
     let l = c.loop-i in
     let f = c.flag_of-flagged in
-    let m = c.measure-t in
-    let x = subst (MeasuredBy _ _ _ _ _ _ _ _ _) c.in-Next.is m.ensures.measured_by in (
+    let m = c.measure in
+    let x = subst (MeasuredBy _ _ _ _ _ _ _ _ _) c.in-Ok-measure.is m.ensures.measured_by in (
       read_more from_at (listed cols-at) _ s-at body_at l.at l.i l.invariant.0 column-at next-column f.result f.ensures x.0 _
           (omega (arith, listed-length cols-at, c.loop-i-test.true)) x.1 x.2 x.3,
       measured-more to_at (listed cols-at) l.invariant.0.acc _ _ l.m _ l.i l.invariant.1 column-at next-column x.0 x.4,
@@ -142,8 +133,8 @@ loop-i-preserved c =
       m.ensures.scratch_len_unchanged ∙ l.invariant.3,
     )
 
-pub end_row-e-requires : goal.end_row-e-requires
-end_row-e-requires c = c.loop-i.invariant.0.inside
+pub end_row-requires : goal.end_row-requires
+end_row-requires c = c.loop-i.invariant.0.inside
 
 pub overflow_add-size : goal.overflow_add-size
 overflow_add-size c =
@@ -162,39 +153,34 @@ put_row-requires c =
     let s-at : List ℕ = c.args.s.now in
     let are : Within (listed cols-at) = c.requires.0 in
     let scratch-kept : length c.rows.scratch ≡ length c.args.scratch.now = c.rows.invariant.2 ∙ c.moved-first.ensures.scratch_len_unchanged in
-    let flags-at : ℕ = c.in-Row.f in
-    let body_at : ℕ = c.in-Row.a in
+    let flags-at : ℕ = c.in-Ok.begin.flags in
+    let body_at : ℕ = c.in-Ok.begin.cells in
     let within : (c.rows.cursor.at ≤ body_at) × (body_at ≤ length s-at) = (
-    let g = c.begin_row-b in
-    begun-within from_at (listed cols-at) cols-at.count (listed-length cols-at) s-at c.rows.cursor.at g.result g.ensures flags-at body_at
-    c.in-Row.is) in
+    let g = c.begin_row in
+    begun-within from_at (listed cols-at) cols-at.count (listed-length cols-at) s-at c.rows.cursor.at g.result g.ensures c.in-Ok.begin
+    c.in-Ok.is) in
     let scratch-long : (n : ℕ) → n ≡ length c.rows.scratch → scratch_length ≤ n = λ n e. omega (arith, e, scratch-kept, c.requires.1) in
     let row_at : List ℕ = (
     let l = c.loop-i in
-    row_bytes to_at cols-at.count l.m.nulls (put_form from_at to_at cols-at flags-at (drop body_at s-at) l.scratch (holding_of l.m.held))) in
+    row_bytes to_at cols-at.count l.m.nulls (put_form from_at to_at cols-at flags-at (drop body_at s-at) l.scratch l.m.held)) in
     let size-at : length row_at ≡ c.frame_size-around.result + c.loop-i.m.size = (
     let l = c.loop-i in
     omega (
       arith,
       row-length from_at to_at cols-at flags-at s-at body_at l.at l.i l.invariant.0 l.scratch l.m l.invariant.1 (listed-length cols-at)
-          c.loop-i-test.false c.if-m-ne-NONE.false,
+          c.loop-i-test.false c.in_default.is,
       c.frame_size-around.ensures.1 l.m.nulls,
     )) in
-    let row-held : Holding → List ℕ = λ h. (
     let l = c.loop-i in
-    row_bytes to_at cols-at.count l.m.nulls (put_form from_at to_at cols-at flags-at (drop body_at s-at) l.scratch h)) in
-    let l = c.loop-i in
-    let h = sym c.holding_of-holding.ensures in
     record {
       within = (
         are,
         within.1,
         omega (arith, scratch-long _ l.invariant.3),
-        subst (HeldReady (listed cols-at) l.scratch) h
-            (held-ready from_at to_at cols-at flags-at s-at body_at l.at l.i l.invariant.0 l.scratch l.m l.invariant.1 (listed-length cols-at)
-            c.loop-i-test.false),
+        held-ready from_at to_at cols-at flags-at s-at body_at l.at l.i l.invariant.0 l.scratch l.m l.invariant.1 (listed-length cols-at)
+            c.loop-i-test.false,
       );
-      holding_in_bounds = subst (λ (y : Holding). c.rows.p.bytes + length (row-held y) ≤ length c.rows.out) h (omega (arith, size-at, c.if-room-size.false, c.rows.invariant.0.room));
+      holding_in_bounds = omega (arith, size-at, c.if-room-size.false, c.rows.invariant.0.room);
     }
 
 pub overflow_sub-next : goal.overflow_sub-next
@@ -203,22 +189,22 @@ overflow_sub-next c =
     let cols-at : Columns = c.args.cols in
     let s-at : List ℕ = c.args.s.now in
     let are : Within (listed cols-at) = c.requires.0 in
-    let flags-at : ℕ = c.in-Row.f in
-    let body_at : ℕ = c.in-Row.a in
+    let flags-at : ℕ = c.in-Ok.begin.flags in
+    let body_at : ℕ = c.in-Ok.begin.cells in
     let begun : read_row from_at (listed cols-at) (drop c.rows.cursor.at s-at) ≡ cells_end from_at (listed cols-at) (flags_in from_at cols-at.count flags-at) (drop body_at s-at) = (
-    let g = c.begin_row-b in
-    row-begun from_at (listed cols-at) cols-at.count (listed-length cols-at) s-at c.rows.cursor.at g.result g.ensures flags-at body_at
-    c.in-Row.is) in
+    let g = c.begin_row in
+    row-begun from_at (listed cols-at) cols-at.count (listed-length cols-at) s-at c.rows.cursor.at g.result g.ensures c.in-Ok.begin
+    c.in-Ok.is) in
     let past : length (listed cols-at) ≤ c.loop-i.i = omega (arith, listed-length cols-at, c.loop-i-test.false) in
     let all_read : read_cells from_at (listed cols-at) (flags_in from_at cols-at.count flags-at) 0 (drop body_at s-at) ≡ good (c.loop-i.invariant.0.acc, drop c.loop-i.at s-at) = (
     read-end from_at (listed cols-at) _ s-at body_at c.loop-i.at c.loop-i.i c.loop-i.invariant.0 past) in
-    let next-at : ℕ = c.in-Closed.a in
+    let next-at : ℕ = c.in-Ok-end_row.next in
     let whole : read_row from_at (listed cols-at) (drop c.rows.cursor.at s-at) ≡ good (c.loop-i.invariant.0.acc, drop next-at s-at) = (
-    let z = c.end_row-e in
-    begun ∙ cells-closed from_at (listed cols-at) _ s-at body_at _ _ all_read z.result z.ensures next-at c.in-Closed.is) in
+    let z = c.end_row in
+    begun ∙ cells-closed from_at (listed cols-at) _ s-at body_at _ _ all_read z.result z.ensures next-at c.in-Ok-end_row.is) in
     let onward : (c.rows.cursor.at < next-at) × (next-at ≤ length s-at) = (
-    let z = c.end_row-e in
-    let w = closed-within from_at s-at c.loop-i.at z.result z.ensures next-at c.in-Closed.is in
+    let z = c.end_row in
+    let w = closed-within from_at s-at c.loop-i.at z.result z.ensures next-at c.in-Ok-end_row.is in
     (row-onward from_at (listed cols-at) s-at c.rows.cursor.at next-at _ are whole w.1, w.1)) in
     omega (arith, onward.0)
 
@@ -228,22 +214,22 @@ after-requires c =
     let cols-at : Columns = c.args.cols in
     let s-at : List ℕ = c.args.s.now in
     let are : Within (listed cols-at) = c.requires.0 in
-    let flags-at : ℕ = c.in-Row.f in
-    let body_at : ℕ = c.in-Row.a in
+    let flags-at : ℕ = c.in-Ok.begin.flags in
+    let body_at : ℕ = c.in-Ok.begin.cells in
     let begun : read_row from_at (listed cols-at) (drop c.rows.cursor.at s-at) ≡ cells_end from_at (listed cols-at) (flags_in from_at cols-at.count flags-at) (drop body_at s-at) = (
-    let g = c.begin_row-b in
-    row-begun from_at (listed cols-at) cols-at.count (listed-length cols-at) s-at c.rows.cursor.at g.result g.ensures flags-at body_at
-    c.in-Row.is) in
+    let g = c.begin_row in
+    row-begun from_at (listed cols-at) cols-at.count (listed-length cols-at) s-at c.rows.cursor.at g.result g.ensures c.in-Ok.begin
+    c.in-Ok.is) in
     let past : length (listed cols-at) ≤ c.loop-i.i = omega (arith, listed-length cols-at, c.loop-i-test.false) in
     let all_read : read_cells from_at (listed cols-at) (flags_in from_at cols-at.count flags-at) 0 (drop body_at s-at) ≡ good (c.loop-i.invariant.0.acc, drop c.loop-i.at s-at) = (
     read-end from_at (listed cols-at) _ s-at body_at c.loop-i.at c.loop-i.i c.loop-i.invariant.0 past) in
-    let next-at : ℕ = c.in-Closed.a in
+    let next-at : ℕ = c.in-Ok-end_row.next in
     let whole : read_row from_at (listed cols-at) (drop c.rows.cursor.at s-at) ≡ good (c.loop-i.invariant.0.acc, drop next-at s-at) = (
-    let z = c.end_row-e in
-    begun ∙ cells-closed from_at (listed cols-at) _ s-at body_at _ _ all_read z.result z.ensures next-at c.in-Closed.is) in
+    let z = c.end_row in
+    begun ∙ cells-closed from_at (listed cols-at) _ s-at body_at _ _ all_read z.result z.ensures next-at c.in-Ok-end_row.is) in
     let onward : (c.rows.cursor.at < next-at) × (next-at ≤ length s-at) = (
-    let z = c.end_row-e in
-    let w = closed-within from_at s-at c.loop-i.at z.result z.ensures next-at c.in-Closed.is in
+    let z = c.end_row in
+    let w = closed-within from_at s-at c.loop-i.at z.result z.ensures next-at c.in-Ok-end_row.is in
     (row-onward from_at (listed cols-at) s-at c.rows.cursor.at next-at _ are whole w.1, w.1)) in
     let o = onward in
     omega (arith, o.0, o.1)
@@ -261,22 +247,22 @@ after-requires-in-rows c =
     let z = c.start-2 in
     let f = rows-further m.ensures.moves_rows.moved are (omega (arith, n.ensures)) (omega (arith, n.ensures, z.ensures.0)) in
     c.rows.invariant.0.further out_at (f.further out_at (rows_start from_at to_at (listed cols-at) s-at out_at _ _ _ n.ensures z.ensures))) in
-    let flags-at : ℕ = c.in-Row.f in
-    let body_at : ℕ = c.in-Row.a in
+    let flags-at : ℕ = c.in-Ok.begin.flags in
+    let body_at : ℕ = c.in-Ok.begin.cells in
     let begun : read_row from_at (listed cols-at) (drop c.rows.cursor.at s-at) ≡ cells_end from_at (listed cols-at) (flags_in from_at cols-at.count flags-at) (drop body_at s-at) = (
-    let g = c.begin_row-b in
-    row-begun from_at (listed cols-at) cols-at.count (listed-length cols-at) s-at c.rows.cursor.at g.result g.ensures flags-at body_at
-    c.in-Row.is) in
+    let g = c.begin_row in
+    row-begun from_at (listed cols-at) cols-at.count (listed-length cols-at) s-at c.rows.cursor.at g.result g.ensures c.in-Ok.begin
+    c.in-Ok.is) in
     let past : length (listed cols-at) ≤ c.loop-i.i = omega (arith, listed-length cols-at, c.loop-i-test.false) in
     let all_read : read_cells from_at (listed cols-at) (flags_in from_at cols-at.count flags-at) 0 (drop body_at s-at) ≡ good (c.loop-i.invariant.0.acc, drop c.loop-i.at s-at) = (
     read-end from_at (listed cols-at) _ s-at body_at c.loop-i.at c.loop-i.i c.loop-i.invariant.0 past) in
-    let next-at : ℕ = c.in-Closed.a in
+    let next-at : ℕ = c.in-Ok-end_row.next in
     let whole : read_row from_at (listed cols-at) (drop c.rows.cursor.at s-at) ≡ good (c.loop-i.invariant.0.acc, drop next-at s-at) = (
-    let z = c.end_row-e in
-    begun ∙ cells-closed from_at (listed cols-at) _ s-at body_at _ _ all_read z.result z.ensures next-at c.in-Closed.is) in
+    let z = c.end_row in
+    begun ∙ cells-closed from_at (listed cols-at) _ s-at body_at _ _ all_read z.result z.ensures next-at c.in-Ok-end_row.is) in
     let onward : (c.rows.cursor.at < next-at) × (next-at ≤ length s-at) = (
-    let z = c.end_row-e in
-    let w = closed-within from_at s-at c.loop-i.at z.result z.ensures next-at c.in-Closed.is in
+    let z = c.end_row in
+    let w = closed-within from_at s-at c.loop-i.at z.result z.ensures next-at c.in-Ok-end_row.is in
     (row-onward from_at (listed cols-at) s-at c.rows.cursor.at next-at _ are whole w.1, w.1)) in
     let o = onward in (
       omega (arith, c.if-room-size.false, c.rows.invariant.0.room, done_at.long),
@@ -299,41 +285,38 @@ moved-more-requires c =
     let scratch-kept : length c.rows.scratch ≡ length c.args.scratch.now = c.rows.invariant.2 ∙ c.moved-first.ensures.scratch_len_unchanged in
     let row_kept : length c.rows.row ≡ length c.args.row.now = c.rows.invariant.3 ∙ c.moved-first.ensures.row_len_unchanged in
     let left : at_end from_at (drop c.rows.cursor.at s-at) ≡ false = sym c.at_end.ensures ∙ c.rows-test.true in
-    let flags-at : ℕ = c.in-Row.f in
-    let body_at : ℕ = c.in-Row.a in
+    let flags-at : ℕ = c.in-Ok.begin.flags in
+    let body_at : ℕ = c.in-Ok.begin.cells in
     let begun : read_row from_at (listed cols-at) (drop c.rows.cursor.at s-at) ≡ cells_end from_at (listed cols-at) (flags_in from_at cols-at.count flags-at) (drop body_at s-at) = (
-    let g = c.begin_row-b in
-    row-begun from_at (listed cols-at) cols-at.count (listed-length cols-at) s-at c.rows.cursor.at g.result g.ensures flags-at body_at
-    c.in-Row.is) in
+    let g = c.begin_row in
+    row-begun from_at (listed cols-at) cols-at.count (listed-length cols-at) s-at c.rows.cursor.at g.result g.ensures c.in-Ok.begin
+    c.in-Ok.is) in
     let past : length (listed cols-at) ≤ c.loop-i.i = omega (arith, listed-length cols-at, c.loop-i-test.false) in
     let all_read : read_cells from_at (listed cols-at) (flags_in from_at cols-at.count flags-at) 0 (drop body_at s-at) ≡ good (c.loop-i.invariant.0.acc, drop c.loop-i.at s-at) = (
     read-end from_at (listed cols-at) _ s-at body_at c.loop-i.at c.loop-i.i c.loop-i.invariant.0 past) in
-    let next-at : ℕ = c.in-Closed.a in
+    let next-at : ℕ = c.in-Ok-end_row.next in
     let whole : read_row from_at (listed cols-at) (drop c.rows.cursor.at s-at) ≡ good (c.loop-i.invariant.0.acc, drop next-at s-at) = (
-    let z = c.end_row-e in
-    begun ∙ cells-closed from_at (listed cols-at) _ s-at body_at _ _ all_read z.result z.ensures next-at c.in-Closed.is) in
+    let z = c.end_row in
+    begun ∙ cells-closed from_at (listed cols-at) _ s-at body_at _ _ all_read z.result z.ensures next-at c.in-Ok-end_row.is) in
     let onward : (c.rows.cursor.at < next-at) × (next-at ≤ length s-at) = (
-    let z = c.end_row-e in
-    let w = closed-within from_at s-at c.loop-i.at z.result z.ensures next-at c.in-Closed.is in
+    let z = c.end_row in
+    let w = closed-within from_at s-at c.loop-i.at z.result z.ensures next-at c.in-Ok-end_row.is in
     (row-onward from_at (listed cols-at) s-at c.rows.cursor.at next-at _ are whole w.1, w.1)) in
     let row_at : List ℕ = (
     let l = c.loop-i in
-    row_bytes to_at cols-at.count l.m.nulls (put_form from_at to_at cols-at flags-at (drop body_at s-at) l.scratch (holding_of l.m.held))) in
+    row_bytes to_at cols-at.count l.m.nulls (put_form from_at to_at cols-at flags-at (drop body_at s-at) l.scratch l.m.held)) in
     let written_at : write_row to_at (listed cols-at) c.loop-i.invariant.0.acc ≡ good row_at = (
     let l = c.loop-i in
     row_wrote from_at to_at cols-at flags-at s-at body_at l.at l.i l.invariant.0 l.scratch l.m l.invariant.1 (listed-length cols-at)
-    c.loop-i-test.false c.if-m-ne-NONE.false) in
+    c.loop-i-test.false c.in_default.is) in
     let size-at : length row_at ≡ c.frame_size-around.result + c.loop-i.m.size = (
     let l = c.loop-i in
     omega (
       arith,
       row-length from_at to_at cols-at flags-at s-at body_at l.at l.i l.invariant.0 l.scratch l.m l.invariant.1 (listed-length cols-at)
-          c.loop-i-test.false c.if-m-ne-NONE.false,
+          c.loop-i-test.false c.in_default.is,
       c.frame_size-around.ensures.1 l.m.nulls,
     )) in
-    let row-held : Holding → List ℕ = λ h. (
-    let l = c.loop-i in
-    row_bytes to_at cols-at.count l.m.nulls (put_form from_at to_at cols-at flags-at (drop body_at s-at) l.scratch h)) in
     let cursor-moves : c.after.result.at ≡ next-at = omega (arith, onward.0, c.after.ensures) in
     let out-behind : List ℕ = c.put_row.new.out in
     let row-behind : (o : List ℕ) → RowsDone from_at to_at (listed cols-at) s-at o c.rows.out c.rows.cursor.at c.rows.p.rows c.rows.p.bytes
@@ -341,11 +324,10 @@ moved-more-requires c =
     let l = c.loop-i in
     let n = onward in
     let w = c.put_row.ensures in
-    let h = c.holding_of-holding.ensures in
     row_done from_at to_at (listed cols-at) are s-at o c.rows.out c.rows.cursor.at c.rows.p.rows c.rows.p.bytes d left
     l.invariant.0.acc _
     whole row_at written_at (omega (arith, size-at, c.if-room-size.false)) _ refl n.0 n.1 _
-    (w.wrote.now-is ∙ ap (λ (y : Holding). sets c.rows.out c.rows.p.bytes (row-held y)) h) _ _ _ cursor-moves c.after-in-rows.ensures.0
+    w.wrote.now-is _ _ _ cursor-moves c.after-in-rows.ensures.0
     (c.after-in-rows.ensures.1 ∙ ap (λ (k : ℕ). c.rows.p.bytes + k) (sym size-at))) in
     let scratch-behind : length c.put_row.new.scratch ≡ length c.rows.scratch = c.put_row.ensures.scratch_len_unchanged ∙ c.loop-i.invariant.3 in
     let d = row-behind out_at done_at in
@@ -368,41 +350,38 @@ rows-smaller c =
     let f = rows-further m.ensures.moves_rows.moved are (omega (arith, n.ensures)) (omega (arith, n.ensures, z.ensures.0)) in
     c.rows.invariant.0.further out_at (f.further out_at (rows_start from_at to_at (listed cols-at) s-at out_at _ _ _ n.ensures z.ensures))) in
     let left : at_end from_at (drop c.rows.cursor.at s-at) ≡ false = sym c.at_end.ensures ∙ c.rows-test.true in
-    let flags-at : ℕ = c.in-Row.f in
-    let body_at : ℕ = c.in-Row.a in
+    let flags-at : ℕ = c.in-Ok.begin.flags in
+    let body_at : ℕ = c.in-Ok.begin.cells in
     let begun : read_row from_at (listed cols-at) (drop c.rows.cursor.at s-at) ≡ cells_end from_at (listed cols-at) (flags_in from_at cols-at.count flags-at) (drop body_at s-at) = (
-    let g = c.begin_row-b in
-    row-begun from_at (listed cols-at) cols-at.count (listed-length cols-at) s-at c.rows.cursor.at g.result g.ensures flags-at body_at
-    c.in-Row.is) in
+    let g = c.begin_row in
+    row-begun from_at (listed cols-at) cols-at.count (listed-length cols-at) s-at c.rows.cursor.at g.result g.ensures c.in-Ok.begin
+    c.in-Ok.is) in
     let past : length (listed cols-at) ≤ c.loop-i.i = omega (arith, listed-length cols-at, c.loop-i-test.false) in
     let all_read : read_cells from_at (listed cols-at) (flags_in from_at cols-at.count flags-at) 0 (drop body_at s-at) ≡ good (c.loop-i.invariant.0.acc, drop c.loop-i.at s-at) = (
     read-end from_at (listed cols-at) _ s-at body_at c.loop-i.at c.loop-i.i c.loop-i.invariant.0 past) in
-    let next-at : ℕ = c.in-Closed.a in
+    let next-at : ℕ = c.in-Ok-end_row.next in
     let whole : read_row from_at (listed cols-at) (drop c.rows.cursor.at s-at) ≡ good (c.loop-i.invariant.0.acc, drop next-at s-at) = (
-    let z = c.end_row-e in
-    begun ∙ cells-closed from_at (listed cols-at) _ s-at body_at _ _ all_read z.result z.ensures next-at c.in-Closed.is) in
+    let z = c.end_row in
+    begun ∙ cells-closed from_at (listed cols-at) _ s-at body_at _ _ all_read z.result z.ensures next-at c.in-Ok-end_row.is) in
     let onward : (c.rows.cursor.at < next-at) × (next-at ≤ length s-at) = (
-    let z = c.end_row-e in
-    let w = closed-within from_at s-at c.loop-i.at z.result z.ensures next-at c.in-Closed.is in
+    let z = c.end_row in
+    let w = closed-within from_at s-at c.loop-i.at z.result z.ensures next-at c.in-Ok-end_row.is in
     (row-onward from_at (listed cols-at) s-at c.rows.cursor.at next-at _ are whole w.1, w.1)) in
     let row_at : List ℕ = (
     let l = c.loop-i in
-    row_bytes to_at cols-at.count l.m.nulls (put_form from_at to_at cols-at flags-at (drop body_at s-at) l.scratch (holding_of l.m.held))) in
+    row_bytes to_at cols-at.count l.m.nulls (put_form from_at to_at cols-at flags-at (drop body_at s-at) l.scratch l.m.held)) in
     let written_at : write_row to_at (listed cols-at) c.loop-i.invariant.0.acc ≡ good row_at = (
     let l = c.loop-i in
     row_wrote from_at to_at cols-at flags-at s-at body_at l.at l.i l.invariant.0 l.scratch l.m l.invariant.1 (listed-length cols-at)
-    c.loop-i-test.false c.if-m-ne-NONE.false) in
+    c.loop-i-test.false c.in_default.is) in
     let size-at : length row_at ≡ c.frame_size-around.result + c.loop-i.m.size = (
     let l = c.loop-i in
     omega (
       arith,
       row-length from_at to_at cols-at flags-at s-at body_at l.at l.i l.invariant.0 l.scratch l.m l.invariant.1 (listed-length cols-at)
-          c.loop-i-test.false c.if-m-ne-NONE.false,
+          c.loop-i-test.false c.in_default.is,
       c.frame_size-around.ensures.1 l.m.nulls,
     )) in
-    let row-held : Holding → List ℕ = λ h. (
-    let l = c.loop-i in
-    row_bytes to_at cols-at.count l.m.nulls (put_form from_at to_at cols-at flags-at (drop body_at s-at) l.scratch h)) in
     let cursor-moves : c.after.result.at ≡ next-at = omega (arith, onward.0, c.after.ensures) in
     let out-behind : List ℕ = c.put_row.new.out in
     let row-behind : (o : List ℕ) → RowsDone from_at to_at (listed cols-at) s-at o c.rows.out c.rows.cursor.at c.rows.p.rows c.rows.p.bytes
@@ -410,11 +389,10 @@ rows-smaller c =
     let l = c.loop-i in
     let n = onward in
     let w = c.put_row.ensures in
-    let h = c.holding_of-holding.ensures in
     row_done from_at to_at (listed cols-at) are s-at o c.rows.out c.rows.cursor.at c.rows.p.rows c.rows.p.bytes d left
     l.invariant.0.acc _
     whole row_at written_at (omega (arith, size-at, c.if-room-size.false)) _ refl n.0 n.1 _
-    (w.wrote.now-is ∙ ap (λ (y : Holding). sets c.rows.out c.rows.p.bytes (row-held y)) h) _ _ _ cursor-moves c.after-in-rows.ensures.0
+    w.wrote.now-is _ _ _ cursor-moves c.after-in-rows.ensures.0
     (c.after-in-rows.ensures.1 ∙ ap (λ (k : ℕ). c.rows.p.bytes + k) (sym size-at))) in
     let more-done : let m = c.moved-more in RowsFurther from_at to_at (listed cols-at) s-at out-behind c.after.result.at c.after-in-rows.result.rows c.after-in-rows.result.bytes m.new.out
     m.result.place m.result.rows m.result.bytes = (
@@ -438,41 +416,38 @@ rows-preserved c =
     let f = rows-further m.ensures.moves_rows.moved are (omega (arith, n.ensures)) (omega (arith, n.ensures, z.ensures.0)) in
     c.rows.invariant.0.further out_at (f.further out_at (rows_start from_at to_at (listed cols-at) s-at out_at _ _ _ n.ensures z.ensures))) in
     let left : at_end from_at (drop c.rows.cursor.at s-at) ≡ false = sym c.at_end.ensures ∙ c.rows-test.true in
-    let flags-at : ℕ = c.in-Row.f in
-    let body_at : ℕ = c.in-Row.a in
+    let flags-at : ℕ = c.in-Ok.begin.flags in
+    let body_at : ℕ = c.in-Ok.begin.cells in
     let begun : read_row from_at (listed cols-at) (drop c.rows.cursor.at s-at) ≡ cells_end from_at (listed cols-at) (flags_in from_at cols-at.count flags-at) (drop body_at s-at) = (
-    let g = c.begin_row-b in
-    row-begun from_at (listed cols-at) cols-at.count (listed-length cols-at) s-at c.rows.cursor.at g.result g.ensures flags-at body_at
-    c.in-Row.is) in
+    let g = c.begin_row in
+    row-begun from_at (listed cols-at) cols-at.count (listed-length cols-at) s-at c.rows.cursor.at g.result g.ensures c.in-Ok.begin
+    c.in-Ok.is) in
     let past : length (listed cols-at) ≤ c.loop-i.i = omega (arith, listed-length cols-at, c.loop-i-test.false) in
     let all_read : read_cells from_at (listed cols-at) (flags_in from_at cols-at.count flags-at) 0 (drop body_at s-at) ≡ good (c.loop-i.invariant.0.acc, drop c.loop-i.at s-at) = (
     read-end from_at (listed cols-at) _ s-at body_at c.loop-i.at c.loop-i.i c.loop-i.invariant.0 past) in
-    let next-at : ℕ = c.in-Closed.a in
+    let next-at : ℕ = c.in-Ok-end_row.next in
     let whole : read_row from_at (listed cols-at) (drop c.rows.cursor.at s-at) ≡ good (c.loop-i.invariant.0.acc, drop next-at s-at) = (
-    let z = c.end_row-e in
-    begun ∙ cells-closed from_at (listed cols-at) _ s-at body_at _ _ all_read z.result z.ensures next-at c.in-Closed.is) in
+    let z = c.end_row in
+    begun ∙ cells-closed from_at (listed cols-at) _ s-at body_at _ _ all_read z.result z.ensures next-at c.in-Ok-end_row.is) in
     let onward : (c.rows.cursor.at < next-at) × (next-at ≤ length s-at) = (
-    let z = c.end_row-e in
-    let w = closed-within from_at s-at c.loop-i.at z.result z.ensures next-at c.in-Closed.is in
+    let z = c.end_row in
+    let w = closed-within from_at s-at c.loop-i.at z.result z.ensures next-at c.in-Ok-end_row.is in
     (row-onward from_at (listed cols-at) s-at c.rows.cursor.at next-at _ are whole w.1, w.1)) in
     let row_at : List ℕ = (
     let l = c.loop-i in
-    row_bytes to_at cols-at.count l.m.nulls (put_form from_at to_at cols-at flags-at (drop body_at s-at) l.scratch (holding_of l.m.held))) in
+    row_bytes to_at cols-at.count l.m.nulls (put_form from_at to_at cols-at flags-at (drop body_at s-at) l.scratch l.m.held)) in
     let written_at : write_row to_at (listed cols-at) c.loop-i.invariant.0.acc ≡ good row_at = (
     let l = c.loop-i in
     row_wrote from_at to_at cols-at flags-at s-at body_at l.at l.i l.invariant.0 l.scratch l.m l.invariant.1 (listed-length cols-at)
-    c.loop-i-test.false c.if-m-ne-NONE.false) in
+    c.loop-i-test.false c.in_default.is) in
     let size-at : length row_at ≡ c.frame_size-around.result + c.loop-i.m.size = (
     let l = c.loop-i in
     omega (
       arith,
       row-length from_at to_at cols-at flags-at s-at body_at l.at l.i l.invariant.0 l.scratch l.m l.invariant.1 (listed-length cols-at)
-          c.loop-i-test.false c.if-m-ne-NONE.false,
+          c.loop-i-test.false c.in_default.is,
       c.frame_size-around.ensures.1 l.m.nulls,
     )) in
-    let row-held : Holding → List ℕ = λ h. (
-    let l = c.loop-i in
-    row_bytes to_at cols-at.count l.m.nulls (put_form from_at to_at cols-at flags-at (drop body_at s-at) l.scratch h)) in
     let cursor-moves : c.after.result.at ≡ next-at = omega (arith, onward.0, c.after.ensures) in
     let out-behind : List ℕ = c.put_row.new.out in
     let row-behind : (o : List ℕ) → RowsDone from_at to_at (listed cols-at) s-at o c.rows.out c.rows.cursor.at c.rows.p.rows c.rows.p.bytes
@@ -480,11 +455,10 @@ rows-preserved c =
     let l = c.loop-i in
     let n = onward in
     let w = c.put_row.ensures in
-    let h = c.holding_of-holding.ensures in
     row_done from_at to_at (listed cols-at) are s-at o c.rows.out c.rows.cursor.at c.rows.p.rows c.rows.p.bytes d left
     l.invariant.0.acc _
     whole row_at written_at (omega (arith, size-at, c.if-room-size.false)) _ refl n.0 n.1 _
-    (w.wrote.now-is ∙ ap (λ (y : Holding). sets c.rows.out c.rows.p.bytes (row-held y)) h) _ _ _ cursor-moves c.after-in-rows.ensures.0
+    w.wrote.now-is _ _ _ cursor-moves c.after-in-rows.ensures.0
     (c.after-in-rows.ensures.1 ∙ ap (λ (k : ℕ). c.rows.p.bytes + k) (sym size-at))) in
     let scratch-behind : length c.put_row.new.scratch ≡ length c.rows.scratch = c.put_row.ensures.scratch_len_unchanged ∙ c.loop-i.invariant.3 in
     let more-done : let m = c.moved-more in RowsFurther from_at to_at (listed cols-at) s-at out-behind c.after.result.at c.after-in-rows.result.rows c.after-in-rows.result.bytes m.new.out
@@ -523,9 +497,9 @@ returns-after-rows c =
     let d = acceptance from_at to_at (listed cols-at) are s-at out_at c.rows.out c.rows.cursor.at c.rows.p.rows c.rows.p.bytes done_at
     (sym c.at_end.ensures ∙ c.rows-test.false) in record { answer_value = rw c.rows.invariant.1 d.answers; place_value = rw c.rows.invariant.1 d.stands; out_after = d.leaves }
 
-pub returns-in-Refused : goal.returns-in-Refused
+pub returns-in-Err : goal.returns-in-Err
 unfolding at
-returns-in-Refused c =
+returns-in-Err c =
     let from_at : Rows = c.args.from in
     let to_at : Rows = c.args.to in
     let cols-at : Columns = c.args.cols in
@@ -542,13 +516,13 @@ returns-in-Refused c =
     → Finished from_at to_at (listed cols-at) s-at out_at c.rows.out
     (record { number = n; row = c.rows.p.rows; column = k; rows = c.rows.p.rows; bytes = c.rows.p.bytes }) c.rows.cursor.at = λ n k e. (
     read-refusal from_at to_at (listed cols-at) are s-at out_at c.rows.out c.rows.cursor.at c.rows.p.rows c.rows.p.bytes done_at left (at k n) e) in
-    let g = c.begin_row-b in
+    let g = c.begin_row in
     let d = stopped _ 0 (row-unbegun from_at (listed cols-at) cols-at.count (listed-length cols-at) s-at c.rows.cursor.at g.result g.ensures
-    c.in-Refused.n c.in-Refused.is) in record { answer_value = d.answers; place_value = d.stands; out_after = d.leaves }
+    c.in-Err.reason c.in-Err.is) in record { answer_value = rw c.number.ensures d.answers; place_value = d.stands; out_after = d.leaves }
 
-pub returns-in-Refused-t : goal.returns-in-Refused-t
+pub returns-in-Err-measure : goal.returns-in-Err-measure
 unfolding at
-returns-in-Refused-t c =
+returns-in-Err-measure c =
     let from_at : Rows = c.args.from in
     let to_at : Rows = c.args.to in
     let cols-at : Columns = c.args.cols in
@@ -561,12 +535,12 @@ returns-in-Refused-t c =
     let f = rows-further m.ensures.moves_rows.moved are (omega (arith, n.ensures)) (omega (arith, n.ensures, z.ensures.0)) in
     c.rows.invariant.0.further out_at (f.further out_at (rows_start from_at to_at (listed cols-at) s-at out_at _ _ _ n.ensures z.ensures))) in
     let left : at_end from_at (drop c.rows.cursor.at s-at) ≡ false = sym c.at_end.ensures ∙ c.rows-test.true in
-    let flags-at : ℕ = c.in-Row.f in
-    let body_at : ℕ = c.in-Row.a in
+    let flags-at : ℕ = c.in-Ok.begin.flags in
+    let body_at : ℕ = c.in-Ok.begin.cells in
     let begun : read_row from_at (listed cols-at) (drop c.rows.cursor.at s-at) ≡ cells_end from_at (listed cols-at) (flags_in from_at cols-at.count flags-at) (drop body_at s-at) = (
-    let g = c.begin_row-b in
-    row-begun from_at (listed cols-at) cols-at.count (listed-length cols-at) s-at c.rows.cursor.at g.result g.ensures flags-at body_at
-    c.in-Row.is) in
+    let g = c.begin_row in
+    row-begun from_at (listed cols-at) cols-at.count (listed-length cols-at) s-at c.rows.cursor.at g.result g.ensures c.in-Ok.begin
+    c.in-Ok.is) in
     let column-at : Column = get_or cols-at.list c.loop-i.i no_column in
     let next-column : drop c.loop-i.i (listed cols-at) ≡ column-at ∷ drop (suc c.loop-i.i) (listed cols-at) = listed_next cols-at c.loop-i.i c.loop-i-test.true in
     let stopped : (n k : ℕ) → read_row from_at (listed cols-at) (drop c.rows.cursor.at s-at) ≡ bad (at k n)
@@ -575,13 +549,13 @@ returns-in-Refused-t c =
     read-refusal from_at to_at (listed cols-at) are s-at out_at c.rows.out c.rows.cursor.at c.rows.p.rows c.rows.p.bytes done_at left (at k n) e) in
     let l = c.loop-i in
     let f = c.flag_of-flagged in
-    let x = subst (MeasuredBy _ _ _ _ _ _ _ _ _) c.in-Refused-t.is c.measure-t.ensures.measured_by in
+    let x = subst (MeasuredBy _ _ _ _ _ _ _ _ _) c.in-Err-measure.is c.measure.ensures.measured_by in
     let q = read-stop from_at (listed cols-at) _ s-at body_at l.at l.i l.invariant.0 column-at next-column f.result f.ensures _ x in
-    let d = stopped _ l.i (begun ∙ cells-stopped from_at (listed cols-at) _ s-at body_at _ q) in record { answer_value = d.answers; place_value = d.stands; out_after = d.leaves }
+    let d = stopped _ l.i (begun ∙ cells-stopped from_at (listed cols-at) _ s-at body_at _ q) in record { answer_value = rw c.number-in-Err-measure.ensures d.answers; place_value = d.stands; out_after = d.leaves }
 
-pub returns-in-Refused-e : goal.returns-in-Refused-e
+pub returns-in-Err-end_row : goal.returns-in-Err-end_row
 unfolding at
-returns-in-Refused-e c =
+returns-in-Err-end_row c =
     let from_at : Rows = c.args.from in
     let to_at : Rows = c.args.to in
     let cols-at : Columns = c.args.cols in
@@ -594,12 +568,12 @@ returns-in-Refused-e c =
     let f = rows-further m.ensures.moves_rows.moved are (omega (arith, n.ensures)) (omega (arith, n.ensures, z.ensures.0)) in
     c.rows.invariant.0.further out_at (f.further out_at (rows_start from_at to_at (listed cols-at) s-at out_at _ _ _ n.ensures z.ensures))) in
     let left : at_end from_at (drop c.rows.cursor.at s-at) ≡ false = sym c.at_end.ensures ∙ c.rows-test.true in
-    let flags-at : ℕ = c.in-Row.f in
-    let body_at : ℕ = c.in-Row.a in
+    let flags-at : ℕ = c.in-Ok.begin.flags in
+    let body_at : ℕ = c.in-Ok.begin.cells in
     let begun : read_row from_at (listed cols-at) (drop c.rows.cursor.at s-at) ≡ cells_end from_at (listed cols-at) (flags_in from_at cols-at.count flags-at) (drop body_at s-at) = (
-    let g = c.begin_row-b in
-    row-begun from_at (listed cols-at) cols-at.count (listed-length cols-at) s-at c.rows.cursor.at g.result g.ensures flags-at body_at
-    c.in-Row.is) in
+    let g = c.begin_row in
+    row-begun from_at (listed cols-at) cols-at.count (listed-length cols-at) s-at c.rows.cursor.at g.result g.ensures c.in-Ok.begin
+    c.in-Ok.is) in
     let stopped : (n k : ℕ) → read_row from_at (listed cols-at) (drop c.rows.cursor.at s-at) ≡ bad (at k n)
     → Finished from_at to_at (listed cols-at) s-at out_at c.rows.out
     (record { number = n; row = c.rows.p.rows; column = k; rows = c.rows.p.rows; bytes = c.rows.p.bytes }) c.rows.cursor.at = λ n k e. (
@@ -607,14 +581,14 @@ returns-in-Refused-e c =
     let past : length (listed cols-at) ≤ c.loop-i.i = omega (arith, listed-length cols-at, c.loop-i-test.false) in
     let all_read : read_cells from_at (listed cols-at) (flags_in from_at cols-at.count flags-at) 0 (drop body_at s-at) ≡ good (c.loop-i.invariant.0.acc, drop c.loop-i.at s-at) = (
     read-end from_at (listed cols-at) _ s-at body_at c.loop-i.at c.loop-i.i c.loop-i.invariant.0 past) in
-    let e = c.end_row-e in
-    let q = cells_open from_at (listed cols-at) _ s-at body_at _ _ all_read e.result e.ensures c.in-Refused-e.n c.in-Refused-e.is in
-    let d = stopped _ cols-at.count (begun ∙ q ∙ ap (λ (k : ℕ). bad (at k c.in-Refused-e.n)) (listed-length cols-at)) in
-    record { answer_value = d.answers; place_value = d.stands; out_after = d.leaves }
+    let e = c.end_row in
+    let q = cells_open from_at (listed cols-at) _ s-at body_at _ _ all_read e.result e.ensures c.in-Err-end_row.reason c.in-Err-end_row.is in
+    let d = stopped _ cols-at.count (begun ∙ q ∙ ap (λ (k : ℕ). bad (at k (number_of c.in-Err-end_row.reason))) (listed-length cols-at)) in
+    record { answer_value = rw c.number-in-Err-end_row.ensures d.answers; place_value = d.stands; out_after = d.leaves }
 
-pub returns-then-m-ne-NONE : goal.returns-then-m-ne-NONE
+pub returns-in-Some : goal.returns-in-Some
 unfolding at
-returns-then-m-ne-NONE c =
+returns-in-Some c =
     let from_at : Rows = c.args.from in
     let to_at : Rows = c.args.to in
     let cols-at : Columns = c.args.cols in
@@ -627,25 +601,25 @@ returns-then-m-ne-NONE c =
     let f = rows-further m.ensures.moves_rows.moved are (omega (arith, n.ensures)) (omega (arith, n.ensures, z.ensures.0)) in
     c.rows.invariant.0.further out_at (f.further out_at (rows_start from_at to_at (listed cols-at) s-at out_at _ _ _ n.ensures z.ensures))) in
     let left : at_end from_at (drop c.rows.cursor.at s-at) ≡ false = sym c.at_end.ensures ∙ c.rows-test.true in
-    let flags-at : ℕ = c.in-Row.f in
-    let body_at : ℕ = c.in-Row.a in
+    let flags-at : ℕ = c.in-Ok.begin.flags in
+    let body_at : ℕ = c.in-Ok.begin.cells in
     let begun : read_row from_at (listed cols-at) (drop c.rows.cursor.at s-at) ≡ cells_end from_at (listed cols-at) (flags_in from_at cols-at.count flags-at) (drop body_at s-at) = (
-    let g = c.begin_row-b in
-    row-begun from_at (listed cols-at) cols-at.count (listed-length cols-at) s-at c.rows.cursor.at g.result g.ensures flags-at body_at
-    c.in-Row.is) in
+    let g = c.begin_row in
+    row-begun from_at (listed cols-at) cols-at.count (listed-length cols-at) s-at c.rows.cursor.at g.result g.ensures c.in-Ok.begin
+    c.in-Ok.is) in
     let past : length (listed cols-at) ≤ c.loop-i.i = omega (arith, listed-length cols-at, c.loop-i-test.false) in
     let all_read : read_cells from_at (listed cols-at) (flags_in from_at cols-at.count flags-at) 0 (drop body_at s-at) ≡ good (c.loop-i.invariant.0.acc, drop c.loop-i.at s-at) = (
     read-end from_at (listed cols-at) _ s-at body_at c.loop-i.at c.loop-i.i c.loop-i.invariant.0 past) in
-    let next-at : ℕ = c.in-Closed.a in
+    let next-at : ℕ = c.in-Ok-end_row.next in
     let whole : read_row from_at (listed cols-at) (drop c.rows.cursor.at s-at) ≡ good (c.loop-i.invariant.0.acc, drop next-at s-at) = (
-    let z = c.end_row-e in
-    begun ∙ cells-closed from_at (listed cols-at) _ s-at body_at _ _ all_read z.result z.ensures next-at c.in-Closed.is) in
+    let z = c.end_row in
+    begun ∙ cells-closed from_at (listed cols-at) _ s-at body_at _ _ all_read z.result z.ensures next-at c.in-Ok-end_row.is) in
     let l = c.loop-i in
     let q = row-cannot from_at to_at cols-at flags-at s-at body_at l.at l.i l.invariant.0 l.scratch l.m l.invariant.1 (listed-length cols-at)
-    c.loop-i-test.false c.if-m-ne-NONE.true in
+    c.loop-i-test.false _ c.in-Some.is in
     let d = write-refusal from_at to_at (listed cols-at) are s-at out_at c.rows.out c.rows.cursor.at c.rows.p.rows c.rows.p.bytes done_at
     left
-    l.invariant.0.acc _ whole _ q in record { answer_value = d.answers; place_value = d.stands; out_after = d.leaves }
+    l.invariant.0.acc _ whole _ q in record { answer_value = rw c.number-in-Some.ensures d.answers; place_value = d.stands; out_after = d.leaves }
 
 pub returns-then-room-size : goal.returns-then-room-size
 returns-then-room-size c =
@@ -661,189 +635,36 @@ returns-then-room-size c =
     let f = rows-further m.ensures.moves_rows.moved are (omega (arith, n.ensures)) (omega (arith, n.ensures, z.ensures.0)) in
     c.rows.invariant.0.further out_at (f.further out_at (rows_start from_at to_at (listed cols-at) s-at out_at _ _ _ n.ensures z.ensures))) in
     let left : at_end from_at (drop c.rows.cursor.at s-at) ≡ false = sym c.at_end.ensures ∙ c.rows-test.true in
-    let flags-at : ℕ = c.in-Row.f in
-    let body_at : ℕ = c.in-Row.a in
+    let flags-at : ℕ = c.in-Ok.begin.flags in
+    let body_at : ℕ = c.in-Ok.begin.cells in
     let begun : read_row from_at (listed cols-at) (drop c.rows.cursor.at s-at) ≡ cells_end from_at (listed cols-at) (flags_in from_at cols-at.count flags-at) (drop body_at s-at) = (
-    let g = c.begin_row-b in
-    row-begun from_at (listed cols-at) cols-at.count (listed-length cols-at) s-at c.rows.cursor.at g.result g.ensures flags-at body_at
-    c.in-Row.is) in
+    let g = c.begin_row in
+    row-begun from_at (listed cols-at) cols-at.count (listed-length cols-at) s-at c.rows.cursor.at g.result g.ensures c.in-Ok.begin
+    c.in-Ok.is) in
     let past : length (listed cols-at) ≤ c.loop-i.i = omega (arith, listed-length cols-at, c.loop-i-test.false) in
     let all_read : read_cells from_at (listed cols-at) (flags_in from_at cols-at.count flags-at) 0 (drop body_at s-at) ≡ good (c.loop-i.invariant.0.acc, drop c.loop-i.at s-at) = (
     read-end from_at (listed cols-at) _ s-at body_at c.loop-i.at c.loop-i.i c.loop-i.invariant.0 past) in
-    let next-at : ℕ = c.in-Closed.a in
+    let next-at : ℕ = c.in-Ok-end_row.next in
     let whole : read_row from_at (listed cols-at) (drop c.rows.cursor.at s-at) ≡ good (c.loop-i.invariant.0.acc, drop next-at s-at) = (
-    let z = c.end_row-e in
-    begun ∙ cells-closed from_at (listed cols-at) _ s-at body_at _ _ all_read z.result z.ensures next-at c.in-Closed.is) in
+    let z = c.end_row in
+    begun ∙ cells-closed from_at (listed cols-at) _ s-at body_at _ _ all_read z.result z.ensures next-at c.in-Ok-end_row.is) in
     let row_at : List ℕ = (
     let l = c.loop-i in
-    row_bytes to_at cols-at.count l.m.nulls (put_form from_at to_at cols-at flags-at (drop body_at s-at) l.scratch (holding_of l.m.held))) in
+    row_bytes to_at cols-at.count l.m.nulls (put_form from_at to_at cols-at flags-at (drop body_at s-at) l.scratch l.m.held)) in
     let written_at : write_row to_at (listed cols-at) c.loop-i.invariant.0.acc ≡ good row_at = (
     let l = c.loop-i in
     row_wrote from_at to_at cols-at flags-at s-at body_at l.at l.i l.invariant.0 l.scratch l.m l.invariant.1 (listed-length cols-at)
-    c.loop-i-test.false c.if-m-ne-NONE.false) in
+    c.loop-i-test.false c.in_default.is) in
     let size-at : length row_at ≡ c.frame_size-around.result + c.loop-i.m.size = (
     let l = c.loop-i in
     omega (
       arith,
       row-length from_at to_at cols-at flags-at s-at body_at l.at l.i l.invariant.0 l.scratch l.m l.invariant.1 (listed-length cols-at)
-          c.loop-i-test.false c.if-m-ne-NONE.false,
+          c.loop-i-test.false c.in_default.is,
       c.frame_size-around.ensures.1 l.m.nulls,
     )) in
     let d = room-refusal from_at to_at (listed cols-at) are s-at out_at c.rows.out c.rows.cursor.at c.rows.p.rows c.rows.p.bytes done_at
     left
     c.loop-i.invariant.0.acc _ whole row_at written_at
-    (omega (arith, size-at, c.if-room-size.true)) in record { answer_value = d.answers; place_value = d.stands; out_after = d.leaves }
+    (omega (arith, size-at, c.if-room-size.true)) in record { answer_value = rw c.number-then-room-size.ensures d.answers; place_value = d.stands; out_after = d.leaves }
 
-pub shape_of-out-after-rows : goal.shape_of-out-after-rows
-shape_of-out-after-rows c =
-    let from_at : Rows = c.args.from in
-    let to_at : Rows = c.args.to in
-    let cols-at : Columns = c.args.cols in
-    let s-at : List ℕ = c.args.s.now in
-    let out_at : List ℕ = c.args.out.now in
-    let are : Within (listed cols-at) = c.requires.0 in
-    let done_at : RowsDone from_at to_at (listed cols-at) s-at out_at c.rows.out c.rows.cursor.at c.rows.p.rows c.rows.p.bytes = (let m = c.moved-first in
-    let n = c.start in
-    let z = c.start-2 in
-    let f = rows-further m.ensures.moves_rows.moved are (omega (arith, n.ensures)) (omega (arith, n.ensures, z.ensures.0)) in
-    c.rows.invariant.0.further out_at (f.further out_at (rows_start from_at to_at (listed cols-at) s-at out_at _ _ _ n.ensures z.ensures))) in
-    done_at.long
-
-pub shape_of-scratch-after-rows : goal.shape_of-scratch-after-rows
-shape_of-scratch-after-rows c =
-    let scratch-kept : length c.rows.scratch ≡ length c.args.scratch.now = c.rows.invariant.2 ∙ c.moved-first.ensures.scratch_len_unchanged in
-    scratch-kept
-
-pub shape_of-row-after-rows : goal.shape_of-row-after-rows
-shape_of-row-after-rows c =
-    let row_kept : length c.rows.row ≡ length c.args.row.now = c.rows.invariant.3 ∙ c.moved-first.ensures.row_len_unchanged in
-    row_kept
-
-pub shape_of-out-in-Refused : goal.shape_of-out-in-Refused
-shape_of-out-in-Refused c =
-    let from_at : Rows = c.args.from in
-    let to_at : Rows = c.args.to in
-    let cols-at : Columns = c.args.cols in
-    let s-at : List ℕ = c.args.s.now in
-    let out_at : List ℕ = c.args.out.now in
-    let are : Within (listed cols-at) = c.requires.0 in
-    let done_at : RowsDone from_at to_at (listed cols-at) s-at out_at c.rows.out c.rows.cursor.at c.rows.p.rows c.rows.p.bytes = (let m = c.moved-first in
-    let n = c.start in
-    let z = c.start-2 in
-    let f = rows-further m.ensures.moves_rows.moved are (omega (arith, n.ensures)) (omega (arith, n.ensures, z.ensures.0)) in
-    c.rows.invariant.0.further out_at (f.further out_at (rows_start from_at to_at (listed cols-at) s-at out_at _ _ _ n.ensures z.ensures))) in
-    done_at.long
-
-pub shape_of-scratch-in-Refused : goal.shape_of-scratch-in-Refused
-shape_of-scratch-in-Refused c =
-    let scratch-kept : length c.rows.scratch ≡ length c.args.scratch.now = c.rows.invariant.2 ∙ c.moved-first.ensures.scratch_len_unchanged in
-    scratch-kept
-
-pub shape_of-row-in-Refused : goal.shape_of-row-in-Refused
-shape_of-row-in-Refused c =
-    let row_kept : length c.rows.row ≡ length c.args.row.now = c.rows.invariant.3 ∙ c.moved-first.ensures.row_len_unchanged in
-    row_kept
-
-pub shape_of-out-in-Refused-t : goal.shape_of-out-in-Refused-t
-shape_of-out-in-Refused-t c =
-    let from_at : Rows = c.args.from in
-    let to_at : Rows = c.args.to in
-    let cols-at : Columns = c.args.cols in
-    let s-at : List ℕ = c.args.s.now in
-    let out_at : List ℕ = c.args.out.now in
-    let are : Within (listed cols-at) = c.requires.0 in
-    let done_at : RowsDone from_at to_at (listed cols-at) s-at out_at c.rows.out c.rows.cursor.at c.rows.p.rows c.rows.p.bytes = (let m = c.moved-first in
-    let n = c.start in
-    let z = c.start-2 in
-    let f = rows-further m.ensures.moves_rows.moved are (omega (arith, n.ensures)) (omega (arith, n.ensures, z.ensures.0)) in
-    c.rows.invariant.0.further out_at (f.further out_at (rows_start from_at to_at (listed cols-at) s-at out_at _ _ _ n.ensures z.ensures))) in
-    done_at.long
-
-pub shape_of-scratch-in-Refused-t : goal.shape_of-scratch-in-Refused-t
-shape_of-scratch-in-Refused-t c =
-    let scratch-kept : length c.rows.scratch ≡ length c.args.scratch.now = c.rows.invariant.2 ∙ c.moved-first.ensures.scratch_len_unchanged in
-    let scratch-of : length c.loop-i.scratch ≡ length c.args.scratch.now = c.loop-i.invariant.3 ∙ scratch-kept in
-    c.measure-t.ensures.scratch_len_unchanged ∙ scratch-of
-
-pub shape_of-row-in-Refused-t : goal.shape_of-row-in-Refused-t
-shape_of-row-in-Refused-t c =
-    let row_kept : length c.rows.row ≡ length c.args.row.now = c.rows.invariant.3 ∙ c.moved-first.ensures.row_len_unchanged in
-    row_kept
-
-pub shape_of-out-in-Refused-e : goal.shape_of-out-in-Refused-e
-shape_of-out-in-Refused-e c =
-    let from_at : Rows = c.args.from in
-    let to_at : Rows = c.args.to in
-    let cols-at : Columns = c.args.cols in
-    let s-at : List ℕ = c.args.s.now in
-    let out_at : List ℕ = c.args.out.now in
-    let are : Within (listed cols-at) = c.requires.0 in
-    let done_at : RowsDone from_at to_at (listed cols-at) s-at out_at c.rows.out c.rows.cursor.at c.rows.p.rows c.rows.p.bytes = (let m = c.moved-first in
-    let n = c.start in
-    let z = c.start-2 in
-    let f = rows-further m.ensures.moves_rows.moved are (omega (arith, n.ensures)) (omega (arith, n.ensures, z.ensures.0)) in
-    c.rows.invariant.0.further out_at (f.further out_at (rows_start from_at to_at (listed cols-at) s-at out_at _ _ _ n.ensures z.ensures))) in
-    done_at.long
-
-pub shape_of-scratch-in-Refused-e : goal.shape_of-scratch-in-Refused-e
-shape_of-scratch-in-Refused-e c =
-    let scratch-kept : length c.rows.scratch ≡ length c.args.scratch.now = c.rows.invariant.2 ∙ c.moved-first.ensures.scratch_len_unchanged in
-    let scratch-of : length c.loop-i.scratch ≡ length c.args.scratch.now = c.loop-i.invariant.3 ∙ scratch-kept in
-    scratch-of
-
-pub shape_of-row-in-Refused-e : goal.shape_of-row-in-Refused-e
-shape_of-row-in-Refused-e c =
-    let row_kept : length c.rows.row ≡ length c.args.row.now = c.rows.invariant.3 ∙ c.moved-first.ensures.row_len_unchanged in
-    row_kept
-
-pub shape_of-out-then-m-ne-NONE : goal.shape_of-out-then-m-ne-NONE
-shape_of-out-then-m-ne-NONE c =
-    let from_at : Rows = c.args.from in
-    let to_at : Rows = c.args.to in
-    let cols-at : Columns = c.args.cols in
-    let s-at : List ℕ = c.args.s.now in
-    let out_at : List ℕ = c.args.out.now in
-    let are : Within (listed cols-at) = c.requires.0 in
-    let done_at : RowsDone from_at to_at (listed cols-at) s-at out_at c.rows.out c.rows.cursor.at c.rows.p.rows c.rows.p.bytes = (let m = c.moved-first in
-    let n = c.start in
-    let z = c.start-2 in
-    let f = rows-further m.ensures.moves_rows.moved are (omega (arith, n.ensures)) (omega (arith, n.ensures, z.ensures.0)) in
-    c.rows.invariant.0.further out_at (f.further out_at (rows_start from_at to_at (listed cols-at) s-at out_at _ _ _ n.ensures z.ensures))) in
-    done_at.long
-
-pub shape_of-scratch-then-m-ne-NONE : goal.shape_of-scratch-then-m-ne-NONE
-shape_of-scratch-then-m-ne-NONE c =
-    let scratch-kept : length c.rows.scratch ≡ length c.args.scratch.now = c.rows.invariant.2 ∙ c.moved-first.ensures.scratch_len_unchanged in
-    let scratch-of : length c.loop-i.scratch ≡ length c.args.scratch.now = c.loop-i.invariant.3 ∙ scratch-kept in
-    scratch-of
-
-pub shape_of-row-then-m-ne-NONE : goal.shape_of-row-then-m-ne-NONE
-shape_of-row-then-m-ne-NONE c =
-    let row_kept : length c.rows.row ≡ length c.args.row.now = c.rows.invariant.3 ∙ c.moved-first.ensures.row_len_unchanged in
-    row_kept
-
-pub shape_of-out-then-room-size : goal.shape_of-out-then-room-size
-shape_of-out-then-room-size c =
-    let from_at : Rows = c.args.from in
-    let to_at : Rows = c.args.to in
-    let cols-at : Columns = c.args.cols in
-    let s-at : List ℕ = c.args.s.now in
-    let out_at : List ℕ = c.args.out.now in
-    let are : Within (listed cols-at) = c.requires.0 in
-    let done_at : RowsDone from_at to_at (listed cols-at) s-at out_at c.rows.out c.rows.cursor.at c.rows.p.rows c.rows.p.bytes = (let m = c.moved-first in
-    let n = c.start in
-    let z = c.start-2 in
-    let f = rows-further m.ensures.moves_rows.moved are (omega (arith, n.ensures)) (omega (arith, n.ensures, z.ensures.0)) in
-    c.rows.invariant.0.further out_at (f.further out_at (rows_start from_at to_at (listed cols-at) s-at out_at _ _ _ n.ensures z.ensures))) in
-    done_at.long
-
-pub shape_of-scratch-then-room-size : goal.shape_of-scratch-then-room-size
-shape_of-scratch-then-room-size c =
-    let scratch-kept : length c.rows.scratch ≡ length c.args.scratch.now = c.rows.invariant.2 ∙ c.moved-first.ensures.scratch_len_unchanged in
-    let scratch-of : length c.loop-i.scratch ≡ length c.args.scratch.now = c.loop-i.invariant.3 ∙ scratch-kept in
-    scratch-of
-
-pub shape_of-row-then-room-size : goal.shape_of-row-then-room-size
-shape_of-row-then-room-size c =
-    let row_kept : length c.rows.row ≡ length c.args.row.now = c.rows.invariant.3 ∙ c.moved-first.ensures.row_len_unchanged in
-    row_kept

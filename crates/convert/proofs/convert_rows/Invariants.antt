@@ -14,7 +14,7 @@ use native.Mathlib.Nat.{le_refl}
 use native.Mathlib.Omega.{arith}
 use Rattle.convert.proofs.Converting.{Finished, acceptance, read-refusal, room-refusal, write-refusal}
 use Rattle.convert.proofs.Measuring.{RowMeasured, held-ready, measured-more, measured-start, row-cannot, row-length, row_wrote}
-use Rattle.convert.specs.Clauses.{MeasuredBy, holding_of, scratch_length}
+use Rattle.convert.specs.Clauses.{MeasuredBy, scratch_length}
 use Rattle.moving.proofs.Rows.{row_done, rows_start}
 use Rattle.moving.proofs.Written.{rows-further}
 use Rattle.moving.specs.Rows.{RowsDone, RowsFurther}
@@ -25,7 +25,6 @@ use Rattle.row_reading.proofs.Parts.{RowRead, begun-within, cells-closed, cells_
 use Rattle.row_reading.proofs.Parts.{read-end, read_more, read-start, read-stop, row-begun, row-onward, row-unbegun}
 use Rattle.row_reading.specs.Clauses.{cells_end, flags_in}
 use Rattle.row_writing.specs.Clauses.{HeldReady, put_form, row_bytes}
-use Rattle.row_writing.specs.declared.Holding.{Holding}
 use Rattle.rows.specs.Bounds.{Within}
 use Rattle.rows.specs.Stream.{at_end, read_cells, read_row, write_row}
 use Rattle.table.specs.Outcome.{at}
@@ -37,11 +36,8 @@ use Rattle.convert.proofs.convert_rows.Given as goal
 
 abbrev pub invariant-loop-i : goal.invariant-loop-i
 invariant-loop-i l =
-    (k : RowRead l.from (listed l.cols) (flags_in l.from l.count l.flags) l.s l.body l.at l.i) × RowMeasured l.to (listed l.cols) k.acc l.scratch l.m l.i × (l.stop ≡ l.initial.stop)
+    (k : RowRead l.from (listed l.cols) (flags_in l.from l.count l.begin.flags) l.s l.begin.cells l.at l.i) × RowMeasured l.to (listed l.cols) k.acc l.scratch l.m l.i × (l.stop ≡ l.initial.stop)
     × (length l.scratch ≡ length l.initial.scratch)
-
-abbrev pub decreases-loop-i : goal.decreases-loop-i
-decreases-loop-i l = l.count - l.i
 
 abbrev pub invariant-rows : goal.invariant-rows
 invariant-rows l =

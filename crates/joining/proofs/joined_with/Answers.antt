@@ -5,24 +5,24 @@ use Rattle.parts.proofs.Laws.{Counted, is-counted}
 use Rattle.parts.specs.Join.{ended_with, gone_on, joined_with, most_count}
 use Rattle.joining.proofs.joined_with.Goals as goal
 
-pub overflow_add-rows : goal.overflow_add-rows
+pub overflow_add-gone_on : goal.overflow_add-gone_on
 unfolding most_count
-overflow_add-rows c =
+overflow_add-gone_on c =
     let counted : Counted c.args.j c.args.p = is-counted c.args.j c.args.p c.requires.0 in
     record { fits = omega (arith, counted.rows) }
 
-pub overflow_add-bytes : goal.overflow_add-bytes
-overflow_add-bytes c = record { fits = omega (arith, c.requires.1, c.ranges.room) }
+pub overflow_add-gone_on-2 : goal.overflow_add-gone_on-2
+overflow_add-gone_on-2 c = record { fits = omega (arith, c.requires.1, c.ranges.room) }
 
-pub overflow_add-place : goal.overflow_add-place
+pub overflow_add-gone_on-3 : goal.overflow_add-gone_on-3
 unfolding most_count
-overflow_add-place c =
+overflow_add-gone_on-3 c =
     let counted : Counted c.args.j c.args.p = is-counted c.args.j c.args.p c.requires.0 in
     record { fits = omega (arith, counted.place) }
 
-pub overflow_add-parts : goal.overflow_add-parts
+pub overflow_add-gone_on-4 : goal.overflow_add-gone_on-4
 unfolding most_count
-overflow_add-parts c =
+overflow_add-gone_on-4 c =
     let counted : Counted c.args.j c.args.p = is-counted c.args.j c.args.p c.requires.0 in
     record { fits = omega (arith, counted.parts) }
 

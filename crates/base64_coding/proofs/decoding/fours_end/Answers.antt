@@ -10,7 +10,7 @@ pub loop-i-init : goal.loop-i-init
 loop-i-init c = (search rules, fours-none _ _ (search rules))
 
 pub four_values-requires : goal.four_values-requires
-four_values-requires c = (search rules, c.requires.1, c.requires.2)
+four_values-requires c = (omega arith, c.requires.1)
 
 pub four_sum-requires : goal.four_sum-requires
 four_sum-requires c = bounded _ _ _ c.four_values.ensures

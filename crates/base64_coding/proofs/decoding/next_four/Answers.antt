@@ -1,155 +1,102 @@
--- `base64_coding::decoding::next_four` meets its contract: the characters met are a run, of which the definition takes four.
-use Prim.Native.Nat.{◌<◌}
-use mathlib.Core.List.{[], ◌∷◌}
-use mathlib.Core.Path.{◌≡◌, refl, subst, sym}
-use borrow.Author.Tests.{ne_eqb}
-use lib.ListN.{drop}
-use Rattle.base64_rules.specs.Base64.{dense, fours, is_pad}
-use Rattle.base64_coding.specs.Clauses.{FourIs}
-use Rattle.base64_letters.specs.Letters.{TableIs}
-use Rattle.base64_coding.proofs.High.{four_low}
-use Rattle.base64_coding.proofs.Fours.{Run, at_byte, at-end, four-inside, four-none, four-one, four-short, four-three, four-two, run_more, run-start}
+-- `base64_coding::decoding::next_four` meets its contract: what the characters read so far are, and what the rest is.
+use mathlib.Core.Path.{◌∙◌, ap, refl, subst, sym}
 use borrow.Author.Rules.{rules}
+use borrow.Author.Tests.{ne_eqb}
+use Rattle.base64_rules.specs.Base64.{fours, is_pad}
+use Rattle.base64_coding.specs.Clauses.{FourIs, bytes_as}
+use Rattle.base64_coding.proofs.Fours.{at-end, at_byte, four-inside, four-none, four-one, four-short, four-three, four-two, no-one, no-three, no-two, run-four, run-start, run-three, run-two}
+use Rattle.base64_coding.proofs.High.{four_low}
 use Rattle.base64_coding.proofs.decoding.next_four.Goals as goal
 
 pub returns-in_default : goal.returns-in_default
-returns-in_default c = four-none _ _ (search rules) (at-end _ _ _ c.next_byte.ensures c.in_default.is)
+returns-in_default c = four-none _ _ _ c.requires.0 (at-end _ _ _ c.next_byte.ensures c.in_default.is)
 
 pub next_byte-requires-2 : goal.next_byte-requires-2
-next_byte-requires-2 c =
-    let one : Run c.args.s.now c.args.i (c.in-Byte.a ∷ []) c.in-Byte.ja = run-start _ _ _ _ _ c.next_byte.ensures c.in-Byte.is in
-    one.within
+next_byte-requires-2 c = (run-start _ _ _ _ _ c.next_byte.ensures c.in-Some.is).within
 
-pub returns-in_default-next_byte : goal.returns-in_default-next_byte
+pub returns-in_err-b : goal.returns-in_err-b
 unfolding fours
-returns-in_default-next_byte c =
-    let one : Run c.args.s.now c.args.i (c.in-Byte.a ∷ []) c.in-Byte.ja = run-start _ _ _ _ _ c.next_byte.ensures c.in-Byte.is in
-    four-short _ _ _ _ one (at-end _ _ _ c.next_byte-2.ensures c.in_default-next_byte.is) refl
+returns-in_err-b c =
+    subst (FourIs _ _) (sym c.from_residual.ensures) (four-short _ _ _ _ (run-start _ _ _ _ _ c.next_byte.ensures c.in-Some.is) (at-end _ _ _ c.next_byte-2.ensures c.in_err-b.was) refl)
 
 pub next_byte-requires-3 : goal.next_byte-requires-3
-next_byte-requires-3 c =
-    let one : Run c.args.s.now c.args.i (c.in-Byte.a ∷ []) c.in-Byte.ja = run-start _ _ _ _ _ c.next_byte.ensures c.in-Byte.is in
-    let two : Run c.args.s.now c.args.i (c.in-Byte.a ∷ c.in-Byte-next_byte.b ∷ []) c.in-Byte-next_byte.jb = run_more _ _ _ _ _ _ _ one c.next_byte-2.ensures c.in-Byte-next_byte.is in
-    two.within
+next_byte-requires-3 c = (run-two c.next_byte.ensures c.in-Some.is c.next_byte-2.ensures c.in_ok-b.was).within
 
-pub returns-in_default-next_byte-2 : goal.returns-in_default-next_byte-2
+pub returns-in_err-c : goal.returns-in_err-c
 unfolding fours
-returns-in_default-next_byte-2 c =
-    let one : Run c.args.s.now c.args.i (c.in-Byte.a ∷ []) c.in-Byte.ja = run-start _ _ _ _ _ c.next_byte.ensures c.in-Byte.is in
-    let two : Run c.args.s.now c.args.i (c.in-Byte.a ∷ c.in-Byte-next_byte.b ∷ []) c.in-Byte-next_byte.jb = run_more _ _ _ _ _ _ _ one c.next_byte-2.ensures c.in-Byte-next_byte.is in
-    four-short _ _ _ _ two (at-end _ _ _ c.next_byte-3.ensures c.in_default-next_byte-2.is) refl
+returns-in_err-c c =
+    subst (FourIs _ _) (sym c.from_residual-in_err-c.ensures)
+    (four-short _ _ _ _ (run-two c.next_byte.ensures c.in-Some.is c.next_byte-2.ensures c.in_ok-b.was) (at-end _ _ _ c.next_byte-3.ensures c.in_err-c.was) refl)
 
 pub next_byte-requires-4 : goal.next_byte-requires-4
-next_byte-requires-4 c =
-    let one : Run c.args.s.now c.args.i (c.in-Byte.a ∷ []) c.in-Byte.ja = run-start _ _ _ _ _ c.next_byte.ensures c.in-Byte.is in
-    let two : Run c.args.s.now c.args.i (c.in-Byte.a ∷ c.in-Byte-next_byte.b ∷ []) c.in-Byte-next_byte.jb = run_more _ _ _ _ _ _ _ one c.next_byte-2.ensures c.in-Byte-next_byte.is in
-    let three : Run c.args.s.now c.args.i (c.in-Byte.a ∷ c.in-Byte-next_byte.b ∷ c.in-Byte-next_byte-2.c ∷ []) c.in-Byte-next_byte-2.jc =
-    run_more _ _ _ _ _ _ _ two c.next_byte-3.ensures c.in-Byte-next_byte-2.is in
-    three.within
+next_byte-requires-4 c = (run-three c.next_byte.ensures c.in-Some.is c.next_byte-2.ensures c.in_ok-b.was c.next_byte-3.ensures c.in_ok-c.was).within
 
-pub returns-in_default-next_byte-3 : goal.returns-in_default-next_byte-3
+pub returns-in_err-d : goal.returns-in_err-d
 unfolding fours
-returns-in_default-next_byte-3 c =
-    let one : Run c.args.s.now c.args.i (c.in-Byte.a ∷ []) c.in-Byte.ja = run-start _ _ _ _ _ c.next_byte.ensures c.in-Byte.is in
-    let two : Run c.args.s.now c.args.i (c.in-Byte.a ∷ c.in-Byte-next_byte.b ∷ []) c.in-Byte-next_byte.jb = run_more _ _ _ _ _ _ _ one c.next_byte-2.ensures c.in-Byte-next_byte.is in
-    let three : Run c.args.s.now c.args.i (c.in-Byte.a ∷ c.in-Byte-next_byte.b ∷ c.in-Byte-next_byte-2.c ∷ []) c.in-Byte-next_byte-2.jc =
-    run_more _ _ _ _ _ _ _ two c.next_byte-3.ensures c.in-Byte-next_byte-2.is in
-    four-short _ _ _ _ three (at-end _ _ _ c.next_byte-4.ensures c.in_default-next_byte-3.is) refl
+returns-in_err-d c =
+    let three = run-three c.next_byte.ensures c.in-Some.is c.next_byte-2.ensures c.in_ok-b.was c.next_byte-3.ensures c.in_ok-c.was in
+    subst (FourIs _ _) (sym c.from_residual-in_err-d.ensures) (four-short _ _ _ _ three (at-end _ _ _ c.next_byte-4.ensures c.in_err-d.was) refl)
 
 pub three_bytes-requires : goal.three_bytes-requires
 three_bytes-requires c =
-    let one : Run c.args.s.now c.args.i (c.in-Byte.a ∷ []) c.in-Byte.ja = run-start _ _ _ _ _ c.next_byte.ensures c.in-Byte.is in
-    let two : Run c.args.s.now c.args.i (c.in-Byte.a ∷ c.in-Byte-next_byte.b ∷ []) c.in-Byte-next_byte.jb = run_more _ _ _ _ _ _ _ one c.next_byte-2.ensures c.in-Byte-next_byte.is in
-    let three : Run c.args.s.now c.args.i (c.in-Byte.a ∷ c.in-Byte-next_byte.b ∷ c.in-Byte-next_byte-2.c ∷ []) c.in-Byte-next_byte-2.jc =
-    run_more _ _ _ _ _ _ _ two c.next_byte-3.ensures c.in-Byte-next_byte-2.is in
-    let all4 : Run c.args.s.now c.args.i (c.in-Byte.a ∷ c.in-Byte-next_byte.b ∷ c.in-Byte-next_byte-2.c ∷ c.in-Byte-next_byte-3.d ∷ []) c.in-Byte-next_byte-3.jd =
-    run_more _ _ _ _ _ _ _ three c.next_byte-4.ensures c.in-Byte-next_byte-3.is in
-    let looked-up : (c.in-Byte.a < 128) × (c.in-Byte-next_byte.b < 128) × (c.in-Byte-next_byte-2.c < 128) × (c.in-Byte-next_byte-3.d < 128) × TableIs c.args.values.now =
-    (let low = four_low _ _ _ _ _ _ _ c.requires.1 all4 in
-    (low.0, low.1, low.2, low.3, c.requires.2)) in
-    looked-up
+    let all4 = run-four c.next_byte.ensures c.in-Some.is c.next_byte-2.ensures c.in_ok-b.was c.next_byte-3.ensures c.in_ok-c.was c.next_byte-4.ensures c.in_ok-d.was in
+    four_low _ _ _ _ _ _ _ c.requires.1 all4
+
+pub returns-in_err-bytes : goal.returns-in_err-bytes
+unfolding is_pad
+returns-in_err-bytes c =
+    let all4 = run-four c.next_byte.ensures c.in-Some.is c.next_byte-2.ensures c.in_ok-b.was c.next_byte-3.ensures c.in_ok-c.was c.next_byte-4.ensures c.in_ok-d.was in
+    subst (FourIs _ _) (sym c.from_residual-in_err-bytes.ensures)
+    (no-three _ _ _ _ _ _ _ all4 (ne_eqb _ _ c.if-d-ne61.true) (sym (ap bytes_as c.in_err-bytes.was) ∙ c.three_bytes.ensures))
 
 pub returns-then-d-ne61 : goal.returns-then-d-ne61
 unfolding is_pad
 returns-then-d-ne61 c =
-    let one : Run c.args.s.now c.args.i (c.in-Byte.a ∷ []) c.in-Byte.ja = run-start _ _ _ _ _ c.next_byte.ensures c.in-Byte.is in
-    let two : Run c.args.s.now c.args.i (c.in-Byte.a ∷ c.in-Byte-next_byte.b ∷ []) c.in-Byte-next_byte.jb = run_more _ _ _ _ _ _ _ one c.next_byte-2.ensures c.in-Byte-next_byte.is in
-    let three : Run c.args.s.now c.args.i (c.in-Byte.a ∷ c.in-Byte-next_byte.b ∷ c.in-Byte-next_byte-2.c ∷ []) c.in-Byte-next_byte-2.jc =
-    run_more _ _ _ _ _ _ _ two c.next_byte-3.ensures c.in-Byte-next_byte-2.is in
-    let all4 : Run c.args.s.now c.args.i (c.in-Byte.a ∷ c.in-Byte-next_byte.b ∷ c.in-Byte-next_byte-2.c ∷ c.in-Byte-next_byte-3.d ∷ []) c.in-Byte-next_byte-3.jd =
-    run_more _ _ _ _ _ _ _ three c.next_byte-4.ensures c.in-Byte-next_byte-3.is in
-    subst (FourIs _ _) (sym c.three_bytes.ensures) (four-three _ _ _ _ _ _ _ all4 (ne_eqb _ _ c.if-d-ne61.true))
+    let all4 = run-four c.next_byte.ensures c.in-Some.is c.next_byte-2.ensures c.in_ok-b.was c.next_byte-3.ensures c.in_ok-c.was c.next_byte-4.ensures c.in_ok-d.was in
+    four-three _ _ _ _ _ _ _ all4 _ (ne_eqb _ _ c.if-d-ne61.true) (search rules) (sym (ap bytes_as c.in_ok-bytes.was) ∙ c.three_bytes.ensures)
 
 pub next_byte-requires-5 : goal.next_byte-requires-5
 next_byte-requires-5 c =
-    let one : Run c.args.s.now c.args.i (c.in-Byte.a ∷ []) c.in-Byte.ja = run-start _ _ _ _ _ c.next_byte.ensures c.in-Byte.is in
-    let two : Run c.args.s.now c.args.i (c.in-Byte.a ∷ c.in-Byte-next_byte.b ∷ []) c.in-Byte-next_byte.jb = run_more _ _ _ _ _ _ _ one c.next_byte-2.ensures c.in-Byte-next_byte.is in
-    let three : Run c.args.s.now c.args.i (c.in-Byte.a ∷ c.in-Byte-next_byte.b ∷ c.in-Byte-next_byte-2.c ∷ []) c.in-Byte-next_byte-2.jc =
-    run_more _ _ _ _ _ _ _ two c.next_byte-3.ensures c.in-Byte-next_byte-2.is in
-    let all4 : Run c.args.s.now c.args.i (c.in-Byte.a ∷ c.in-Byte-next_byte.b ∷ c.in-Byte-next_byte-2.c ∷ c.in-Byte-next_byte-3.d ∷ []) c.in-Byte-next_byte-3.jd =
-    run_more _ _ _ _ _ _ _ three c.next_byte-4.ensures c.in-Byte-next_byte-3.is in
+    let all4 = run-four c.next_byte.ensures c.in-Some.is c.next_byte-2.ensures c.in_ok-b.was c.next_byte-3.ensures c.in_ok-c.was c.next_byte-4.ensures c.in_ok-d.was in
     all4.within
 
-pub returns-in_default-next_byte-4 : goal.returns-in_default-next_byte-4
-returns-in_default-next_byte-4 c =
-    let one : Run c.args.s.now c.args.i (c.in-Byte.a ∷ []) c.in-Byte.ja = run-start _ _ _ _ _ c.next_byte.ensures c.in-Byte.is in
-    let two : Run c.args.s.now c.args.i (c.in-Byte.a ∷ c.in-Byte-next_byte.b ∷ []) c.in-Byte-next_byte.jb = run_more _ _ _ _ _ _ _ one c.next_byte-2.ensures c.in-Byte-next_byte.is in
-    let three : Run c.args.s.now c.args.i (c.in-Byte.a ∷ c.in-Byte-next_byte.b ∷ c.in-Byte-next_byte-2.c ∷ []) c.in-Byte-next_byte-2.jc =
-    run_more _ _ _ _ _ _ _ two c.next_byte-3.ensures c.in-Byte-next_byte-2.is in
-    let all4 : Run c.args.s.now c.args.i (c.in-Byte.a ∷ c.in-Byte-next_byte.b ∷ c.in-Byte-next_byte-2.c ∷ c.in-Byte-next_byte-3.d ∷ []) c.in-Byte-next_byte-3.jd =
-    run_more _ _ _ _ _ _ _ three c.next_byte-4.ensures c.in-Byte-next_byte-3.is in
-    four-inside _ _ _ _ _ _ _ all4 _ _ c.if-d-ne61.false
-    (at_byte _ _ _ _ _ c.next_byte-5.ensures c.in_default-next_byte-4.is)
+pub returns-in_default-next_byte : goal.returns-in_default-next_byte
+returns-in_default-next_byte c =
+    let all4 = run-four c.next_byte.ensures c.in-Some.is c.next_byte-2.ensures c.in_ok-b.was c.next_byte-3.ensures c.in_ok-c.was c.next_byte-4.ensures c.in_ok-d.was in
+    four-inside _ _ _ _ _ _ _ all4 _ _ c.if-d-ne61.false (at_byte _ _ _ _ _ c.next_byte-5.ensures c.in_default-next_byte.is)
 
 pub two_bytes-requires : goal.two_bytes-requires
 two_bytes-requires c =
-    let one : Run c.args.s.now c.args.i (c.in-Byte.a ∷ []) c.in-Byte.ja = run-start _ _ _ _ _ c.next_byte.ensures c.in-Byte.is in
-    let two : Run c.args.s.now c.args.i (c.in-Byte.a ∷ c.in-Byte-next_byte.b ∷ []) c.in-Byte-next_byte.jb = run_more _ _ _ _ _ _ _ one c.next_byte-2.ensures c.in-Byte-next_byte.is in
-    let three : Run c.args.s.now c.args.i (c.in-Byte.a ∷ c.in-Byte-next_byte.b ∷ c.in-Byte-next_byte-2.c ∷ []) c.in-Byte-next_byte-2.jc =
-    run_more _ _ _ _ _ _ _ two c.next_byte-3.ensures c.in-Byte-next_byte-2.is in
-    let all4 : Run c.args.s.now c.args.i (c.in-Byte.a ∷ c.in-Byte-next_byte.b ∷ c.in-Byte-next_byte-2.c ∷ c.in-Byte-next_byte-3.d ∷ []) c.in-Byte-next_byte-3.jd =
-    run_more _ _ _ _ _ _ _ three c.next_byte-4.ensures c.in-Byte-next_byte-3.is in
-    let looked-up : (c.in-Byte.a < 128) × (c.in-Byte-next_byte.b < 128) × (c.in-Byte-next_byte-2.c < 128) × (c.in-Byte-next_byte-3.d < 128) × TableIs c.args.values.now =
-    (let low = four_low _ _ _ _ _ _ _ c.requires.1 all4 in
-    (low.0, low.1, low.2, low.3, c.requires.2)) in
-    let l = looked-up in (l.0, l.1, l.2, l.4)
+    let all4 = run-four c.next_byte.ensures c.in-Some.is c.next_byte-2.ensures c.in_ok-b.was c.next_byte-3.ensures c.in_ok-c.was c.next_byte-4.ensures c.in_ok-d.was in
+    let l = four_low _ _ _ _ _ _ _ c.requires.1 all4 in (l.0, l.1, l.2)
+
+pub returns-in_err-x : goal.returns-in_err-x
+unfolding is_pad
+returns-in_err-x c =
+    let all4 = run-four c.next_byte.ensures c.in-Some.is c.next_byte-2.ensures c.in_ok-b.was c.next_byte-3.ensures c.in_ok-c.was c.next_byte-4.ensures c.in_ok-d.was in
+    subst (FourIs _ _) (sym c.from_residual-in_err-x.ensures)
+    (no-two _ _ _ _ _ _ _ all4 c.if-d-ne61.false (at-end _ _ _ c.next_byte-5.ensures c.in-None.is) (ne_eqb _ _ c.if-c-ne61.true) (sym (ap bytes_as c.in_err-x.was) ∙ c.two_bytes.ensures))
 
 pub returns-then-c-ne61 : goal.returns-then-c-ne61
 unfolding is_pad
 returns-then-c-ne61 c =
-    let one : Run c.args.s.now c.args.i (c.in-Byte.a ∷ []) c.in-Byte.ja = run-start _ _ _ _ _ c.next_byte.ensures c.in-Byte.is in
-    let two : Run c.args.s.now c.args.i (c.in-Byte.a ∷ c.in-Byte-next_byte.b ∷ []) c.in-Byte-next_byte.jb = run_more _ _ _ _ _ _ _ one c.next_byte-2.ensures c.in-Byte-next_byte.is in
-    let three : Run c.args.s.now c.args.i (c.in-Byte.a ∷ c.in-Byte-next_byte.b ∷ c.in-Byte-next_byte-2.c ∷ []) c.in-Byte-next_byte-2.jc =
-    run_more _ _ _ _ _ _ _ two c.next_byte-3.ensures c.in-Byte-next_byte-2.is in
-    let all4 : Run c.args.s.now c.args.i (c.in-Byte.a ∷ c.in-Byte-next_byte.b ∷ c.in-Byte-next_byte-2.c ∷ c.in-Byte-next_byte-3.d ∷ []) c.in-Byte-next_byte-3.jd =
-    run_more _ _ _ _ _ _ _ three c.next_byte-4.ensures c.in-Byte-next_byte-3.is in
-    let no_more : dense (drop c.in-Byte-next_byte-3.jd c.args.s.now) ≡ [] = at-end _ _ _ c.next_byte-5.ensures c.in-End.is in
-    subst (FourIs _ _) (sym c.two_bytes.ensures)
-    (four-two _ _ _ _ _ _ _ all4 c.if-d-ne61.false
-    no_more (ne_eqb _ _ c.if-c-ne61.true))
+    let all4 = run-four c.next_byte.ensures c.in-Some.is c.next_byte-2.ensures c.in_ok-b.was c.next_byte-3.ensures c.in_ok-c.was c.next_byte-4.ensures c.in_ok-d.was in
+    four-two _ _ _ _ _ _ _ all4 c.if-d-ne61.false (at-end _ _ _ c.next_byte-5.ensures c.in-None.is) _ (ne_eqb _ _ c.if-c-ne61.true) (search rules)
+    (sym (ap bytes_as c.in_ok-x.was) ∙ c.two_bytes.ensures)
 
 pub one_byte-requires : goal.one_byte-requires
 one_byte-requires c =
-    let one : Run c.args.s.now c.args.i (c.in-Byte.a ∷ []) c.in-Byte.ja = run-start _ _ _ _ _ c.next_byte.ensures c.in-Byte.is in
-    let two : Run c.args.s.now c.args.i (c.in-Byte.a ∷ c.in-Byte-next_byte.b ∷ []) c.in-Byte-next_byte.jb = run_more _ _ _ _ _ _ _ one c.next_byte-2.ensures c.in-Byte-next_byte.is in
-    let three : Run c.args.s.now c.args.i (c.in-Byte.a ∷ c.in-Byte-next_byte.b ∷ c.in-Byte-next_byte-2.c ∷ []) c.in-Byte-next_byte-2.jc =
-    run_more _ _ _ _ _ _ _ two c.next_byte-3.ensures c.in-Byte-next_byte-2.is in
-    let all4 : Run c.args.s.now c.args.i (c.in-Byte.a ∷ c.in-Byte-next_byte.b ∷ c.in-Byte-next_byte-2.c ∷ c.in-Byte-next_byte-3.d ∷ []) c.in-Byte-next_byte-3.jd =
-    run_more _ _ _ _ _ _ _ three c.next_byte-4.ensures c.in-Byte-next_byte-3.is in
-    let looked-up : (c.in-Byte.a < 128) × (c.in-Byte-next_byte.b < 128) × (c.in-Byte-next_byte-2.c < 128) × (c.in-Byte-next_byte-3.d < 128) × TableIs c.args.values.now =
-    (let low = four_low _ _ _ _ _ _ _ c.requires.1 all4 in
-    (low.0, low.1, low.2, low.3, c.requires.2)) in
-    let l = looked-up in (l.0, l.1, l.4)
+    let all4 = run-four c.next_byte.ensures c.in-Some.is c.next_byte-2.ensures c.in_ok-b.was c.next_byte-3.ensures c.in_ok-c.was c.next_byte-4.ensures c.in_ok-d.was in
+    let l = four_low _ _ _ _ _ _ _ c.requires.1 all4 in (l.0, l.1)
+
+pub returns-in_err-x-2 : goal.returns-in_err-x-2
+returns-in_err-x-2 c =
+    let all4 = run-four c.next_byte.ensures c.in-Some.is c.next_byte-2.ensures c.in_ok-b.was c.next_byte-3.ensures c.in_ok-c.was c.next_byte-4.ensures c.in_ok-d.was in
+    subst (FourIs _ _) (sym c.from_residual-in_err-x-2.ensures)
+    (no-one _ _ _ _ _ _ _ all4 c.if-d-ne61.false (at-end _ _ _ c.next_byte-5.ensures c.in-None.is) c.if-c-ne61.false (sym (ap bytes_as c.in_err-x-2.was) ∙ c.one_byte.ensures))
 
 pub returns : goal.returns
 returns c =
-    let one : Run c.args.s.now c.args.i (c.in-Byte.a ∷ []) c.in-Byte.ja = run-start _ _ _ _ _ c.next_byte.ensures c.in-Byte.is in
-    let two : Run c.args.s.now c.args.i (c.in-Byte.a ∷ c.in-Byte-next_byte.b ∷ []) c.in-Byte-next_byte.jb = run_more _ _ _ _ _ _ _ one c.next_byte-2.ensures c.in-Byte-next_byte.is in
-    let three : Run c.args.s.now c.args.i (c.in-Byte.a ∷ c.in-Byte-next_byte.b ∷ c.in-Byte-next_byte-2.c ∷ []) c.in-Byte-next_byte-2.jc =
-    run_more _ _ _ _ _ _ _ two c.next_byte-3.ensures c.in-Byte-next_byte-2.is in
-    let all4 : Run c.args.s.now c.args.i (c.in-Byte.a ∷ c.in-Byte-next_byte.b ∷ c.in-Byte-next_byte-2.c ∷ c.in-Byte-next_byte-3.d ∷ []) c.in-Byte-next_byte-3.jd =
-    run_more _ _ _ _ _ _ _ three c.next_byte-4.ensures c.in-Byte-next_byte-3.is in
-    let no_more : dense (drop c.in-Byte-next_byte-3.jd c.args.s.now) ≡ [] = at-end _ _ _ c.next_byte-5.ensures c.in-End.is in
-    subst (FourIs _ _) (sym c.one_byte.ensures)
-    (four-one _ _ _ _ _ _ _ all4 c.if-d-ne61.false
-    no_more c.if-c-ne61.false)
+    let all4 = run-four c.next_byte.ensures c.in-Some.is c.next_byte-2.ensures c.in_ok-b.was c.next_byte-3.ensures c.in_ok-c.was c.next_byte-4.ensures c.in_ok-d.was in
+    four-one _ _ _ _ _ _ _ all4 c.if-d-ne61.false (at-end _ _ _ c.next_byte-5.ensures c.in-None.is) _ c.if-c-ne61.false (search rules)
+    (sym (ap bytes_as c.in_ok-x-2.was) ∙ c.one_byte.ensures)

@@ -1,7 +1,7 @@
--- joining::first_part: nine numbers in their order.
+-- joining::part_of: nine numbers in their order.
 use mathlib.Core.Path.{refl}
 use Rattle.parts.specs.Join.{first_part}
-use Rattle.joining.proofs.first_part.Goals as goal
+use Rattle.joining.proofs.part_of.Goals as goal
 
 pub returns : goal.returns
 unfolding first_part
