@@ -21,7 +21,7 @@ use Rattle.element_reading.specs.Elements.{Passed, Stored, TakenAs, TakesElement
 use Rattle.element_reading.specs.Words.{AddedAs, Adds, PieceAs, PieceIs, QuickWordAs, QuickWordIs, added_bad, added_count, CutAt, LastAt, first_bad, is-added, is-refused, judged_as}
 use Rattle.character_reading.specs.declared.characters.Source.{Source}
 use Rattle.element_reading.specs.declared.elements.Held.{Held}
-use Rattle.element_reading.specs.declared.elements.Piece.{Piece}
+use Rattle.element_reading.specs.declared.pieces.Piece.{Piece}
 use Rattle.number.specs.declared.Integer.{Integer}
 use Rattle.std.specs.Prelude.{Err, None, Ok, Option, Result as Outcome, Some}
 use Rattle.table.specs.Reasons.{number_of}

@@ -10,8 +10,8 @@ use Rattle.character_reading.specs.Characters.{characters_of}
 use Rattle.element_reading.specs.Elements.{Passed, Stored, onward}
 use Rattle.character_reading.specs.declared.characters.Source.{Source}
 use Rattle.element_reading.specs.declared.elements.Held.{Held}
-use Rattle.element_reading.specs.declared.elements.Piece.TheVariants.{Cut, Last}
-use Rattle.element_reading.specs.declared.elements.Piece.{Piece}
+use Rattle.element_reading.specs.declared.pieces.Piece.TheVariants.{Cut, Last}
+use Rattle.element_reading.specs.declared.pieces.Piece.{Piece}
 use Rattle.std.specs.Option.{option_or}
 use Rattle.table.specs.Reasons.{number_of}
 use Rattle.table.specs.declared.Reason.{Reason}

@@ -8,7 +8,8 @@ use character_reading::characters::{Item, Source, character_at, spoiled};
 use table::Reason;
 use tabledata::{is_plain, is_text};
 
-// Characters that stand for themselves, as long as there are some and they have room: the place after them.
+// Characters that stand for themselves, as long as there are some and they have room: the place after them. (A `for` would add the second index up
+// from the first, and could run over: no plainer.)
 fn copy_plain(s: &[u8], from: usize, scratch: &mut [i64], count: usize) -> usize
     requires { from ≤ length s.now }
     ensures { Copied s.now from count scratch.old scratch.new result }

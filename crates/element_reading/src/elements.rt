@@ -11,13 +11,6 @@ pub struct Held {
     pub next: usize,
 }
 
-// A word up to white space, or up to the end of the text, as what reads it holds it; and the place after that.
-#[derive(Clone, Copy)]
-pub(crate) enum Piece<W> {
-    Cut(W, usize),
-    Last(W, usize),
-}
-
 // A text whose words were all read, up to the place `next`, with what the last of them adds: "in one cell the first bad element decides".
 pub(crate) fn judged(
     bad: Option<Reason>,

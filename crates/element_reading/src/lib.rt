@@ -6,6 +6,7 @@ mod chars;
 mod elements;
 mod kinds;
 mod numerals;
+mod pieces;
 mod truths;
 
 pub use character_reading::characters::Source;

@@ -4,15 +4,16 @@ ghost use Rattle.number.specs.Clauses.{is_signed, size, width_of};
 ghost use Rattle.words.specs.Words.{feed, fresh};
 ghost use Rattle.table.specs.Shape.{Whole};
 ghost use Rattle.tabledata.specs.TableData.{integer_word};
-ghost use Rattle.element_reading.specs.Words.{Adds, PieceIs, QuickWordIs, begun_form, letter_of, space_at};
+ghost use Rattle.element_reading.specs.Words.{Adds, QuickWordIs, begun_form, letter_of, space_at};
 ghost use Rattle.character_reading.specs.Characters.{TextEnds};
 ghost use Rattle.element_reading.specs.Elements.{TakesElements, elements_from};
 
-use super::elements::{Held, Piece, judged, put};
-use character_reading::characters::{Item, Source, character_at};
+use super::elements::{Held, judged, put};
+use super::pieces::{Letters, Piece, next_piece};
+use character_reading::characters::Source;
 use number::Integer;
 use table::Reason;
-use text::{goes_on, is_white};
+use text::goes_on;
 use words::{Form, IntegerError, Word};
 
 // A character as a letter of a word; one that is no byte is as little a letter of an integer as 255 is.
@@ -25,24 +26,16 @@ fn letter_of(c: u32) -> u8
     255
 }
 
-// The word at a place, as the integers' reader has it.
-fn integer_piece(s: &[u8], from: usize, source: Source) -> Result<Piece<Word>, Reason>
-    requires { from ≤ length s.now }
-    ensures { PieceIs (λ x w. x ≡ feed fresh w) source s.now from result }
-{
-    let mut i = from;
-    let mut word = Word::new();
-    loop {
-        match character_at(s, i, source)? {
-            Item::End(next) => return Ok(Piece::Last(word, next)),
-            Item::Code(c, next) => {
-                if is_white(c) {
-                    return Ok(Piece::Cut(word, next));
-                }
-                word = word.next(letter_of(c));
-                i = next;
-            }
-        }
+// A word as the integers' reader has it.
+impl Letters for Word {
+    ghost stands = { λ x w. x ≡ feed fresh w };
+
+    fn none() -> Word {
+        Word::new()
+    }
+
+    fn and(self, c: u32) -> Word {
+        self.next(letter_of(c))
     }
 }
 
@@ -136,7 +129,7 @@ pub(crate) fn integers(
                 put(scratch, count, z);
                 return judged(bad, Ok(count + 1), next);
             }
-            None => match integer_piece(s, i, source)? {
+            None => match next_piece::<Word>(s, i, source)? {
                 Piece::Last(word, next) => {
                     return judged(bad, add_integer(word, kind, scratch, count), next);
                 }

@@ -2,13 +2,13 @@
 ghost use Rattle.std.specs.Prelude.{◌<◌, ◌≤◌, drop, length, ◌≡◌};
 ghost use Rattle.table.specs.Shape.{Truths};
 ghost use Rattle.tabledata.specs.TableData.{lower, truth_word};
-ghost use Rattle.element_reading.specs.Words.{Adds, PieceIs, spell, spelling, truth_number};
+ghost use Rattle.element_reading.specs.Words.{Adds, spell, spelling, truth_number};
 ghost use Rattle.element_reading.specs.Elements.{TakesElements, elements_from};
 
-use super::elements::{Held, Piece, as_element, judged, put};
-use character_reading::characters::{Item, Source, character_at};
+use super::elements::{Held, as_element, judged, put};
+use super::pieces::{Letters, Piece, next_piece};
+use character_reading::characters::Source;
 use table::Reason;
-use text::is_white;
 
 // A capital as a small letter.
 fn lower_case(c: u32) -> u32
@@ -32,23 +32,22 @@ fn with_letter(word: u64, c: u32) -> u64
     word * 256 + (lower_case(c) as u64)
 }
 
-// The word at a place, spelled as a number.
-fn truth_piece(s: &[u8], from: usize, source: Source) -> Result<Piece<u64>, Reason>
-    requires { from ≤ length s.now }
-    ensures { PieceIs (λ q w. q ≡ spelling w) source s.now from result }
-{
-    let mut i = from;
-    let mut word: u64 = 1;
-    loop {
-        match character_at(s, i, source)? {
-            Item::End(next) => return Ok(Piece::Last(word, next)),
-            Item::Code(c, next) => {
-                if is_white(c) {
-                    return Ok(Piece::Cut(word, next));
-                }
-                word = with_letter(word, c);
-                i = next;
-            }
+// A word as that number.
+#[derive(Clone, Copy)]
+pub(crate) struct Spelling {
+    pub number: u64,
+}
+
+impl Letters for Spelling {
+    ghost stands = { λ q w. q.number ≡ spelling w };
+
+    fn none() -> Spelling {
+        Spelling { number: 1 }
+    }
+
+    fn and(self, c: u32) -> Spelling {
+        Spelling {
+            number: with_letter(self.number, c),
         }
     }
 }
@@ -93,12 +92,12 @@ pub(crate) fn truths(
     let mut count = 0;
     let mut bad = None;
     loop {
-        match truth_piece(s, i, source)? {
+        match next_piece::<Spelling>(s, i, source)? {
             Piece::Last(word, next) => {
-                return judged(bad, add_truth(word, scratch, count), next);
+                return judged(bad, add_truth(word.number, scratch, count), next);
             }
             Piece::Cut(word, next) => {
-                match add_truth(word, scratch, count) {
+                match add_truth(word.number, scratch, count) {
                     Ok(more) => count = more,
                     Err(reason) => bad = bad.or(Some(reason)),
                 }

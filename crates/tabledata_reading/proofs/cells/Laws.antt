@@ -12,22 +12,20 @@ use lib.Seq.{take_all}
 use borrow.Author.Tests.{eq-eqb, le-leb, leb-true, ne_eqb}
 use Rattle.table.proofs.Laws.{and_both, nil-not-null}
 use Rattle.table.specs.Cell.{Cell, bound, empty_is_null, is_null_list, null, room_fits, room_in, show, shown, stands_for_null}
-use Rattle.table.specs.Clauses.{FoundWithin, Reads}
+use Rattle.table.specs.Clauses.{Reads}
 use Rattle.table.specs.Result.{Result, ◌>>=◌, bad, good}
 use Rattle.table.specs.Shape.{Bits, Shape, Text, Truths, Whole, shape}
 use Rattle.table.specs.declared.Column.{Column}
-use Rattle.table.specs.declared.Found.TheVariants.{Refused, Shown}
-use Rattle.table.specs.declared.Found.{Found}
+use Rattle.std.specs.Prelude.{Err, None, Ok, Option, Some}
+use Rattle.table.specs.declared.Reason.{Reason}
 use Rattle.tabledata.proofs.Laws.{nil-elements}
 use Rattle.tabledata.specs.TableData.{characters, count_fits, plain, read_text, text_cell, text_elements}
-use Rattle.tabledata_reading.specs.Cells.{CellShows, FoundCount, FoundNext, room_and, shown_in}
+use Rattle.tabledata_reading.specs.Cells.{CellShows, room_and, shown_in}
 use Rattle.tabledata_reading.specs.Openings.{OpeningIs}
 use Rattle.element_reading.specs.Elements.{Stored, TakesElements, elements_from, onward}
 use Rattle.character_reading.specs.declared.characters.Source.TheVariants.{Markup}
 use Rattle.tabledata_reading.specs.declared.openings.Opening.TheVariants.{Content, Empty}
-use Rattle.tabledata_reading.specs.declared.openings.Opening.{Opening}
-use Rattle.element_reading.specs.declared.elements.Taken.TheVariants.{Held}
-use Rattle.element_reading.specs.declared.elements.Taken.{Taken}
+use Rattle.element_reading.specs.declared.elements.Held.{Held}
 
 -- a cell whose content begins at a place shows what its elements do
 abbrev with_rest : {A : Type 0} → List ℕ → A → Result ℕ (A × List ℕ)
@@ -101,28 +99,30 @@ room-own Text m n = rw (le-leb m m (le_refl m))
 -- ---- a cell, by how it begins and what its elements come to
 
 module _ (c : Column) {s : List ℕ} {place : ℕ} {entry : List ℤ} where
-  pub text-broken : OpeningIs s place Opening.Broken → Reads (read_text c (drop place s)) s place entry entry (Refused 10)
+  pub text-broken : OpeningIs s place None → Reads (read_text c (drop place s)) s place entry entry (Err Reason.Markup)
   unfolding read_text
   text-broken o = record { found = rw o.found; within = tt; long = refl }
 
-  pub text-empty : {next : ℕ} → OpeningIs s place (Empty next) → Reads (read_text c (drop place s)) s place entry entry (Found.Null next)
+  pub text-empty : {next : ℕ} → OpeningIs s place (Some (Empty next)) → Reads (read_text c (drop place s)) s place entry entry (Ok (record { shown = None; next = next }))
   unfolding read_text text_cell count_fits show empty_is_null
-  text-empty o = record { found = rw (o.found, nil-elements, nil-not-null); within = o.within; long = refl }
+  text-empty o = record { found = rw (o.found, nil-elements, nil-not-null); within = (o.within.0, o.within.1, tt); long = refl }
 
-module _ (c : Column) {s : List ℕ} {place from : ℕ} (o : OpeningIs s place (Content from)) where
+module _ (c : Column) {s : List ℕ} {place from : ℕ} (o : OpeningIs s place (Some (Content from))) where
   text-content : {r : Result ℕ (List ℤ × List ℕ)} → elements_from Markup (shape c.kind) (drop from s) ≡ r → read_text c (drop place s) ≡ (r >>= showing c)
   unfolding read_text elements_from
   text-content e = rw o.found (text-go c (characters plain (drop from s)) ∙ ap (λ (r : Result ℕ (List ℤ × List ℕ)). r >>= showing c) e)
 
-  pub text-refused : {n : ℕ} {entry exit : List ℤ} → TakesElements (elements_from Markup (shape c.kind) (drop from s)) s from entry exit (Taken.Refused n)
-      → Reads (read_text c (drop place s)) s place entry exit (Refused n)
+  pub text-refused : {e : Reason} {entry exit : List ℤ} → TakesElements (elements_from Markup (shape c.kind) (drop from s)) s from entry exit (Err e)
+      → Reads (read_text c (drop place s)) s place entry exit (Err e)
   text-refused t = record { found = text-content t.found; within = tt; long = t.long }
 
-  pub text-shows : {n next : ℕ} {entry exit : List ℤ} (r : Found) → TakesElements (elements_from Markup (shape c.kind) (drop from s)) s from entry exit (Held n next) → CellShows c n next exit r
-      → Reads (read_text c (drop place s)) s place entry exit r
-  text-shows {next = next} {exit = exit} r t f = record { found = text-content t.found.1 ∙ f.found s t.found.0 t.found.2; within = go r f.few f.place; long = t.long }
-    where
-      go : (r : Found) → FoundCount exit r → FoundNext next r → FoundWithin s place exit r
-      go (Found.Null j) k e = (omega (arith, o.within.0, t.found.3), omega (arith, t.found.4))
-      go (Shown m j) k e = (omega (arith, o.within.0, t.found.3), omega (arith, t.found.4), k)
-      go (Refused m) k e = tt
+  module _ {held : Held} {entry exit : List ℤ} (t : TakesElements (elements_from Markup (shape c.kind) (drop from s)) s from entry exit (Ok held)) where
+    pub text-shows : {r : Option ℕ} → CellShows c held.count exit (Ok r) → Reads (read_text c (drop place s)) s place entry exit (Ok (record { shown = r; next = held.next }))
+    text-shows f = record {
+      found = text-content t.found.1 ∙ f.found (drop held.next s) t.found.0 t.found.2;
+      within = (omega (arith, o.within.0, t.found.3), t.found.4, f.few);
+      long = t.long;
+    }
+
+    pub text-shows-none : {e : Reason} → CellShows c held.count exit (Err e) → Reads (read_text c (drop place s)) s place entry exit (Err e)
+    text-shows-none f = record { found = text-content t.found.1 ∙ f.found (drop held.next s) t.found.0 t.found.2; within = tt; long = t.long }

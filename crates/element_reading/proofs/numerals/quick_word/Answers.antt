@@ -8,7 +8,7 @@ use mir.Val.{of_z, to_z}
 use Rattle.std.specs.Prelude.{Some}
 use Rattle.element_reading.proofs.numerals.Laws.{quick-cut, quick-last}
 use Rattle.element_reading.specs.Words.{QuickWordIs}
-use Rattle.element_reading.specs.declared.elements.Piece.TheVariants.{Cut, Last}
+use Rattle.element_reading.specs.declared.pieces.Piece.TheVariants.{Cut, Last}
 use Rattle.words.proofs.QuickLaws.{quick-at}
 use Rattle.element_reading.proofs.numerals.quick_word.Goals as goal
 

@@ -10,7 +10,7 @@ returns-then-fills c = rw c.in-Fixed.is (rw (sym c.fills.ensures ∙ c.if-fills.
 
 pub returns-else-fills : goal.returns-else-fills
 unfolding room_and
-returns-else-fills c = rw c.in-Fixed.is (rw (sym c.fills.ensures ∙ c.if-fills.false))
+returns-else-fills c = c.if-fills.false ∙ rw c.in-Fixed.is (rw (sym c.fills.ensures ∙ c.if-fills.false))
 
 pub returns-in-Bounded : goal.returns-in-Bounded
 unfolding room_and

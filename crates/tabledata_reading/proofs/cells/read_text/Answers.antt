@@ -1,40 +1,38 @@
 -- `tabledata_reading::cells::read_text` meets its contract: how the cell begins, its elements, and what they come to in the column.
-use native.Mathlib.Omega.{arith}
-use mathlib.Core.Path.{subst}
-use borrow.Author.Rules.{rules}
-use Rattle.tabledata_reading.proofs.cells.Laws.{text-broken, text-empty, text-refused, text-shows}
+use Prim.Native.Nat.{ℕ}
+use mathlib.Core.List.{List}
+use mathlib.Core.Path.{◌∙◌, ◌≡◌, ap, subst}
+use Rattle.std.specs.Prelude.{Option, Some}
+use Rattle.table.proofs.Failures.{handed-on}
+use Rattle.character_reading.proofs.characters.Laws.{nothing-found}
+use Rattle.tabledata_reading.proofs.cells.Laws.{text-broken, text-empty, text-refused, text-shows, text-shows-none}
 use Rattle.tabledata_reading.specs.Openings.{OpeningIs}
-use Rattle.element_reading.specs.Elements.{TakesElements}
-use Rattle.tabledata_reading.specs.declared.openings.Opening.TheVariants.{Content}
+use Rattle.tabledata_reading.specs.declared.openings.Opening.{Opening}
 use Rattle.tabledata_reading.proofs.cells.read_text.Goals as goal
 
-pub read_elements-requires : goal.read_elements-requires
-read_elements-requires c =
-    let opening : OpeningIs c.args.s.now c.args.at (Content c.in-Content.from) = subst (OpeningIs _ _) c.in-Content.is c.open_cell.ensures in
-    opening.within.1
+-- how the cell begins, as the match on it has it
+begins : {s : List ℕ} {place : ℕ} {r : Option Opening} {k j : Opening} → r ≡ Some k → k ≡ j → OpeningIs s place r → OpeningIs s place (Some j)
+begins {s} {place} q e t = subst (OpeningIs s place) (q ∙ ap {B = Option Opening} Some e) t
 
-pub cell_shows-requires : goal.cell_shows-requires
-cell_shows-requires c =
-    (search rules, omega (arith, c.read_elements.ensures.long, c.requires.2))
-
-pub returns-in-Broken : goal.returns-in-Broken
-returns-in-Broken c = text-broken _ (subst (OpeningIs _ _) c.in-Broken.is c.open_cell.ensures)
+pub returns-in_err-next : goal.returns-in_err-next
+returns-in_err-next c =
+    let e = c.in_err-next.ensures in
+    rw (nothing-found c.from_residual.ensures.1 e.value e.ok_part) (text-broken _ (subst (OpeningIs _ _) e.ok_part c.open_cell.ensures))
 
 pub returns-in-Empty : goal.returns-in-Empty
-returns-in-Empty c = text-empty _ (subst (OpeningIs _ _) c.in-Empty.is c.open_cell.ensures)
+returns-in-Empty c = text-empty _ (begins c.in_ok-next.ensures.ok_part c.in-Empty.is c.open_cell.ensures)
 
-pub shape_of-scratch-in-Refused : goal.shape_of-scratch-in-Refused
-shape_of-scratch-in-Refused c = c.read_elements.ensures.long
+pub returns-in_err-held-in-Content : goal.returns-in_err-held-in-Content
+returns-in_err-held-in-Content c =
+    rw (handed-on c.from_residual-in_err-held-in-Content.ensures.1)
+    (text-refused _ (begins c.in_ok-next.ensures.ok_part c.in-Content.is c.open_cell.ensures) c.in_err-held-in-Content.ensures)
 
-pub returns-in-Refused : goal.returns-in-Refused
-returns-in-Refused c =
-    let opening : OpeningIs c.args.s.now c.args.at (Content c.in-Content.from) = subst (OpeningIs _ _) c.in-Content.is c.open_cell.ensures in
-    text-refused _ opening (subst (TakesElements _ _ _ _ _) c.in-Refused.is c.read_elements.ensures)
+pub returns-in_err-shown-in-Content : goal.returns-in_err-shown-in-Content
+returns-in_err-shown-in-Content c =
+    rw (handed-on c.from_residual-in_err-shown-in-Content.ensures.1)
+    (text-shows-none _ (begins c.in_ok-next.ensures.ok_part c.in-Content.is c.open_cell.ensures) c.in_ok-held-in-Content.ensures
+    c.in_err-shown-in-Content.ensures)
 
-pub shape_of-scratch-in-Held : goal.shape_of-scratch-in-Held
-shape_of-scratch-in-Held c = c.read_elements.ensures.long
-
-pub returns-in-Held : goal.returns-in-Held
-returns-in-Held c =
-    let opening : OpeningIs c.args.s.now c.args.at (Content c.in-Content.from) = subst (OpeningIs _ _) c.in-Content.is c.open_cell.ensures in
-    text-shows _ opening _ (subst (TakesElements _ _ _ _ _) c.in-Held.is c.read_elements.ensures) c.cell_shows.ensures
+pub returns-in_ok-shown-in-Content : goal.returns-in_ok-shown-in-Content
+returns-in_ok-shown-in-Content c =
+    text-shows _ (begins c.in_ok-next.ensures.ok_part c.in-Content.is c.open_cell.ensures) c.in_ok-held-in-Content.ensures c.in_ok-shown-in-Content.ensures
