@@ -119,13 +119,9 @@ fn eight_bits(b: u8, scratch: &mut [i64], at: usize)
     requires { at + 8 ≤ length scratch.old }
     ensures { scratch.new ≡ sets scratch.old at (map pos (to_digits 2 8 b)) }
 {
-    let mut m: u32 = 8;
-    let mut k = at;
-    while 0 < m {
-        m -= 1;
-        let bit = (b >> m) % 2;
-        scratch[k] = bit as i64;
-        k += 1;
+    for k in 0..8 {
+        let bit = (b >> (7 - k as u32)) % 2;
+        scratch[at + k] = bit as i64;
     }
 }
 
@@ -133,16 +129,14 @@ fn read_bits(part: &[u8], n: usize, scratch: &mut [i64]) -> Result<usize, Reason
     requires { (n ≤ 8 * length part.now) × (8 * length part.now < n + 8) × (8 * length part.now ≤ length scratch.old) }
     ensures { Fills (content Bits n part.now) n scratch.old scratch.new result }
 {
-    let mut k: usize = 0;
-    while k < part.len() {
+    for k in 0..part.len() {
         eight_bits(part[k], scratch, 8 * k);
-        k += 1;
     }
-    let spare = 8 * k - n;
+    let spare = 8 * part.len() - n;
     if spare == 0 {
         return Ok(n);
     }
-    let last = part[k - 1] as u64;
+    let last = part[part.len() - 1] as u64;
     let unit = 1u64 << spare;
     if last % unit == 0 {
         Ok(n)

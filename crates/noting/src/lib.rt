@@ -38,11 +38,9 @@ pub fn note_row(places: &mut [u32], noted: usize, row: u32, differing: u64, coun
         return noted;
     }
     let mut n = noted;
-    let mut i: usize = 0;
-    while i < count {
+    for i in 0..count {
         let differs = is_flagged(differing, count, i);
         n = note_column(places, n, row, i as u32, differs);
-        i += 1;
     }
     n
 }

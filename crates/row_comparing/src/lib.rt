@@ -46,12 +46,10 @@ fn same_elements(n: usize, a: &[i64], m: usize, b: &[i64]) -> bool
     if n != m {
         return false;
     }
-    let mut i: usize = 0;
-    while i < n {
+    for i in 0..n {
         if a[i] != b[i] {
             return false;
         }
-        i += 1;
     }
     true
 }

@@ -1,4 +1,5 @@
--- `binary::eight_bits` meets its contract. The loop's invariant: the m bits that are left, put from k on, make the whole.
+-- `binary::eight_bits` meets its contract. The loop's invariant: the bits that are left, put from here on, make the whole.
+use Prim.Native.Nat.{◌+◌, ◌-◌}
 use Rattle.binary.proofs.Loops.{bits-more}
 use Rattle.number.specs.Number.{to_digits}
 use lib.ListN.{length-set}
@@ -8,25 +9,17 @@ use mir.Syntax.{w64}
 use native.Mathlib.Omega.{arith}
 use Rattle.binary_reading.proofs.eight_bits.Goals as goal
 
-pub loop-m-init : goal.loop-m-init
-loop-m-init c = (omega arith, omega arith, refl, refl)
-
-pub loop-m-preserved : goal.loop-m-preserved
-loop-m-preserved c =
-    let l = c.loop-m in
-    let a = c.args in (
-      omega arith,
-      omega arith,
-      simp length-set l.invariant.2,
-      sym (bits-more a.b l.m l.k l.scratch _ c.loop-m-test.true (to_z_pos w64 (omega arith))) ∙ l.invariant.3,
-    )
-
-pub shape_of-scratch : goal.shape_of-scratch
-shape_of-scratch c = c.loop-m.invariant.2
+pub loop-k-preserved : goal.loop-k-preserved
+loop-k-preserved c =
+    let l = c.loop-k in
+    let here : c.args.at + (l.k + 1) ≡ c.args.at + l.k + 1 = omega arith in
+    let left : 8 - (l.k + 1) ≡ 8 - l.k - 1 = omega arith in
+    let high : 7 - l.k ≡ 8 - l.k - 1 = omega arith in
+    (simp length-set l.invariant.0, rw (here, left, high) (sym (bits-more c.args.b (8 - l.k) (c.args.at + l.k) l.scratch _ (omega arith) (to_z_pos w64 (omega arith)))) ∙ l.invariant.1)
 
 pub returns : goal.returns
 unfolding to_digits
 returns c =
-    let l = c.loop-m in
-    let e : l.m ≡ 0 = omega arith in
-    rw e at l.invariant.3
+    let l = c.loop-k in
+    let e : 8 - l.k ≡ 0 = omega arith in
+    rw e at l.invariant.1

@@ -31,9 +31,6 @@ loop-k-preserved c =
           ∙ sym (bits-next a.part.now l.scratch l.k c.loop-k-test.true) ∙ l.invariant.2,
     )
 
-pub shape_of-scratch-then-spare-eq0 : goal.shape_of-scratch-then-spare-eq0
-shape_of-scratch-then-spare-eq0 c = c.loop-k.invariant.1
-
 pub returns-then-spare-eq0 : goal.returns-then-spare-eq0
 returns-then-spare-eq0 c =
     let l = c.loop-k in
@@ -51,24 +48,18 @@ overflow_cast-last c = omega (arith, c.shared_slice_known-2-1.given (c.loop-k.k 
 pub nonzero_rem-last : goal.nonzero_rem-last
 nonzero_rem-last c = unit-some _ (omega arith)
 
-pub shape_of-scratch-then-last-unit-eq0 : goal.shape_of-scratch-then-last-unit-eq0
-shape_of-scratch-then-last-unit-eq0 c = c.loop-k.invariant.1
-
 pub returns-then-last-unit-eq0 : goal.returns-then-last-unit-eq0
 returns-then-last-unit-eq0 c =
     let l = c.loop-k in
     let a = c.args in
     let n = a.n in
     record {
-      found = content-bits n a.part.now true (spare-test a.part.now n l.k (omega arith) l.invariant.0 (omega arith) (omega arith) c.if-spare-eq0.false
+      found = content-bits n a.part.now true (spare-test a.part.now n (length a.part.now) (omega arith) (le_refl _) (omega arith) (omega arith) c.if-spare-eq0.false
           ∙ eq-eqb _ 0 c.if-last-unit-eq0.true)
           ∙ ap good (bits-all a.part.now _ l.scratch n l.k (omega arith) (omega arith) (omega arith) l.invariant.2);
       within = le_refl _;
       long = l.invariant.1;
     }
-
-pub shape_of-scratch-else-last-unit-eq0 : goal.shape_of-scratch-else-last-unit-eq0
-shape_of-scratch-else-last-unit-eq0 c = c.loop-k.invariant.1
 
 pub returns-else-last-unit-eq0 : goal.returns-else-last-unit-eq0
 returns-else-last-unit-eq0 c =
@@ -76,7 +67,7 @@ returns-else-last-unit-eq0 c =
     let a = c.args in
     let n = a.n in
     record {
-      found = content-bits n a.part.now false (spare-test a.part.now n l.k (omega arith) l.invariant.0 (omega arith) (omega arith) c.if-spare-eq0.false
+      found = content-bits n a.part.now false (spare-test a.part.now n (length a.part.now) (omega arith) (le_refl _) (omega arith) (omega arith) c.if-spare-eq0.false
           ∙ ne_eqb _ 0 c.if-last-unit-eq0.false);
       within = tt;
       long = l.invariant.1;

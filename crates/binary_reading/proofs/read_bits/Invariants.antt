@@ -13,7 +13,3 @@ abbrev pub invariant-loop-k : goal.invariant-loop-k
 invariant-loop-k l =
     (l.k ≤ length l.part) × (length l.scratch ≡ length l.initial.scratch)
     × (sets l.scratch (8 * l.k) (map pos (bits_of (drop l.k l.part))) ≡ sets l.initial.scratch 0 (map pos (bits_of l.part)))
-
-abbrev pub decreases-loop-k : goal.decreases-loop-k
-decreases-loop-k l =
-    length l.part - l.k

@@ -1,7 +1,6 @@
 -- comparing::note: two stores, where there is room for both.
 use Prim.Native.Nat.{◌*◌}
 use lib.ListN.{length-set}
-use borrow.Author.Rules.{rules}
 use borrow.Author.Tests.{le-ltb, lt-ltb}
 use native.Mathlib.Omega.{arith}
 use Rattle.noting.proofs.note.Goals as goal

@@ -2,8 +2,6 @@
 use mathlib.Core.Path.{◌∙◌, ap}
 use lib.ListN.{length}
 use Rattle.noting.proofs.Noting.{noted-long, notes-none, notes-one}
-use borrow.Author.Rules.{rules}
-use borrow.Author.Tests.{not-false, not-true}
 use Rattle.noting.proofs.note_column.Goals as goal
 
 pub returns-then-not-differs : goal.returns-then-not-differs

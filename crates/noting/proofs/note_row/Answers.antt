@@ -1,8 +1,8 @@
 -- comparing::note_row: the loop over columns. The row's places are those noted and those of the bits from i on; where no bit is set there are none.
-use Prim.Native.Nat.{◌-◌, ◌≤◌, ℕ}
+use Prim.Native.Nat.{ℕ}
 use mathlib.Core.List.{[]}
 use mathlib.Core.Path.{◌∙◌, ◌≡◌, ap}
-use Rattle.noting.proofs.Noting.{Noted, none-marked, noted-all, noted-next, noted-start, notes-none}
+use Rattle.noting.proofs.Noting.{none-marked, noted-all, noted-next, noted-start, notes-none}
 use Rattle.noting.specs.Places.{marked}
 use Rattle.number.proofs.Laws.{length_to}
 use Rattle.number.specs.Number.{to_digits}
@@ -45,12 +45,3 @@ returns c =
     let bits = to_digits 2 c.args.count c.args.differing in
     noted-all c.args.row bits c.args.noted c.args.places.now _ c.loop-i.n c.loop-i.i c.loop-i.invariant.0
     (omega (arith, length_to 2 c.args.count c.args.differing, c.loop-i-test.false))
-
-pub overflow_add-i : goal.overflow_add-i
-overflow_add-i c = omega (arith, c.loop-i-test.true, c.requires.0)
-
-pub loop-i-smaller : goal.loop-i-smaller
-loop-i-smaller c = omega (arith, c.loop-i-test.true)
-
-pub shape_of-places : goal.shape_of-places
-shape_of-places c = c.loop-i.invariant.0.notes.long

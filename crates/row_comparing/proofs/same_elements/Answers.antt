@@ -58,6 +58,3 @@ returns c =
     let none-a = done (take n x) c.loop-i.i (omega (arith, c.loop-i-test.false, length-take-le n x c.requires.0)) in
     let none-b = done (take n y) c.loop-i.i (omega (arith, c.loop-i-test.false, length-take-le n y h)) in
     sym (c.loop-i.invariant ∙ none_left n x y c.loop-i.i none-a none-b)
-
-pub loop-i-smaller : goal.loop-i-smaller
-loop-i-smaller c = omega (arith, c.loop-i-test.true)

@@ -7,6 +7,3 @@ use Rattle.row_comparing.proofs.same_elements.Given as goal
 
 abbrev pub invariant-loop-i : goal.invariant-loop-i
 invariant-loop-i l = same_elements (take l.n l.a) (take l.m l.b) ≡ same_elements (drop l.i (take l.n l.a)) (drop l.i (take l.n l.b))
-
-abbrev pub decreases-loop-i : goal.decreases-loop-i
-decreases-loop-i l = l.n - l.i
