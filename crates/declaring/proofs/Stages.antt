@@ -3,17 +3,20 @@ use Prim.Native.Nat.{◌+◌, ◌-◌, ◌<◌, ◌≤◌, suc, zero, ℕ}
 use native.Mathlib.Omega.{arith}
 use mathlib.Core.Bool.{cond}
 use mathlib.Core.List.{List, [], ◌++◌, ◌∷◌, append_assoc, append-nil}
-use mathlib.Core.Path.{◌∙◌, ◌≡◌, ap, refl, sym}
+use mathlib.Core.Path.{◌∙◌, ◌≡◌, ap, ap₂, refl, subst, sym}
 use lib.Dec.{eqb}
-use lib.ListN.{drop, length, length-append, length-replicate, replicate, set}
+use lib.ListN.{drop, length, length-append, replicate, set}
 use borrow.Author.Tests.{eq-eqb, le-ltb, lt-ltb, ne_eqb}
-use Rattle.declaring.specs.Clauses.{answered}
-use Rattle.table.specs.ColumnList.{holding, no_column}
+use Rattle.declaring.specs.Clauses.{Answered, refusal}
+use Rattle.table.proofs.ColumnList.{listed-holding}
+use Rattle.table.specs.ColumnList.{holding, listed, no_column}
 use Rattle.declaring.specs.Readers.{FieldIs, element_of}
 use Rattle.fields.specs.Fields.{declare, fields_f, fields_then, judge, read_field}
-use Rattle.declaring.specs.declared.Declared.{Declared}
 use Rattle.declaring.specs.declared.elements.Element.{Element}
-use Rattle.std.specs.Prelude.{None, Some}
+use Rattle.std.specs.Prelude.{None, Ok, Result as Returned, Some}
+use Rattle.declaring.specs.declared.Refused.{Refused}
+use Rattle.table.specs.Reasons.{number_of}
+use Rattle.table.specs.declared.Reason.{Reason}
 use Rattle.table.proofs.Places.{done, next1}
 use Rattle.table.specs.Outcome.{Refusal, at, most_declarations}
 use Rattle.table.specs.Result.{Result, ◌>>=◌, bad, good, refused_as}
@@ -33,6 +36,12 @@ pub record Stage (s : List ℕ) (place k : ℕ) (columns : Columns) : Type 0 whe
   pub stored : columns.list ≡ so_far ++ replicate (64 - k) no_column
   pub onward : declare s ≡ (fields_then k (drop place s) (rest k) >>= behind so_far)
 
+-- ---- the answer
+
+pub refused-there : {r : Result Refusal (List Column)} {answer : Returned Columns Refused} (reason : Reason) (place : ℕ)
+    → answer ≡ refusal reason place → r ≡ bad (at place (number_of reason)) → Answered r answer
+refused-there {r} reason place e q = subst (Answered r) (sym e) (record { says = q; held = tt })
+
 -- ---- the column list
 
 set_next : (cs : List Column) (k m n : ℕ) (c : Column) → length cs ≡ k → m ≡ suc n → set (cs ++ replicate m no_column) k c ≡ (cs ++ (c ∷ [])) ++ replicate n no_column
@@ -40,9 +49,6 @@ set_next [] zero m n c h e = rw e
 set_next [] (suc k) m n c h e = absurd (omega arith)
 set_next (d ∷ cs) zero m n c h e = absurd (omega arith)
 set_next (d ∷ cs) (suc k) m n c h e = ap (λ (l : List Column). d ∷ l) (set_next cs k m n c (omega arith) e)
-
-pub stored-long : (s : List ℕ) (place k : ℕ) (columns : Columns) → k ≤ 64 → Stage s place k columns → length columns.list ≡ 64
-stored-long s place k columns h g = rw g.stored (simp (length-append, length-replicate) (omega (arith, g.counted)))
 
 -- ---- sizes, and the first FIELD
 
@@ -109,8 +115,11 @@ module _ (s : List ℕ) (place k : ℕ) (columns : Columns) (g : Stage s place k
   unfolding fields_then
   stage-none e = g.onward ∙ rw (done s place h) (rw (eq-eqb k 0 e))
 
-  pub stage-done : (k ≡ 0 → ⊥) → ◌≡◌ {A = Declared} (record { number = 0; place = 0; columns = record { list = columns.list; count = k } }) (answered (declare s))
-  unfolding fields_then answered
-  stage-done n =
+  pub stage-done : k ≡ columns.count → (k ≡ 0 → ⊥) → Answered (declare s) (Ok columns)
+  unfolding fields_then
+  stage-done c n =
       let d : declare s ≡ good g.so_far = g.onward ∙ rw (done s place h) (rw (ne_eqb k 0 n) (ap good (append-nil g.so_far))) in
-      rw (d, g.counted) (rw g.stored)
+      let whole : columns ≡ holding g.so_far =
+      ap₂ (λ (l : List Column) (m : ℕ). record { list = l; count = m }) (g.stored ∙ ap (λ (m : ℕ). g.so_far ++ replicate (64 - m) no_column) (sym g.counted)) (sym c ∙ sym g.counted) in
+      let same : g.so_far ≡ listed columns = sym (ap listed whole ∙ listed-holding g.so_far) in
+      record { says = d ∙ ap good same; held = whole ∙ ap holding same }

@@ -1,16 +1,28 @@
--- An answer in the terms of Fields: a column list by value, or a number and a place.
-use Rattle.std.specs.Prelude.{cond, List, [], eqb}
-use Rattle.declaring.specs.declared.Declared.{Declared}
+-- An answer in the terms of Fields: a column list by value, or a reason and a place.
+use Rattle.std.specs.Prelude.{Err, Ok, Result as Returned, ℕ, List, ◌≡◌}
+use Rattle.declaring.specs.declared.Refused.{Refused}
 use Rattle.table.specs.ColumnList.{holding, listed}
 use Rattle.table.specs.Outcome.{Refusal, at}
+use Rattle.table.specs.Reasons.{number_of}
 use Rattle.table.specs.Result.{Result, bad, good}
 use Rattle.table.specs.declared.Column.{Column}
+use Rattle.table.specs.declared.Columns.{Columns}
+use Rattle.table.specs.declared.Reason.{Reason}
+
+abbrev pub refusal : Reason → ℕ → Returned Columns Refused
+refusal reason place = Err (record { reason = reason; place = place })
+
+-- what an answer says
+abbrev pub result_of : Returned Columns Refused → Result Refusal (List Column)
+result_of (Ok columns) = good (listed columns)
+result_of (Err e) = bad (at e.place (number_of e.reason))
+
+-- a column list holds its columns and nothing else
+abbrev pub Held : Returned Columns Refused → Type 0
+Held (Ok columns) = columns ≡ holding (listed columns)
+Held (Err e) = Unit {0}
 
 -- "The place is the number of whole FIELDs before, and no column list is handed out."
-unfoldable pub answered : Result Refusal (List Column) → Declared
-answered (good cs) = record { number = 0; place = 0; columns = holding cs }
-answered (bad e) = record { number = e.number; place = e.column; columns = holding [] }
-
--- what an answer says: number 0 is acceptance
-unfoldable pub result_of : Declared → Result Refusal (List Column)
-result_of d = cond (eqb d.number 0) (good (listed d.columns)) (bad (at d.place d.number))
+pub record Answered (r : Result Refusal (List Column)) (answer : Returned Columns Refused) : Type 0 where
+  pub says : r ≡ result_of answer
+  pub held : Held answer

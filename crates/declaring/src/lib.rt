@@ -8,15 +8,13 @@ mod spans;
 
 ghost use Rattle.std.specs.Prelude.{[], ◌≡◌};
 ghost use Rattle.table.specs.ColumnList.{holding};
-ghost use Rattle.table.specs.Outcome.{at};
-ghost use Rattle.table.specs.Result.{bad};
 ghost use Rattle.fields.specs.Fields.{declare};
 ghost use Rattle.fields.specs.Front.{front};
-ghost use Rattle.declaring.specs.Clauses.{answered};
+ghost use Rattle.declaring.specs.Clauses.{Answered, refusal};
 
 use columns::judge;
 use elements::read_field;
-use table::{Columns, Kind, Len, column_of};
+use table::{Columns, Kind, Len, Reason, column_of};
 use text::skip_white;
 
 // "declarations up to 65,536 bytes", "any row input [..] up to 1,073,741,824 bytes"
@@ -24,12 +22,11 @@ const MOST_DECLARATIONS: usize = 65_536;
 
 const MOST_INPUT: usize = 1_073_741_824;
 
-// The answer: number 0 and the columns, or a refusal's number and place and no column.
+// A refusal: why, and the number of whole FIELDs before it.
 #[derive(Clone, Copy)]
-pub struct Declared {
-    pub number: u64,
+pub struct Refused {
+    pub reason: Reason,
     pub place: usize,
-    pub columns: Columns,
 }
 
 fn no_columns() -> Columns
@@ -40,65 +37,51 @@ fn no_columns() -> Columns
     Columns { list, count: 0 }
 }
 
-// "no column list is handed out"
-fn refuse(number: u64, place: usize) -> Declared
-    ensures { result ≡ answered (bad (at place number)) }
+fn refuse(reason: Reason, place: usize) -> Result<Columns, Refused>
+    ensures { result ≡ refusal reason place }
 {
-    let columns = no_columns();
-    Declared {
-        number,
-        place,
-        columns,
-    }
+    Err(Refused { reason, place })
 }
 
-pub fn declare(text: &[u8]) -> Declared
-    ensures { result ≡ answered (declare text.now) }
+// The columns, or a refusal, and then "no column list is handed out".
+pub fn declare(text: &[u8]) -> Result<Columns, Refused>
+    ensures { Answered (declare text.now) result }
 {
     if MOST_DECLARATIONS < text.len() {
-        return refuse(6, 0);
+        return refuse(Reason::TooLarge, 0);
     }
     let mut columns = no_columns();
     let mut at = skip_white(text, 0);
-    let mut k: usize = 0;
     while at < text.len() {
+        let k = columns.count;
         let Some(e) = read_field(text, at) else {
-            return refuse(1, k);
+            return refuse(Reason::Field, k);
         };
         match judge(text, e) {
-            Err(reason) => return refuse(reason.number(), k),
+            Err(reason) => return refuse(reason, k),
             Ok(c) => {
                 if k == 64 {
-                    return refuse(5, 64);
+                    return refuse(Reason::ColumnCount, 64);
                 }
                 columns.list[k] = c;
-                k += 1;
+                columns.count = k + 1;
             }
         }
         at = skip_white(text, e.next);
     }
-    if k == 0 {
-        return refuse(5, 0);
+    if columns.count == 0 {
+        return refuse(Reason::ColumnCount, 0);
     }
-    columns.count = k;
-    Declared {
-        number: 0,
-        place: 0,
-        columns,
-    }
+    Ok(columns)
 }
 
 // The front of a call on rows: the declarations, then the input's size, then the columns.
-pub fn front(decls: &[u8], size: usize) -> Declared
-    ensures { result ≡ answered (front decls.now size) }
+pub fn front(decls: &[u8], size: usize) -> Result<Columns, Refused>
+    ensures { Answered (front decls.now size) result }
 {
-    let d = declare(decls);
-    let number = d.number;
-    if number != 0 {
-        return d;
-    }
+    let columns = declare(decls)?;
     if MOST_INPUT < size {
-        return refuse(6, 0);
+        return refuse(Reason::TooLarge, 0);
     }
-    d
+    Ok(columns)
 }
