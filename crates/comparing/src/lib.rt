@@ -5,6 +5,7 @@ ghost use Rattle.std.specs.Prelude.{cond, ◌≡◌, ◌-◌, ◌<◌, ◌^◌, 
 ghost use Rattle.table.specs.Cell.{most_elements};
 ghost use Rattle.table.specs.ColumnList.{listed};
 ghost use Rattle.table.specs.Outcome.{at};
+ghost use Rattle.table.specs.Reasons.{refusal_of};
 ghost use Rattle.rows.specs.Bounds.{Within};
 ghost use Rattle.rows.specs.Stream.{read, read_row};
 ghost use Rattle.row_comparing.specs.Clauses.{PairsRow};
@@ -16,7 +17,7 @@ use declaring::front;
 use noting::note_row;
 use row_comparing::{Cursor, RowPair, compare_row};
 use row_reading::{at_end, pass_rows};
-use table::{Columns, Rows};
+use table::{Columns, Refused, Rows};
 
 // ---- both inputs in step
 
@@ -258,16 +259,16 @@ fn compare_rows(
 }
 
 // The first input's rows, and a refusal of the second that stands before its own.
-fn refuse_second(cols: Columns, from: Rows, first: &[u8], number: u64, place: usize) -> Comparison
+fn refuse_second(cols: Columns, from: Rows, first: &[u8], late: Refused) -> Comparison
     requires { Within (listed cols) }
-    ensures { result ≡ behind_first (rows_shown 0 (read from (listed cols) first.now)) (refused_in 1 (before_rows (at place number))) }
+    ensures { result ≡ behind_first (rows_shown 0 (read from (listed cols) first.now)) (refused_in 1 (before_rows (refusal_of late))) }
 {
     let mut a = [0i64; table::MOST_ELEMENTS];
     let p = pass_rows(cols, from, first, 0, 0, &mut a);
     if p.number != 0 {
         return refuse(p.number, p.row, p.column, 0);
     }
-    refuse(number, 0, place as u64, 1)
+    refuse(late.reason.number(), 0, late.column as u64, 1)
 }
 
 // Two inputs under the same declarations: the front of each, then their rows.
@@ -281,16 +282,12 @@ pub fn compare(
 ) -> Comparison
     ensures { Compares decls.now from first.now kind second.now places.old result places.new }
 {
-    let d = front(decls, first.len());
-    let number = d.number;
-    if number != 0 {
-        return refuse(number, 0, d.place as u64, 0);
+    let cols = match front(decls, first.len()) {
+        Ok(cols) => cols,
+        Err(refused) => return refuse(refused.reason.number(), 0, refused.column as u64, 0),
+    };
+    match front(decls, second.len()) {
+        Ok(_same) => compare_rows(cols, from, first, kind, second, places),
+        Err(late) => refuse_second(cols, from, first, late),
     }
-    let cols = d.columns;
-    let e = front(decls, second.len());
-    let late = e.number;
-    if late != 0 {
-        return refuse_second(cols, from, first, late, e.place);
-    }
-    compare_rows(cols, from, first, kind, second, places)
 }

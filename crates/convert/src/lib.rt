@@ -419,22 +419,13 @@ pub fn convert_columns(cols: Columns, from: Rows, to: Rows, s: &[u8], out: &mut 
 pub fn convert_piece(decls: &[u8], from: Rows, to: Rows, input: &[u8], out: &mut [u8]) -> Piece
     ensures { ConvertsPiece decls.now from to input.now out.old result.answer result.place out.new }
 {
-    let d = front(decls, input.len());
-    let number = d.number;
-    if number != 0 {
-        return Piece {
-            answer: Answer {
-                number,
-                row: 0,
-                column: d.place as u64,
-                rows: 0,
-                bytes: 0,
-            },
+    match front(decls, input.len()) {
+        Ok(cols) => convert_piece_columns(cols, from, to, input, out),
+        Err(refused) => Piece {
+            answer: refused.before_rows(),
             place: 0,
-        };
+        },
     }
-    let cols = d.columns;
-    convert_piece_columns(cols, from, to, input, out)
 }
 
 // The same, for a caller who wants no place.

@@ -1,4 +1,4 @@
--- What `?` passes on: of an `ok_or` the reason where there was nothing, and of a refusal the same refusal.
+-- What `?` passes on of an `ok_or`: the reason where there was nothing.
 use Rattle.std.specs.Option.{ok_or}
 use Rattle.std.specs.Prelude.{Err, IsErrAnd, None, Ok, Option, Result as Returned, Some}
 use mathlib.Core.Path.{◌≡◌, ap, refl}
@@ -11,7 +11,3 @@ module _ {A E : Type 0} where
   pub given-by : (f : Option A) (r : E) (x : A) → ok_or f r ≡ Ok x → f ≡ Some x
   given-by None r x h = absurd (let q : ◌≡◌ {A = Returned A E} (Err r) (Ok x) = h in cc)
   given-by (Some y) r x h = ap Some (let q : ◌≡◌ {A = Returned A E} (Ok y) (Ok x) = h in cc)
-
-  pub err-same : (r : Returned A E) (e : E) → IsErrAnd r (λ x. x ≡ e) → r ≡ Err e
-  err-same (Ok x) e h = absurd h
-  err-same (Err x) e h = ap Err h

@@ -14,7 +14,7 @@ use Rattle.declaring.specs.Readers.{FieldIs, element_of}
 use Rattle.fields.specs.Fields.{declare, fields_f, fields_then, judge, read_field}
 use Rattle.declaring.specs.declared.elements.Element.{Element}
 use Rattle.std.specs.Prelude.{None, Ok, Result as Returned, Some}
-use Rattle.declaring.specs.declared.Refused.{Refused}
+use Rattle.table.specs.declared.Refused.{Refused}
 use Rattle.table.specs.Reasons.{number_of}
 use Rattle.table.specs.declared.Reason.{Reason}
 use Rattle.table.proofs.Places.{done, next1}

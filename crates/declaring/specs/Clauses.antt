@@ -1,21 +1,21 @@
 -- An answer in the terms of Fields: a column list by value, or a reason and a place.
 use Rattle.std.specs.Prelude.{Err, Ok, Result as Returned, ℕ, List, ◌≡◌}
-use Rattle.declaring.specs.declared.Refused.{Refused}
 use Rattle.table.specs.ColumnList.{holding, listed}
-use Rattle.table.specs.Outcome.{Refusal, at}
-use Rattle.table.specs.Reasons.{number_of}
+use Rattle.table.specs.Outcome.{Refusal}
+use Rattle.table.specs.Reasons.{refusal_of}
 use Rattle.table.specs.Result.{Result, bad, good}
 use Rattle.table.specs.declared.Column.{Column}
 use Rattle.table.specs.declared.Columns.{Columns}
 use Rattle.table.specs.declared.Reason.{Reason}
+use Rattle.table.specs.declared.Refused.{Refused}
 
 abbrev pub refusal : Reason → ℕ → Returned Columns Refused
-refusal reason place = Err (record { reason = reason; place = place })
+refusal reason place = Err (record { reason = reason; column = place })
 
 -- what an answer says
 abbrev pub result_of : Returned Columns Refused → Result Refusal (List Column)
 result_of (Ok columns) = good (listed columns)
-result_of (Err e) = bad (at e.place (number_of e.reason))
+result_of (Err e) = bad (refusal_of e)
 
 -- a column list holds its columns and nothing else
 abbrev pub Held : Returned Columns Refused → Type 0

@@ -14,20 +14,13 @@ ghost use Rattle.declaring.specs.Clauses.{Answered, refusal};
 
 use columns::judge;
 use elements::read_field;
-use table::{Columns, Kind, Len, Reason, column_of};
+use table::{Columns, Kind, Len, Reason, Refused, column_of};
 use text::skip_white;
 
 // "declarations up to 65,536 bytes", "any row input [..] up to 1,073,741,824 bytes"
 const MOST_DECLARATIONS: usize = 65_536;
 
 const MOST_INPUT: usize = 1_073_741_824;
-
-// A refusal: why, and the number of whole FIELDs before it.
-#[derive(Clone, Copy)]
-pub struct Refused {
-    pub reason: Reason,
-    pub place: usize,
-}
 
 fn no_columns() -> Columns
     ensures { result ≡ holding [] }
@@ -37,10 +30,14 @@ fn no_columns() -> Columns
     Columns { list, count: 0 }
 }
 
+// "The place is the number of whole FIELDs before"
 fn refuse(reason: Reason, place: usize) -> Result<Columns, Refused>
     ensures { result ≡ refusal reason place }
 {
-    Err(Refused { reason, place })
+    Err(Refused {
+        reason,
+        column: place,
+    })
 }
 
 // The columns, or a refusal, and then "no column list is handed out".

@@ -43,16 +43,7 @@ fn fetch_row(
     ensures out_after { out.new ≡ buffer_of (fetch_indexed from (listed cols) (length out.old) s.now index.now rows row) out.old }
 {
     match find_row(cols, from, s, index, rows, row) {
-        Err(refused) => {
-            let refused = Answer {
-                number: refused.reason.number(),
-                row: 0,
-                column: refused.column as u64,
-                rows: 0,
-                bytes: 0,
-            };
-            asked_for(row, refused)
-        }
+        Err(refused) => asked_for(row, refused.before_rows()),
         Ok(wanted) => {
             let line = &s[wanted.start..wanted.next];
             let a = convert_columns(cols, from, Rows::TableData, line, out);
@@ -73,17 +64,8 @@ pub fn fetch(
 ) -> Answer
     ensures { Fetches decls.now from input.now index.now rows row out.old result out.new }
 {
-    let d = front(decls, input.len());
-    let number = d.number;
-    if number != 0 {
-        return Answer {
-            number,
-            row: 0,
-            column: d.place as u64,
-            rows: 0,
-            bytes: 0,
-        };
+    match front(decls, input.len()) {
+        Ok(cols) => fetch_row(cols, from, input, index, rows, row, out),
+        Err(refused) => refused.before_rows(),
     }
-    let cols = d.columns;
-    fetch_row(cols, from, input, index, rows, row, out)
 }

@@ -83,18 +83,11 @@ fn enter_rows(cols: Columns, from: Rows, s: &[u8], index: &mut [u32], scratch: &
 pub fn index(decls: &[u8], from: Rows, input: &[u8], index: &mut [u32]) -> Answer
     ensures { Indexes decls.now from input.now index.old result index.new }
 {
-    let d = front(decls, input.len());
-    let number = d.number;
-    if number != 0 {
-        return Answer {
-            number,
-            row: 0,
-            column: d.place as u64,
-            rows: 0,
-            bytes: 0,
-        };
+    match front(decls, input.len()) {
+        Ok(cols) => {
+            let mut scratch = [0i64; table::MOST_ELEMENTS];
+            enter_rows(cols, from, input, index, &mut scratch)
+        }
+        Err(refused) => refused.before_rows(),
     }
-    let cols = d.columns;
-    let mut scratch = [0i64; table::MOST_ELEMENTS];
-    enter_rows(cols, from, input, index, &mut scratch)
 }

@@ -1,6 +1,7 @@
 -- Why something is refused, by name, and its number.
 use Rattle.std.specs.Prelude.{ℕ}
 use Rattle.table.specs.Outcome.{Refusal, at}
+use Rattle.table.specs.declared.Answer.{Answer}
 use Rattle.table.specs.declared.Reason.{Reason}
 use Rattle.table.specs.declared.Refused.{Refused}
 use Rattle.table.specs.declared.Reason.TheVariants.{Arraysize, Base64, ColumnCount, CountOverBound, Cut, Datatype, ElementCount, Empty, Field, Markup, NoCharacter, NoElement, NoRoom, NoSuchRow, NullHasNoForm, NullValue, OutOfRange, Padding, TooLarge}
@@ -49,3 +50,7 @@ number_of NoSuchRow = 20
 -- a refusal of the code as the definitions have it
 abbrev pub refusal_of : Refused → Refusal
 refusal_of f = at f.column (number_of f.reason)
+
+-- "their refusal comes first, at row 0 with its place as the column, and no row is read"
+abbrev pub before_rows : Refused → Answer
+before_rows f = record { number = number_of f.reason; row = 0; column = f.column; rows = 0; bytes = 0 }

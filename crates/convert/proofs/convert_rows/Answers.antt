@@ -667,4 +667,3 @@ returns-then-room-size c =
     left
     c.loop-i.invariant.0.acc _ whole row_at written_at
     (omega (arith, size-at, c.if-room-size.true)) in record { answer_value = rw c.number-then-room-size.ensures d.answers; place_value = d.stands; out_after = d.leaves }
-

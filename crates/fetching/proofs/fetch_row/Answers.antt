@@ -15,7 +15,7 @@ pub returns-in-Err : goal.returns-in-Err
 unfolding answer_of buffer_of written at
 returns-in-Err c =
     let f = c.in-Err.ensures (length c.args.out.now) in
-    record { value = rw (f, c.asked_for.ensures, c.number.ensures); out_after = rw f }
+    record { value = rw (f, c.asked_for.ensures, c.before_rows.ensures); out_after = rw f }
 
 pub returns-in-Ok : goal.returns-in-Ok
 returns-in-Ok c =
