@@ -1,5 +1,6 @@
 -- What the contracts of the functions on a text's words say: how a word ends, what it is held as, and what it adds.
-use Rattle.std.specs.Prelude.{Err, None, Ok, Option, Result as Outcome, Some, ◌*◌, ◌+◌, ◌<◌, ◌≤◌, ℕ, Bool, ◌&&◌, ◌||◌, cond, false, true, List, [], ◌++◌, ◌∷◌, ◌≡◌, eqb, leb, ltb, ℤ, drop, get_or, length}
+use Rattle.std.specs.Prelude.{Err, None, Ok, Option, Result as Outcome, Some}
+use Rattle.std.specs.Prelude.{◌*◌, ◌+◌, ◌<◌, ◌≤◌, ℕ, Bool, ◌&&◌, ◌||◌, cond, false, true, List, [], ◌++◌, ◌∷◌, ◌≡◌, eqb, leb, ltb, ℤ, drop, get_or, length}
 use Rattle.number.specs.Clauses.{is_signed, size}
 use Rattle.number.specs.declared.Integer.{Integer}
 use Rattle.table.specs.All.{All}

@@ -28,7 +28,8 @@ pub(crate) fn judged(
     }
 }
 
-// An element is stored where there is room for it.
+// An element is stored where there is room for it. (Scratch and count go side by side: in a struct each clause would speak of the scratch through a
+// borrow in a field, which is no plainer.)
 pub(crate) fn put(scratch: &mut [i64], count: usize, x: i64)
     ensures { scratch.new ≡ set scratch.old count x }
 {
