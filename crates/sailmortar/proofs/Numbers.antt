@@ -1,24 +1,28 @@
 -- The numbers of a declaration's answer, and the kinds of rows by number: by cases on the definitions.
-use Rattle.std.specs.Prelude.{None, Some}
+use Rattle.std.specs.Prelude.{Err, None, Ok, Result as Returned, Some}
 use Prim.Native.Nat.{ℕ}
 use mathlib.Core.List.{List, [], ◌∷◌}
-use mathlib.Core.Path.{◌≡◌, refl}
-use Rattle.declaring.specs.Clauses.{answered}
+use mathlib.Core.Path.{◌≡◌, ap, sym}
+use Rattle.declaring.specs.Clauses.{Answered}
 use Rattle.sailmortar.specs.Face.{Faced, between_kinds, binary_of, declared_numbers, of_kind, rows_of}
-use Rattle.declaring.specs.declared.Declared.{Declared}
-use Rattle.table.specs.Outcome.{Refusal}
+use Rattle.table.proofs.ColumnList.{listed-length}
+use Rattle.table.specs.Outcome.{Refusal, at}
+use Rattle.table.specs.Reasons.{number_of}
 use Rattle.table.specs.Result.{Result, bad, good}
 use Rattle.table.specs.declared.Column.{Column}
+use Rattle.table.specs.declared.Columns.{Columns}
+use Rattle.table.specs.declared.Refused.{Refused}
 use Rattle.table.specs.declared.Rows.{Rows}
 
 -- number, 0, place, columns, 0
-abbrev pub numbers_of : Declared → List ℕ
-numbers_of d = d.number ∷ 0 ∷ d.place ∷ d.columns.count ∷ 0 ∷ []
+abbrev pub numbers_of : Returned Columns Refused → List ℕ
+numbers_of (Ok columns) = 0 ∷ 0 ∷ 0 ∷ columns.count ∷ 0 ∷ []
+numbers_of (Err f) = number_of f.reason ∷ 0 ∷ f.column ∷ 0 ∷ 0 ∷ []
 
-pub declared-numbers : (r : Result Refusal (List Column)) → numbers_of (answered r) ≡ declared_numbers r
-unfolding answered declared_numbers
-declared-numbers (good cs) = refl
-declared-numbers (bad e) = refl
+pub declared-numbers : {r : Result Refusal (List Column)} (answer : Returned Columns Refused) → Answered r answer → numbers_of answer ≡ declared_numbers r
+unfolding declared_numbers at
+declared-numbers (Ok columns) a = rw a.says (ap (λ (n : ℕ). 0 ∷ 0 ∷ 0 ∷ n ∷ 0 ∷ []) (sym (listed-length columns)))
+declared-numbers (Err f) a = rw a.says
 
 -- ---- a call, by what its one number names, or its two
 

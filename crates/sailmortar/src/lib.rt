@@ -158,7 +158,8 @@ pub fn sailmortar_base64_encode(input: &[u8], out: &mut [u8], answer: &mut [u64;
 pub fn sailmortar_declare(decls: &[u8], answer: &mut [u64; 5])
     ensures { answer.new ≡ declare_face decls.now }
 {
-    let d = declaring::declare(decls);
-    let columns = d.columns;
-    *answer = [d.number, 0, d.place as u64, columns.count as u64, 0];
+    *answer = match declaring::declare(decls) {
+        Ok(columns) => [0, 0, 0, columns.count as u64, 0],
+        Err(refused) => [refused.reason.number(), 0, refused.column as u64, 0, 0],
+    };
 }

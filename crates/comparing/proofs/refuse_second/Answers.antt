@@ -8,6 +8,7 @@ use Rattle.comparing.specs.Clauses.{behind_first}
 use Rattle.table.specs.Cell.{Cell}
 use Rattle.table.specs.ColumnList.{listed}
 use Rattle.table.specs.Outcome.{answer_of, at}
+use Rattle.table.specs.Reasons.{refusal_of}
 use Rattle.table.specs.Result.{Result}
 use Rattle.table.specs.declared.Answer.{Answer}
 use borrow.Author.Rules.{rules}
@@ -15,7 +16,7 @@ use Rattle.comparing.proofs.refuse_second.Goals as goal
 
 pub returns-then-p-ne0 : goal.returns-then-p-ne0
 returns-then-p-ne0 c =
-    let answered : Result Answer (List (List Cell)) → Comparison = λ x. behind_first x (refused_in 1 (before_rows (at c.args.place c.args.number))) in
+    let answered : Result Answer (List (List Cell)) → Comparison = λ x. behind_first x (refused_in 1 (before_rows (refusal_of c.args.late))) in
     let p = c.pass_rows-p in
     c.refuse.ensures ∙ refused_as 0 p.result
     ∙ sym (ap answered (walk_refused c.args.from (listed c.args.cols) c.args.first.now p.result p.ensures.value c.if-p-ne0.true))
@@ -23,6 +24,6 @@ returns-then-p-ne0 c =
 pub returns : goal.returns
 unfolding before_rows answer_of at
 returns c =
-    let answered : Result Answer (List (List Cell)) → Comparison = λ x. behind_first x (refused_in 1 (before_rows (at c.args.place c.args.number))) in
+    let answered : Result Answer (List (List Cell)) → Comparison = λ x. behind_first x (refused_in 1 (before_rows (refusal_of c.args.late))) in
     let p = c.pass_rows-p in
-    c.refuse-2.ensures ∙ sym (ap answered (walk-read c.args.from (listed c.args.cols) c.args.first.now p.result p.ensures.value c.if-p-ne0.false).0)
+    rw c.number.ensures at c.refuse-2.ensures ∙ sym (ap answered (walk-read c.args.from (listed c.args.cols) c.args.first.now p.result p.ensures.value c.if-p-ne0.false).0)

@@ -1,11 +1,13 @@
 -- The numbers of the answer of `declare`, in both of its cases.
-use Rattle.fields.specs.Fields.{declare}
 use Rattle.sailmortar.proofs.Numbers.{declared-numbers, numbers_of}
 use Rattle.sailmortar.specs.Face.{declare_face}
-use borrow.Author.Rules.{rules}
-use mathlib.Core.Path.{◌∙◌, ap}
+use mathlib.Core.Path.{◌∙◌, ap, sym}
 use Rattle.sailmortar.proofs.sailmortar_declare.Goals as goal
 
-pub returns : goal.returns
+pub returns-in-Ok : goal.returns-in-Ok
 unfolding declare_face
-returns c = ap numbers_of c.declare-d.ensures ∙ declared-numbers (declare c.args.decls.now)
+returns-in-Ok c = declared-numbers _ c.in-Ok.ensures
+
+pub returns-in-Err : goal.returns-in-Err
+unfolding declare_face
+returns-in-Err c = rw c.number.ensures (declared-numbers _ c.in-Err.ensures)
