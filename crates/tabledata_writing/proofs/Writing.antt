@@ -1,12 +1,11 @@
 -- A cell that is written: the elements of each kind one after the other, and the length of it all.
 use Prim.Native.Nat.{◌*◌, ◌+◌, ◌<◌, ◌≤◌, suc, zero, ℕ}
-use native.Mathlib.Numerals.{add-one}
 use native.Mathlib.Omega.{arith}
 use mathlib.Core.Bool.{Bool, false, false≢true, true}
 use mathlib.Core.List.{List, [], ◌++◌, ◌∷◌, append-nil, map}
 use mathlib.Core.Path.{◌∙◌, ◌≡◌, ap, refl, sym}
 use lib.IntN.{nat_abs, negsuc, pos, ℤ}
-use lib.ListN.{drop, get_or, length, length-append, length-map, set}
+use lib.ListN.{drop, get_or, length, length-append, length-map}
 use lib.Signed.{le_z, lt_z}
 use borrow.Author.Tests.{leb-false, leb-true, ltb-true, ne_eqb}
 use mir.Syntax.{w64}
@@ -24,7 +23,6 @@ use Rattle.table.specs.Cell.{Cell, null, shown, truth_byte}
 use Rattle.table.specs.Clauses.{form_bytes, size_as, size_of}
 use Rattle.table.specs.Result.{Result, ◌>>=◌, bad, good}
 use Rattle.table.specs.Shape.{Bits, Shape, Text, Truths, Whole, Width, shape}
-use Rattle.table.specs.Wrote.{Wrote}
 use Rattle.table.specs.declared.Column.{Column}
 use Rattle.tabledata.proofs.Laws.{text-bytes, text-lt}
 use Rattle.tabledata.proofs.Characters.{plain-is, plain-low, text-not}
@@ -211,9 +209,6 @@ size-itself c t x y z w = ap size_of (form-text c t ∙ ap good (escaped-itself 
 pub size-no : (c : ℕ) → is_text c ≡ false → size_of (form_of (pos c)) ≡ form_size None
 unfolding form_size
 size-no c t = ap size_of (form-none c t)
-
-pub wrote-two : (l : List ℕ) (i a b : ℕ) → Wrote l i (a ∷ b ∷ []) (set (set l i a) (i + 1) b) (i + 2)
-wrote-two l i a b = record { now-is = ap (λ (n : ℕ). set (set l i a) n b) (add-one i); next-is = refl }
 
 -- a char that stands for itself, and one that is left out
 pub char-itself : (c : ℕ) → is_text c ≡ true → (c ≡ 38 → ⊥) → (c ≡ 60 → ⊥) → (c ≡ 62 → ⊥) → (c ≡ 13 → ⊥) → char_form (pos c) ≡ c ∷ []

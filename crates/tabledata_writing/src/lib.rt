@@ -1,7 +1,7 @@
 // A cell of TABLEDATA is measured and written.
 #![tactic(auto)]
 
-ghost use Rattle.std.specs.Prelude.{◌+◌, ◌≤◌, pos, length, ◌∷◌, map, ◌≡◌};
+ghost use Rattle.std.specs.Prelude.{◌+◌, ◌≤◌, List, pos, length, ◌∷◌, map, ◌≡◌, ℕ, ℤ};
 ghost use Rattle.number.specs.Number.{shortest};
 ghost use Rattle.table.specs.Cell.{most_elements};
 ghost use Rattle.table.specs.Clauses.{ShownUpTo, ShownWithin, form_bytes, shown_as, size_as, size_of};
@@ -151,52 +151,61 @@ fn put_bits(bits: &[i64], out: &mut [u8], at: usize) -> usize
     i
 }
 
+// How an element is written as a word.
+trait Word {
+    ghost text: { ℤ → List ℕ };
+
+    // The word, at a place with room for it; and the place after it.
+    fn put(out: &mut [u8], at: usize, z: i64) -> usize
+        requires { at + length (text z) ≤ length out.old }
+        ensures { Wrote out.old at (text z) out.new result };
+}
+
+// "Booleans are `T`, `F`, `?`"
+struct Truth;
+
+impl Word for Truth {
+    ghost text = { truth_text };
+
+    fn put(out: &mut [u8], at: usize, z: i64) -> usize {
+        out[at] = table::truth_byte(z);
+        at + 1
+    }
+}
+
+// "integers shortest decimal"
+struct Decimal;
+
+impl Word for Decimal {
+    ghost text = { shortest };
+
+    fn put(out: &mut [u8], at: usize, z: i64) -> usize {
+        decimals::write_shortest(out, at, z)
+    }
+}
+
 // Each element but the first, behind a space.
-fn more_truths(truths: &[i64], out: &mut [u8], at: usize) -> usize
-    requires { at + length (joined (λ z. 32 ∷ truth_text z) truths.now) ≤ length out.old }
-    ensures { Wrote out.old at (joined (λ z. 32 ∷ truth_text z) truths.now) out.new result }
+fn more_words<W: Word>(elements: &[i64], out: &mut [u8], at: usize) -> usize
+    requires { at + length (joined (λ z. 32 ∷ W.text z) elements.now) ≤ length out.old }
+    ensures { Wrote out.old at (joined (λ z. 32 ∷ W.text z) elements.now) out.new result }
 {
     let mut i = at;
-    for &z in truths {
+    for &z in elements {
         out[i] = b' ';
-        out[i + 1] = table::truth_byte(z);
-        i += 2;
+        i = W::put(out, i + 1, z);
     }
     i
 }
 
-fn put_truths(truths: &[i64], out: &mut [u8], at: usize) -> usize
-    requires { at + length (spaced (map truth_text truths.now)) ≤ length out.old }
-    ensures { Wrote out.old at (spaced (map truth_text truths.now)) out.new result }
+fn put_words<W: Word>(elements: &[i64], out: &mut [u8], at: usize) -> usize
+    requires { at + length (spaced (map W.text elements.now)) ≤ length out.old }
+    ensures { Wrote out.old at (spaced (map W.text elements.now)) out.new result }
 {
-    let Some((&first, rest)) = truths.split_first() else {
+    let Some((&first, rest)) = elements.split_first() else {
         return at;
     };
-    out[at] = table::truth_byte(first);
-    more_truths(rest, out, at + 1)
-}
-
-fn more_integers(integers: &[i64], out: &mut [u8], at: usize) -> usize
-    requires { at + length (joined (λ z. 32 ∷ shortest z) integers.now) ≤ length out.old }
-    ensures { Wrote out.old at (joined (λ z. 32 ∷ shortest z) integers.now) out.new result }
-{
-    let mut i = at;
-    for &z in integers {
-        out[i] = b' ';
-        i = decimals::write_shortest(out, i + 1, z);
-    }
-    i
-}
-
-fn put_integers(integers: &[i64], out: &mut [u8], at: usize) -> usize
-    requires { at + length (spaced (map shortest integers.now)) ≤ length out.old }
-    ensures { Wrote out.old at (spaced (map shortest integers.now)) out.new result }
-{
-    let Some((&first, rest)) = integers.split_first() else {
-        return at;
-    };
-    let next = decimals::write_shortest(out, at, first);
-    more_integers(rest, out, next)
+    let next = W::put(out, at, first);
+    more_words::<W>(rest, out, next)
 }
 
 // The text of a cell's elements.
@@ -205,10 +214,10 @@ fn put_elements(kind: Kind, elements: &[i64], out: &mut [u8], at: usize) -> usiz
     ensures { Wrote out.old at (element_bytes (shape kind) elements.now) out.new result }
 {
     match elements_of(kind) {
-        Elements::Truths => put_truths(elements, out, at),
+        Elements::Truths => put_words::<Truth>(elements, out, at),
         Elements::Bits => put_bits(elements, out, at),
         Elements::Text => put_chars(elements, out, at),
-        Elements::Whole(_) => put_integers(elements, out, at),
+        Elements::Whole(_) => put_words::<Decimal>(elements, out, at),
     }
 }
 

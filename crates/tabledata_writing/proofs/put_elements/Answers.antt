@@ -7,22 +7,22 @@ use Rattle.table.specs.Shape.{Shape}
 use Rattle.tabledata.specs.TableData.{element_bytes}
 use Rattle.tabledata_writing.proofs.put_elements.Goals as goal
 
-pub put_truths-requires : goal.put_truths-requires
+pub put_words-requires : goal.put_words-requires
 unfolding element_bytes
-put_truths-requires c =
+put_words-requires c =
     let a = c.args in
     subst (λ (k : Shape). a.at + length (element_bytes k a.elements.now) ≤ length a.out.now) (shape_of c.elements_of.ensures c.in-Truths.is) c.requires
 
-pub put_integers-requires : goal.put_integers-requires
+pub put_words-requires-in-Whole : goal.put_words-requires-in-Whole
 unfolding element_bytes
-put_integers-requires c =
+put_words-requires-in-Whole c =
     let a = c.args in
     subst (λ (k : Shape). a.at + length (element_bytes k a.elements.now) ≤ length a.out.now) (shape_of c.elements_of.ensures c.in-Whole.is) c.requires
 
 pub returns-in-Truths : goal.returns-in-Truths
 unfolding element_bytes
-returns-in-Truths c = rw (shape_of c.elements_of.ensures c.in-Truths.is) c.put_truths.ensures
+returns-in-Truths c = rw (shape_of c.elements_of.ensures c.in-Truths.is) c.put_words.ensures
 
 pub returns-in-Whole : goal.returns-in-Whole
 unfolding element_bytes
-returns-in-Whole c = rw (shape_of c.elements_of.ensures c.in-Whole.is) c.put_integers.ensures
+returns-in-Whole c = rw (shape_of c.elements_of.ensures c.in-Whole.is) c.put_words-in-Whole.ensures

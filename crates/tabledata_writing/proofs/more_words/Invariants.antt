@@ -1,0 +1,9 @@
+-- `tabledata_writing::more_words` meets its contract. The invariant: what is left of the words, each behind a space, is still to be written here.
+use mathlib.Core.List.{◌∷◌}
+use lib.ListN.{drop}
+use Rattle.table.proofs.Wrote.{Left}
+use Rattle.tabledata.specs.TableData.{joined}
+use Rattle.tabledata_writing.proofs.more_words.Given as goal
+
+abbrev pub invariant-loop-z : goal.invariant-loop-z
+invariant-loop-z g l = Left l.initial.out l.at (joined (λ z. 32 ∷ g.W.Word.text z) l.elements) l.out l.i (joined (λ z. 32 ∷ g.W.Word.text z) (drop l.z-index l.elements))
