@@ -15,15 +15,15 @@ pub returns-in_default-rows_of : goal.returns-in_default-rows_of
 unfolding convert_face no_such_kind
 returns-in_default-rows_of c =
     let e = no_target _ _ _ _ _
-    (sym c.rows_of.ensures ∙ ap named_as c.in-Known.is)
+    (sym c.rows_of.ensures ∙ ap named_as c.in-Some.is)
     (sym c.rows_of-2.ensures ∙ ap named_as c.in_default-rows_of.is) in record { numbers = ap (λ (f : Faced). f.numbers) (sym e); buffer = ap (λ (f : Faced). f.buffer) (sym e) }
 
 pub returns : goal.returns
 unfolding convert_face faced
 returns c =
     let e = known _ _ _ _ _
-    (sym c.rows_of.ensures ∙ ap named_as c.in-Known.is) _
-    (sym c.rows_of-2.ensures ∙ ap named_as c.in-Known-rows_of.is) in
+    (sym c.rows_of.ensures ∙ ap named_as c.in-Some.is) _
+    (sym c.rows_of-2.ensures ∙ ap named_as c.in-Some-rows_of.is) in
     record {
       numbers = c.put_answer.ensures ∙ ap five c.convert.ensures.answers ∙ ap (λ (f : Faced). f.numbers) (sym e);
       buffer = c.convert.ensures.leaves ∙ ap (λ (f : Faced). f.buffer) (sym e);

@@ -15,15 +15,15 @@ pub returns-in_default-rows_of : goal.returns-in_default-rows_of
 unfolding piece_face no_such_kind
 returns-in_default-rows_of c =
     let e = no_target _ _ _ _ _
-    (sym c.rows_of.ensures ∙ ap named_as c.in-Known.is)
+    (sym c.rows_of.ensures ∙ ap named_as c.in-Some.is)
     (sym c.rows_of-2.ensures ∙ ap named_as c.in_default-rows_of.is) in record { numbers = ap (λ (f : Faced). f.numbers) (sym e); buffer = ap (λ (f : Faced). f.buffer) (sym e) }
 
 pub returns : goal.returns
 unfolding piece_face piece_faced
 returns c =
     let e = known _ _ _ _ _
-    (sym c.rows_of.ensures ∙ ap named_as c.in-Known.is) _
-    (sym c.rows_of-2.ensures ∙ ap named_as c.in-Known-rows_of.is) in
+    (sym c.rows_of.ensures ∙ ap named_as c.in-Some.is) _
+    (sym c.rows_of-2.ensures ∙ ap named_as c.in-Some-rows_of.is) in
     record {
       numbers = c.put_piece.ensures ∙ ap₂ six c.convert_piece-piece.ensures.answers c.convert_piece-piece.ensures.stands ∙ ap (λ (f : Faced). f.numbers) (sym e);
       buffer = c.convert_piece-piece.ensures.leaves ∙ ap (λ (f : Faced). f.buffer) (sym e);

@@ -14,7 +14,7 @@ returns-in_default c =
 pub returns : goal.returns
 unfolding index_face faced
 returns c =
-    let e = of-binary _ _ _ _ (sym c.binary_of.ensures ∙ ap named_as c.in-Known.is) in
+    let e = of-binary _ _ _ _ (sym c.binary_of.ensures ∙ ap named_as c.in-Some.is) in
     record {
       numbers = c.put_answer.ensures ∙ ap five c.index.ensures.answers ∙ ap (λ (f : Faced). f.numbers) (sym e);
       buffer = c.index.ensures.leaves ∙ ap (λ (f : Faced). f.buffer) (sym e);
