@@ -2,7 +2,6 @@
 #![tactic(auto)]
 
 ghost use Rattle.std.specs.Prelude.{◌≡◌};
-ghost use Rattle.numbering.specs.Named.{named_as};
 ghost use Rattle.numbering.specs.Numbering.{binary_of, eight, five, joined_numbers, joined_of, rows_of, six};
 
 use compare::Comparison;
@@ -10,6 +9,7 @@ use convert::Piece;
 use parts::Joined;
 use table::{Answer, Rows};
 
+// Into arrays that C lends; no From, since neither an array nor an answer is a type of this crate.
 pub fn put_answer(a: Answer, answer: &mut [u64; 5])
     ensures { answer.new ≡ five a }
 {
@@ -25,31 +25,25 @@ pub fn put_piece(piece: Piece, answer: &mut [u64; 6])
 }
 
 // A kind of rows by its number, or none.
-#[derive(Clone, Copy)]
-pub enum Named {
-    Known(Rows),
-    Unknown,
-}
-
-pub fn rows_of(number: u32) -> Named
-    ensures { named_as result ≡ rows_of number }
+pub fn rows_of(number: u32) -> Option<Rows>
+    ensures { result ≡ rows_of number }
 {
     match number {
-        0 => Named::Known(Rows::TableData),
-        1 => Named::Known(Rows::Binary),
-        2 => Named::Known(Rows::Binary2),
-        _ => Named::Unknown,
+        0 => Some(Rows::TableData),
+        1 => Some(Rows::Binary),
+        2 => Some(Rows::Binary2),
+        _ => None,
     }
 }
 
 // BINARY or BINARY2 by its number, or none.
-pub fn binary_of(number: u32) -> Named
-    ensures { named_as result ≡ binary_of number }
+pub fn binary_of(number: u32) -> Option<Rows>
+    ensures { result ≡ binary_of number }
 {
     match number {
-        1 => Named::Known(Rows::Binary),
-        2 => Named::Known(Rows::Binary2),
-        _ => Named::Unknown,
+        1 => Some(Rows::Binary),
+        2 => Some(Rows::Binary2),
+        _ => None,
     }
 }
 
@@ -71,15 +65,16 @@ pub fn put_comparison(c: Comparison, answer: &mut [u64; 8])
 pub fn joined_of(joined: &[u64; 8]) -> Joined
     ensures { result ≡ joined_of joined.now }
 {
+    let [number, row, column, rows, bytes, place, parts, ended] = *joined;
     Joined {
-        number: joined[0],
-        row: joined[1],
-        column: joined[2],
-        rows: joined[3],
-        bytes: joined[4],
-        place: joined[5],
-        parts: joined[6],
-        ended: joined[7],
+        number,
+        row,
+        column,
+        rows,
+        bytes,
+        place,
+        parts,
+        ended,
     }
 }
 

@@ -5,8 +5,6 @@
 ghost use Rattle.std.specs.Prelude.{◌≡◌};
 ghost use Rattle.sailmortar.specs.Face.{compare_face, convert_face, declare_face, decode_face, encode_face, fetch_face, index_face, join_face, piece_face};
 
-use numbering::Named;
-
 // 01 has no number for it.
 const NO_SUCH_KIND: [u64; 5] = [255, 0, 0, 0, 0];
 
@@ -26,11 +24,11 @@ pub fn sailmortar_convert(
     ensures numbers { answer.new ≡ (convert_face decls.now from to input.now out.old).numbers }
     ensures buffer { out.new ≡ (convert_face decls.now from to input.now out.old).buffer }
 {
-    let Named::Known(source) = numbering::rows_of(from) else {
+    let Some(source) = numbering::rows_of(from) else {
         *answer = NO_SUCH_KIND;
         return;
     };
-    let Named::Known(target) = numbering::rows_of(to) else {
+    let Some(target) = numbering::rows_of(to) else {
         *answer = NO_SUCH_KIND;
         return;
     };
@@ -49,11 +47,11 @@ pub fn sailmortar_convert_piece(
     ensures numbers { answer.new ≡ (piece_face decls.now from to input.now out.old).numbers }
     ensures buffer { out.new ≡ (piece_face decls.now from to input.now out.old).buffer }
 {
-    let Named::Known(source) = numbering::rows_of(from) else {
+    let Some(source) = numbering::rows_of(from) else {
         *answer = NO_SUCH_KIND_OF_PIECE;
         return;
     };
-    let Named::Known(target) = numbering::rows_of(to) else {
+    let Some(target) = numbering::rows_of(to) else {
         *answer = NO_SUCH_KIND_OF_PIECE;
         return;
     };
@@ -72,7 +70,7 @@ pub fn sailmortar_index(
     ensures numbers { answer.new ≡ (index_face decls.now from input.now index.old).numbers }
     ensures buffer { index.new ≡ (index_face decls.now from input.now index.old).buffer }
 {
-    let Named::Known(source) = numbering::binary_of(from) else {
+    let Some(source) = numbering::binary_of(from) else {
         *answer = NO_SUCH_KIND;
         return;
     };
@@ -93,7 +91,7 @@ pub fn sailmortar_fetch(
     ensures numbers { answer.new ≡ (fetch_face decls.now from input.now index.now rows row out.old).numbers }
     ensures buffer { out.new ≡ (fetch_face decls.now from input.now index.now rows row out.old).buffer }
 {
-    let Named::Known(source) = numbering::binary_of(from) else {
+    let Some(source) = numbering::binary_of(from) else {
         *answer = NO_SUCH_KIND;
         return;
     };
@@ -117,11 +115,11 @@ pub fn sailmortar_compare(
     ensures numbers { answer.new ≡ (compare_face decls.now from first.now kind second.now places.old).numbers }
     ensures buffer { places.new ≡ (compare_face decls.now from first.now kind second.now places.old).buffer }
 {
-    let Named::Known(source) = numbering::rows_of(from) else {
+    let Some(source) = numbering::rows_of(from) else {
         *answer = NO_SUCH_KIND_TO_COMPARE;
         return;
     };
-    let Named::Known(other) = numbering::rows_of(kind) else {
+    let Some(other) = numbering::rows_of(kind) else {
         *answer = NO_SUCH_KIND_TO_COMPARE;
         return;
     };

@@ -1,6 +1,7 @@
 -- Each number in its arm, and any other is none of the two.
 use Rattle.numbering.specs.Numbering.{binary_of}
 use Rattle.numbering.proofs.ByNumber.{no-binary}
+use native.Mathlib.Omega.{arith}
 use mathlib.Core.Path.{ap, sym}
 use Rattle.numbering.proofs.binary_of.Goals as goal
 
@@ -13,4 +14,4 @@ unfolding binary_of
 returns-in-2 c = sym (ap binary_of c.in-2.is)
 
 pub returns-in_default : goal.returns-in_default
-returns-in_default c = sym (no-binary _ c.in_default.in_default-own.rest.0.1 c.in_default.in_default-own.rest.1)
+returns-in_default c = sym (no-binary _ (λ e. omega (arith, e)) (λ e. omega (arith, e)))

@@ -1,5 +1,4 @@
 -- The eight numbers in their order.
-use borrow.Author.Rules.{rules}
 use mathlib.Core.Path.{refl}
 use Rattle.numbering.specs.Numbering.{joined_of}
 use Rattle.numbering.proofs.joined_of.Goals as goal

@@ -1,6 +1,7 @@
 -- Each number in its arm, and any other is none of the three.
 use Rattle.numbering.specs.Numbering.{rows_of}
 use Rattle.numbering.proofs.ByNumber.{no_rows}
+use native.Mathlib.Omega.{arith}
 use mathlib.Core.Path.{ap, sym}
 use Rattle.numbering.proofs.rows_of.Goals as goal
 
@@ -17,4 +18,4 @@ unfolding rows_of
 returns-in-2 c = sym (ap rows_of c.in-2.is)
 
 pub returns-in_default : goal.returns-in_default
-returns-in_default c = sym (no_rows _ c.in_default.in_default-own.rest.0.0.1 c.in_default.in_default-own.rest.0.1 c.in_default.in_default-own.rest.1)
+returns-in_default c = sym (no_rows _ (λ e. omega (arith, e)) (λ e. omega (arith, e)) (λ e. omega (arith, e)))
