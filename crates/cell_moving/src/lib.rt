@@ -26,19 +26,19 @@ fn put_cell(
     scratch: &[i64],
     row: &mut [u8],
     o: usize,
-) -> Moved
+) -> Option<Moved>
     requires { (bound column.len ≤ most_elements) × (count ≤ bound column.len) × (count ≤ length scratch.now) × (o ≤ length row.old) }
     ensures { SettlesPut to column (held null count scratch.now) next row.old o row.new result }
 {
     let size = size_cell(to, column, null, count, scratch);
     match size {
-        Size::NoForm(_n) => Moved::Careful,
+        Size::NoForm(_n) => None,
         Size::Bytes(b) => {
             if row.len() - o < b {
-                return Moved::Careful;
+                return None;
             }
             let e = write_cell(to, column, null, count, scratch, row, o);
-            Moved::Cell(next, e, null)
+            Some(Moved { next, end: e, null })
         }
     }
 }
@@ -54,14 +54,14 @@ fn careful_cell(
     scratch: &mut [i64],
     row: &mut [u8],
     o: usize,
-) -> Moved
+) -> Option<Moved>
     requires { (at ≤ length s.now) × (bound column.len ≤ most_elements) × (most_elements ≤ length scratch.old) × (o ≤ length row.old) }
     ensures settles_cell { SettlesCell from to column flagged s.now at row.old o row.new result }
     ensures scratch_len_unchanged { length scratch.new ≡ length scratch.old }
 {
     let found = read_cell(from, s, at, column, flagged, scratch);
     match found {
-        Found::Refused(_n) => Moved::Careful,
+        Found::Refused(_n) => None,
         Found::Null(next) => put_cell(to, column, true, 0, next, scratch, row, o),
         Found::Shown(n, next) => put_cell(to, column, false, n, next, scratch, row, o),
     }
@@ -79,7 +79,7 @@ fn quick_cell(
     at: usize,
     row: &mut [u8],
     o: usize,
-) -> Moved
+) -> Option<Moved>
     requires { (at ≤ length s.now) × (bound column.len ≤ most_elements) × (o ≤ length row.old) }
     ensures { MovesCell from to column flagged s.now at row.old o row.new result }
 {
@@ -100,14 +100,14 @@ pub fn move_cell(
     scratch: &mut [i64],
     row: &mut [u8],
     o: usize,
-) -> Moved
+) -> Option<Moved>
     requires { (at ≤ length s.now) × (bound column.len ≤ most_elements) × (most_elements ≤ length scratch.old) × (o ≤ length row.old) }
     ensures settles_cell { SettlesCell from to column flagged s.now at row.old o row.new result }
     ensures scratch_len_unchanged { length scratch.new ≡ length scratch.old }
 {
     let quick = quick_cell(from, to, column, flagged, s, at, row, o);
     match quick {
-        Moved::Cell(next, e, null) => Moved::Cell(next, e, null),
-        Moved::Careful => careful_cell(from, to, column, flagged, s, at, scratch, row, o),
+        Some(_) => quick,
+        None => careful_cell(from, to, column, flagged, s, at, scratch, row, o),
     }
 }

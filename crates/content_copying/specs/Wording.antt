@@ -1,5 +1,5 @@
 -- Words of integers that are written as they were read.
-use Rattle.std.specs.Prelude.{◌-◌, ◌<◌, ◌^◌, ◌≤◌, suc, ℕ, Bool, List, [], ◌++◌, ◌∷◌, ◌≡◌, ℤ, drop, get_or, take}
+use Rattle.std.specs.Prelude.{◌-◌, ◌<◌, ◌^◌, ◌≤◌, suc, ℕ, Bool, List, [], ◌++◌, ◌∷◌, ◌≡◌, ℤ, drop, get_or, take, Option, Some, None}
 use Rattle.content_copying.specs.Passing.{PassTo}
 use Rattle.content_copying.specs.declared.Word.{Word}
 use Rattle.moving.specs.Contents.{InText}
@@ -46,6 +46,6 @@ pub record WordCopied (k : Integer) (s : List ℕ) (at : ℕ) (old : List ℕ) (
   pub reads : InText (Whole (is_signed k) (width_of k)) s at next (z ∷ [])
   pub puts : Puts old o (shortest z ++ (32 ∷ [])) new e
 
-abbrev pub CopiesWord : Integer → List ℕ → ℕ → List ℕ → ℕ → List ℕ → Word → Type 0
-CopiesWord k s at old o new (Word.Is next e) = WordCopied k s at old o new next e
-CopiesWord k s at old o new Word.Careful = Puts old o [] new o
+abbrev pub CopiesWord : Integer → List ℕ → ℕ → List ℕ → ℕ → List ℕ → Option Word → Type 0
+CopiesWord k s at old o new (Some r) = WordCopied k s at old o new r.next r.end
+CopiesWord k s at old o new None = Puts old o [] new o

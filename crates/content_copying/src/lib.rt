@@ -43,18 +43,21 @@ fn itself_end(s: &[u8], from: usize) -> usize
 }
 
 // What stands between runs: a reference, a tab, a line's end, or a `>`, which is itself in a cell and is written as a reference.
-fn other_letter(s: &[u8], at: usize) -> Letter
+fn other_letter(s: &[u8], at: usize) -> Option<Letter>
     requires { at + 8 ≤ length s.now }
     ensures { LetterIs s.now at result }
 {
     if s[at] == b'>' {
-        return Letter::Is(b'>', at + 1);
+        return Some(Letter {
+            byte: b'>',
+            next: at + 1,
+        });
     }
     letter_at(s, at)
 }
 
 // Runs of bytes that go as they stand, and what stands between them, up to the `<` of the end tag.
-fn copy_text(s: &[u8], from: usize, row: &mut [u8], first: usize) -> Content
+fn copy_text(s: &[u8], from: usize, row: &mut [u8], first: usize) -> Option<Content>
     requires { (from ≤ length s.now) × (first ≤ length row.old) }
     ensures { MovesContent (InText Text s.now from) (AsText Text) row.old first row.new result }
 {
@@ -65,25 +68,27 @@ fn copy_text(s: &[u8], from: usize, row: &mut [u8], first: usize) -> Content
         let end = itself_end(s, at);
         let n = end - at;
         if s.len() - end < 8 {
-            return Content::Careful;
+            return None;
         }
         if row.len() - o < n + 8 {
-            return Content::Careful;
+            return None;
         }
         let e = copy_wide(s, at, n, row, o);
         count += n;
         if s[end] == b'<' {
             if count == 0 {
-                return Content::Careful;
+                return None;
             }
-            return Content::Elements(count, end, e);
+            return Some(Content {
+                count,
+                next: end,
+                end: e,
+            });
         }
-        let Letter::Is(c, next) = other_letter(s, end) else {
-            return Content::Careful;
-        };
+        let Letter { byte: c, next } = other_letter(s, end)?;
         o = put_reference(c, row, e);
         if o == e {
-            return Content::Careful;
+            return None;
         }
         count += 1;
         at = next;
@@ -117,23 +122,27 @@ fn bits_end(s: &[u8], from: usize) -> usize
 }
 
 // A bit is written as the letter it was read from.
-fn copy_bits(s: &[u8], from: usize, row: &mut [u8], first: usize) -> Content
+fn copy_bits(s: &[u8], from: usize, row: &mut [u8], first: usize) -> Option<Content>
     requires { (from ≤ length s.now) × (first ≤ length row.old) }
     ensures { MovesContent (InText Bits s.now from) (AsText Bits) row.old first row.new result }
 {
     let end = bits_end(s, from);
     let n = end - from;
     if n == 0 {
-        return Content::Careful;
+        return None;
     }
     if s.len() - end < 8 {
-        return Content::Careful;
+        return None;
     }
     if row.len() - first < n + 8 {
-        return Content::Careful;
+        return None;
     }
     let e = copy_wide(s, from, n, row, first);
-    Content::Elements(n, end, e)
+    Some(Content {
+        count: n,
+        next: end,
+        end: e,
+    })
 }
 
 // ---- integers: a word of digits that is the shortest of its integer goes as it stands, without its integer
@@ -231,31 +240,29 @@ fn word_end(integer: Integer, s: &[u8], at: usize) -> usize
     end
 }
 
-// A word's end, and the place after its bytes and a space behind them; or it is for the careful way.
+// A word's end, and the place after its bytes and a space behind them.
 #[derive(Clone, Copy)]
-enum Word {
-    Is(usize, usize),
-    Careful,
+struct Word {
+    next: usize,
+    end: usize,
 }
 
 // By its integer: what is not the shortest, or may be out of range.
-fn other_word(integer: Integer, s: &[u8], at: usize, row: &mut [u8], o: usize) -> Word
+fn other_word(integer: Integer, s: &[u8], at: usize, row: &mut [u8], o: usize) -> Option<Word>
     requires { (at ≤ length s.now) × (o + 40 ≤ length row.old) }
     ensures { CopiesWord integer s.now at row.old o row.new result }
 {
-    let One::Element(z, next) = text_integer(s, at, integer) else {
-        return Word::Careful;
-    };
+    let One { value: z, next } = text_integer(s, at, integer)?;
     let e = put_word(z, row, o);
-    Word::Is(next, e)
+    Some(Word { next, end: e })
 }
 
-fn copy_word(integer: Integer, s: &[u8], at: usize, row: &mut [u8], o: usize) -> Word
+fn copy_word(integer: Integer, s: &[u8], at: usize, row: &mut [u8], o: usize) -> Option<Word>
     requires { (at ≤ length s.now) × (o + 40 ≤ length row.old) }
     ensures { CopiesWord integer s.now at row.old o row.new result }
 {
     if s.len() - at < 32 {
-        return Word::Careful;
+        return None;
     }
     let end = word_end(integer, s, at);
     if end == at {
@@ -263,11 +270,20 @@ fn copy_word(integer: Integer, s: &[u8], at: usize, row: &mut [u8], o: usize) ->
     }
     let e = copy_wide(s, at, end - at, row, o);
     row[e] = 32;
-    Word::Is(end, e + 1)
+    Some(Word {
+        next: end,
+        end: e + 1,
+    })
 }
 
 // One space between; the space behind the last is left out.
-fn copy_integers(integer: Integer, s: &[u8], from: usize, row: &mut [u8], first: usize) -> Content
+fn copy_integers(
+    integer: Integer,
+    s: &[u8],
+    from: usize,
+    row: &mut [u8],
+    first: usize,
+) -> Option<Content>
     requires { (from ≤ length s.now) × (first ≤ length row.old) }
     ensures { MovesContent (InText (Whole (is_signed integer) (width_of integer)) s.now from) (AsText (Whole (is_signed integer) (width_of integer))) row.old first row.new result }
 {
@@ -276,17 +292,19 @@ fn copy_integers(integer: Integer, s: &[u8], from: usize, row: &mut [u8], first:
     let mut count: usize = 0;
     loop {
         if row.len() - o < 40 {
-            return Content::Careful;
+            return None;
         }
-        let Word::Is(next, e) = copy_word(integer, s, at, row, o) else {
-            return Content::Careful;
-        };
+        let Word { next, end: e } = copy_word(integer, s, at, row, o)?;
         count += 1;
         if s.len() <= next {
-            return Content::Careful;
+            return None;
         }
         if s[next] != b' ' {
-            return Content::Elements(count, next, e - 1);
+            return Some(Content {
+                count,
+                next,
+                end: e - 1,
+            });
         }
         o = e;
         at = next + 1;
@@ -305,7 +323,7 @@ fn put_truth(z: i64, row: &mut [u8], o: usize) -> usize
     next + 1
 }
 
-fn copy_truths(s: &[u8], from: usize, row: &mut [u8], first: usize) -> Content
+fn copy_truths(s: &[u8], from: usize, row: &mut [u8], first: usize) -> Option<Content>
     requires { (from ≤ length s.now) × (first ≤ length row.old) }
     ensures { MovesContent (InText Truths s.now from) (AsText Truths) row.old first row.new result }
 {
@@ -313,19 +331,21 @@ fn copy_truths(s: &[u8], from: usize, row: &mut [u8], first: usize) -> Content
     let mut o = first;
     let mut count: usize = 0;
     loop {
-        let One::Element(z, next) = text_truth(s, at) else {
-            return Content::Careful;
-        };
+        let One { value: z, next } = text_truth(s, at)?;
         if s.len() <= next {
-            return Content::Careful;
+            return None;
         }
         if row.len() - o < 2 {
-            return Content::Careful;
+            return None;
         }
         o = put_truth(z, row, o);
         count += 1;
         if s[next] != b' ' {
-            return Content::Elements(count, next, o - 1);
+            return Some(Content {
+                count,
+                next,
+                end: o - 1,
+            });
         }
         at = next + 1;
     }
@@ -333,7 +353,7 @@ fn copy_truths(s: &[u8], from: usize, row: &mut [u8], first: usize) -> Content
 
 // ---- a content
 
-pub fn copy_content(kind: Kind, s: &[u8], at: usize, row: &mut [u8], o: usize) -> Content
+pub fn copy_content(kind: Kind, s: &[u8], at: usize, row: &mut [u8], o: usize) -> Option<Content>
     requires { (at ≤ length s.now) × (o ≤ length row.old) }
     ensures { MovesContent (InText (shape kind) s.now at) (AsText (shape kind)) row.old o row.new result }
 {

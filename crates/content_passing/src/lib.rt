@@ -32,25 +32,31 @@ fn truth_letter(b: u8) -> u8
 // ---- one element
 
 // An integer by its value.
-pub fn binary_integer(s: &[u8], at: usize, integer: Integer) -> One
+pub fn binary_integer(s: &[u8], at: usize, integer: Integer) -> Option<One>
     requires { at + size integer ≤ length s.now }
     ensures { FindsOne (InBinary (Whole (is_signed integer) (width_of integer)) 1 s.now at) result }
 {
     let value = integers::read_integer(s, at, integer);
-    One::Element(value, at + number::integer_bytes(integer))
+    Some(One {
+        value,
+        next: at + number::integer_bytes(integer),
+    })
 }
 
 // A boolean by its value.
-pub fn binary_truth(s: &[u8], at: usize) -> One
+pub fn binary_truth(s: &[u8], at: usize) -> Option<One>
     requires { at < length s.now }
     ensures { FindsOne (InBinary Truths 1 s.now at) result }
 {
     let letter = truth_letter(s[at]);
     if letter == 0 {
-        return One::Careful;
+        return None;
     }
     let value = ((letter == b'T') as u8) + ((letter == b'?') as u8) * 2;
-    One::Element(value as i64, at + 1)
+    Some(One {
+        value: value as i64,
+        next: at + 1,
+    })
 }
 
 // The low bytes of an integer, as many as its kind has.
@@ -104,13 +110,17 @@ fn pass_integers(
     at: usize,
     row: &mut [u8],
     o: usize,
-) -> Content
+) -> Option<Content>
     requires { (n ≤ most_elements) × (at + n * size integer + 8 ≤ length s.now) × (o + n * size integer + 8 ≤ length row.old) }
     ensures { Passes (Whole (is_signed integer) (width_of integer)) n s.now at row.old o row.new result }
 {
     let bytes = n * number::integer_bytes(integer);
     let end = copy(s, at, bytes, row, o);
-    Content::Elements(n, at + bytes, end)
+    Some(Content {
+        count: n,
+        next: at + bytes,
+        end,
+    })
 }
 
 // ---- characters
@@ -135,16 +145,20 @@ fn letters_in(n: usize, s: &[u8], at: usize) -> usize
 }
 
 // "A char cell shows the characters before the first NUL": a byte before it that is no letter is for the careful way.
-fn pass_text(n: usize, s: &[u8], at: usize, row: &mut [u8], o: usize) -> Content
+fn pass_text(n: usize, s: &[u8], at: usize, row: &mut [u8], o: usize) -> Option<Content>
     requires { (at + n + 8 ≤ length s.now) × (o + n + 8 ≤ length row.old) }
     ensures { Passes Text n s.now at row.old o row.new result }
 {
     let shown = letters_in(n, s, at);
     if (shown < n) & (s[at + shown] != 0) {
-        return Content::Careful;
+        return None;
     }
     let end = copy(s, at, shown, row, o);
-    Content::Elements(shown, at + n, end)
+    Some(Content {
+        count: shown,
+        next: at + n,
+        end,
+    })
 }
 
 // ---- bits
@@ -164,22 +178,26 @@ fn is_padded(n: usize, s: &[u8], at: usize) -> bool
 }
 
 // A padding bit that is 1 is for the careful way.
-fn pass_bits(n: usize, s: &[u8], at: usize, row: &mut [u8], o: usize) -> Content
+fn pass_bits(n: usize, s: &[u8], at: usize, row: &mut [u8], o: usize) -> Option<Content>
     requires { (n ≤ most_elements) × (at + bit_bytes n + 8 ≤ length s.now) × (o + bit_bytes n + 8 ≤ length row.old) }
     ensures { Passes Bits n s.now at row.old o row.new result }
 {
     if !is_padded(n, s, at) {
-        return Content::Careful;
+        return None;
     }
     let bytes = (n + 7) / 8;
     let end = copy(s, at, bytes, row, o);
-    Content::Elements(n, at + bytes, end)
+    Some(Content {
+        count: n,
+        next: at + bytes,
+        end,
+    })
 }
 
 // ---- booleans in a row
 
 // A byte that has no letter is for the careful way: that there is one is found behind the loop, which is vector code.
-fn pass_truths(n: usize, s: &[u8], at: usize, row: &mut [u8], o: usize) -> Content
+fn pass_truths(n: usize, s: &[u8], at: usize, row: &mut [u8], o: usize) -> Option<Content>
     requires { (at + n + 8 ≤ length s.now) × (o + n + 8 ≤ length row.old) }
     ensures { Passes Truths n s.now at row.old o row.new result }
 {
@@ -192,15 +210,26 @@ fn pass_truths(n: usize, s: &[u8], at: usize, row: &mut [u8], o: usize) -> Conte
         k += 1;
     }
     if none == 0 {
-        return Content::Elements(n, at + n, o + n);
+        return Some(Content {
+            count: n,
+            next: at + n,
+            end: o + n,
+        });
     }
-    Content::Careful
+    None
 }
 
 // ---- a content
 
 // The elements of a cell, after its count and before what it is filled up with.
-pub fn pass_content(kind: Kind, n: usize, s: &[u8], at: usize, row: &mut [u8], o: usize) -> Content
+pub fn pass_content(
+    kind: Kind,
+    n: usize,
+    s: &[u8],
+    at: usize,
+    row: &mut [u8],
+    o: usize,
+) -> Option<Content>
     requires { (n ≤ most_elements) × (at + content_bytes (shape kind) n + 8 ≤ length s.now) × (o + content_bytes (shape kind) n + 8 ≤ length row.old) }
     ensures { MovesContent (InBinary (shape kind) n s.now at) (AsBinary (shape kind)) row.old o row.new result }
 {

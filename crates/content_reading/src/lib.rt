@@ -35,18 +35,21 @@ fn truth_number(c: u8) -> u8
 }
 
 // One of `T t 1 F f 0 ?`; the byte after it is the caller's to look at.
-pub fn text_truth(s: &[u8], at: usize) -> One
+pub fn text_truth(s: &[u8], at: usize) -> Option<One>
     requires { at ≤ length s.now }
     ensures { FindsOne (InText Truths s.now at) result }
 {
     if s.len() <= at {
-        return One::Careful;
+        return None;
     }
     let z = truth_number(s[at]);
     if z == 3 {
-        return One::Careful;
+        return None;
     }
-    One::Element(z as i64, at + 1)
+    Some(One {
+        value: z as i64,
+        next: at + 1,
+    })
 }
 
 // ---- characters. The load that is tested must not also be what is stored: then neither is one instruction. So a run is found first, then copied.
@@ -86,51 +89,66 @@ fn plain_end(s: &[u8], from: usize) -> usize
     at
 }
 
-// A character and the place after it; or it is for the careful way.
+// A character and the place after it.
 #[derive(Clone, Copy)]
-pub enum Letter {
-    Is(u8, usize),
-    Careful,
+pub struct Letter {
+    pub byte: u8,
+    pub next: usize,
 }
 
 // A line's end or a tab, which stand for themselves too.
-fn line_end(s: &[u8], at: usize) -> Letter
+fn line_end(s: &[u8], at: usize) -> Option<Letter>
     requires { at + 1 ≤ length s.now }
     ensures { LetterIs s.now at result }
 {
     let c = s[at];
     if c == 10 {
-        return Letter::Is(10, at + 1);
+        return Some(Letter {
+            byte: 10,
+            next: at + 1,
+        });
     }
     if c == 9 {
-        return Letter::Is(9, at + 1);
+        return Some(Letter {
+            byte: 9,
+            next: at + 1,
+        });
     }
-    Letter::Careful
+    None
 }
 
 // The references that are written, and what else stands for itself.
-pub fn letter_at(s: &[u8], at: usize) -> Letter
+pub fn letter_at(s: &[u8], at: usize) -> Option<Letter>
     requires { at + 8 ≤ length s.now }
     ensures { LetterIs s.now at result }
 {
     let x = four_bytes(s, at);
     if x == 0x266c743b {
-        return Letter::Is(b'<', at + 4);
+        return Some(Letter {
+            byte: b'<',
+            next: at + 4,
+        });
     }
     if x == 0x2667743b {
-        return Letter::Is(b'>', at + 4);
+        return Some(Letter {
+            byte: b'>',
+            next: at + 4,
+        });
     }
     if x != 0x26616d70 {
         return line_end(s, at);
     }
     if s[at + 4] != b';' {
-        return Letter::Careful;
+        return None;
     }
-    Letter::Is(b'&', at + 5)
+    Some(Letter {
+        byte: b'&',
+        next: at + 5,
+    })
 }
 
 // Runs of bytes that stand for themselves, and what stands between them, up to the `<` of the end tag.
-fn read_text(s: &[u8], from: usize, row: &mut [u8], first: usize) -> Content
+fn read_text(s: &[u8], from: usize, row: &mut [u8], first: usize) -> Option<Content>
     requires { (from ≤ length s.now) × (first ≤ length row.old) }
     ensures { MovesContent (InText Text s.now from) (AsBinary Text) row.old first row.new result }
 {
@@ -140,21 +158,23 @@ fn read_text(s: &[u8], from: usize, row: &mut [u8], first: usize) -> Content
         let end = plain_end(s, at);
         let n = end - at;
         if s.len() - end < 8 {
-            return Content::Careful;
+            return None;
         }
         if row.len() - o < n + 16 {
-            return Content::Careful;
+            return None;
         }
         o = copy_wide(s, at, n, row, o);
         if s[end] == b'<' {
             if o == first {
-                return Content::Careful;
+                return None;
             }
-            return Content::Elements(o - first, end, o);
+            return Some(Content {
+                count: o - first,
+                next: end,
+                end: o,
+            });
         }
-        let Letter::Is(c, next) = letter_at(s, end) else {
-            return Content::Careful;
-        };
+        let Letter { byte: c, next } = letter_at(s, end)?;
         row[o] = c;
         o += 1;
         at = next;
@@ -189,7 +209,7 @@ fn bit_byte(x: u64, n: usize) -> u8
 }
 
 // Eight bits make a byte; fewer than eight are the last.
-fn read_bits(s: &[u8], from: usize, row: &mut [u8], first: usize) -> Content
+fn read_bits(s: &[u8], from: usize, row: &mut [u8], first: usize) -> Option<Content>
     requires { (from ≤ length s.now) × (first ≤ length row.old) }
     ensures { MovesContent (InText Bits s.now from) (AsBinary Bits) row.old first row.new result }
 {
@@ -197,10 +217,10 @@ fn read_bits(s: &[u8], from: usize, row: &mut [u8], first: usize) -> Content
     let mut o = first;
     loop {
         if s.len() - at < 8 {
-            return Content::Careful;
+            return None;
         }
         if row.len() <= o {
-            return Content::Careful;
+            return None;
         }
         let x = eight_bytes(s, at);
         let n = first_of(no_bits(x));
@@ -209,22 +229,36 @@ fn read_bits(s: &[u8], from: usize, row: &mut [u8], first: usize) -> Content
         }
         if n < 8 {
             row[o] = bit_byte(x, n);
-            return Content::Elements(at + n - from, at + n, o + 1);
+            return Some(Content {
+                count: at + n - from,
+                next: at + n,
+                end: o + 1,
+            });
         }
         row[o] = bit_byte(x, 8);
         o += 1;
         at += 8;
     }
     if at == from {
-        return Content::Careful;
+        return None;
     }
-    Content::Elements(at - from, at, o)
+    Some(Content {
+        count: at - from,
+        next: at,
+        end: o,
+    })
 }
 
 // ---- words with one space between
 
 // Each word's integer in the bytes of its kind.
-fn read_integers(s: &[u8], from: usize, integer: Integer, row: &mut [u8], first: usize) -> Content
+fn read_integers(
+    s: &[u8],
+    from: usize,
+    integer: Integer,
+    row: &mut [u8],
+    first: usize,
+) -> Option<Content>
     requires { (from ≤ length s.now) × (first ≤ length row.old) }
     ensures { MovesContent (InText (Whole (is_signed integer) (width_of integer)) s.now from) (AsBinary (Whole (is_signed integer) (width_of integer))) row.old first row.new result }
 {
@@ -233,25 +267,27 @@ fn read_integers(s: &[u8], from: usize, integer: Integer, row: &mut [u8], first:
     let mut count: usize = 0;
     loop {
         if s.len() - at < 32 {
-            return Content::Careful;
+            return None;
         }
         if row.len() - o < 8 {
-            return Content::Careful;
+            return None;
         }
-        let One::Element(z, next) = array_integer(s, at, integer) else {
-            return Content::Careful;
-        };
+        let One { value: z, next } = array_integer(s, at, integer)?;
         o = write_integer(row, o, integer, z);
         count += 1;
         if s[next] != b' ' {
-            return Content::Elements(count, next, o);
+            return Some(Content {
+                count,
+                next,
+                end: o,
+            });
         }
         at = next + 1;
     }
 }
 
 // Each word's integer in a byte.
-fn read_bytes(s: &[u8], from: usize, row: &mut [u8], first: usize) -> Content
+fn read_bytes(s: &[u8], from: usize, row: &mut [u8], first: usize) -> Option<Content>
     requires { (from ≤ length s.now) × (first ≤ length row.old) }
     ensures { MovesContent (InText (Whole false W1) s.now from) (AsBinary (Whole false W1)) row.old first row.new result }
 {
@@ -260,32 +296,36 @@ fn read_bytes(s: &[u8], from: usize, row: &mut [u8], first: usize) -> Content
     let mut count: usize = 0;
     loop {
         if s.len() - at < 4 {
-            return Content::Careful;
+            return None;
         }
         if row.len() <= o {
-            return Content::Careful;
+            return None;
         }
         let run = three_at(s, at);
         let number = run.number;
         let digits = run.count;
         if digits == 0 {
-            return Content::Careful;
+            return None;
         }
         if 255 < number {
-            return Content::Careful;
+            return None;
         }
         row[o] = number as u8;
         o += 1;
         count += 1;
         if s[at + digits] != b' ' {
-            return Content::Elements(count, at + digits, o);
+            return Some(Content {
+                count,
+                next: at + digits,
+                end: o,
+            });
         }
         at = at + digits + 1;
     }
 }
 
 // Bytes are short, and have a way of their own.
-fn read_whole(s: &[u8], at: usize, integer: Integer, row: &mut [u8], o: usize) -> Content
+fn read_whole(s: &[u8], at: usize, integer: Integer, row: &mut [u8], o: usize) -> Option<Content>
     requires { (at ≤ length s.now) × (o ≤ length row.old) }
     ensures { MovesContent (InText (Whole (is_signed integer) (width_of integer)) s.now at) (AsBinary (Whole (is_signed integer) (width_of integer))) row.old o row.new result }
 {
@@ -306,7 +346,7 @@ fn truth_byte(number: u8) -> u8
 }
 
 // Each letter's byte.
-fn read_truths(s: &[u8], from: usize, row: &mut [u8], first: usize) -> Content
+fn read_truths(s: &[u8], from: usize, row: &mut [u8], first: usize) -> Option<Content>
     requires { (from ≤ length s.now) × (first ≤ length row.old) }
     ensures { MovesContent (InText Truths s.now from) (AsBinary Truths) row.old first row.new result }
 {
@@ -315,20 +355,24 @@ fn read_truths(s: &[u8], from: usize, row: &mut [u8], first: usize) -> Content
     let mut count: usize = 0;
     loop {
         if s.len() - at < 2 {
-            return Content::Careful;
+            return None;
         }
         if row.len() <= o {
-            return Content::Careful;
+            return None;
         }
         let z = truth_number(s[at]);
         if z == 3 {
-            return Content::Careful;
+            return None;
         }
         row[o] = truth_byte(z);
         o += 1;
         count += 1;
         if s[at + 1] != b' ' {
-            return Content::Elements(count, at + 1, o);
+            return Some(Content {
+                count,
+                next: at + 1,
+                end: o,
+            });
         }
         at += 2;
     }
@@ -337,7 +381,7 @@ fn read_truths(s: &[u8], from: usize, row: &mut [u8], first: usize) -> Content
 // ---- the elements of a cell
 
 // The elements of a kind from a place on, up to what ends them: the end tag, or what is for the careful way.
-pub fn read_content(kind: Kind, s: &[u8], at: usize, row: &mut [u8], o: usize) -> Content
+pub fn read_content(kind: Kind, s: &[u8], at: usize, row: &mut [u8], o: usize) -> Option<Content>
     requires { (at ≤ length s.now) × (o ≤ length row.old) }
     ensures { MovesContent (InText (shape kind) s.now at) (AsBinary (shape kind)) row.old o row.new result }
 {

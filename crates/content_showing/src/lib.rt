@@ -215,7 +215,7 @@ pub fn put_reference(b: u8, row: &mut [u8], o: usize) -> usize
     o + reference_size(b)
 }
 
-fn show_text(n: usize, s: &[u8], at: usize, row: &mut [u8], o: usize) -> Content
+fn show_text(n: usize, s: &[u8], at: usize, row: &mut [u8], o: usize) -> Option<Content>
     requires { (at + n + 8 ≤ length s.now) × (o ≤ length row.old) }
     ensures { MovesContent (InBinary Text n s.now at) (AsText Text) row.old o row.new result }
 {
@@ -224,20 +224,28 @@ fn show_text(n: usize, s: &[u8], at: usize, row: &mut [u8], o: usize) -> Content
     loop {
         let run = text_run(s, at + k, n - k);
         if row.len() - e < run + 16 {
-            return Content::Careful;
+            return None;
         }
         e = copy_wide(s, at + k, run, row, e);
         k += run;
         if k == n {
-            return Content::Elements(k, at + n, e);
+            return Some(Content {
+                count: k,
+                next: at + n,
+                end: e,
+            });
         }
         let b = s[at + k];
         if b == 0 {
-            return Content::Elements(k, at + n, e);
+            return Some(Content {
+                count: k,
+                next: at + n,
+                end: e,
+            });
         }
         let next = put_reference(b, row, e);
         if next == e {
-            return Content::Careful;
+            return None;
         }
         e = next;
         k += 1;
@@ -264,7 +272,7 @@ fn show_integers(
     at: usize,
     row: &mut [u8],
     o: usize,
-) -> Content
+) -> Option<Content>
     requires { (0 < n) × (at + n * size integer ≤ length s.now) × (o ≤ length row.old) }
     ensures { MovesContent (InBinary (Whole (is_signed integer) (width_of integer)) n s.now at) (AsText (Whole (is_signed integer) (width_of integer))) row.old o row.new result }
 {
@@ -274,13 +282,17 @@ fn show_integers(
     let mut k: usize = 0;
     while k < n {
         if row.len() - e < 40 {
-            return Content::Careful;
+            return None;
         }
         e = put_word(read_integer(s, from, integer), row, e);
         from += width;
         k += 1;
     }
-    Content::Elements(n, from, e - 1)
+    Some(Content {
+        count: n,
+        next: from,
+        end: e - 1,
+    })
 }
 
 // The digits of a byte and a space, as four bytes; none stands before the first digit.
@@ -307,12 +319,12 @@ fn put_byte(b: u8, row: &mut [u8], o: usize) -> usize
     o + byte_size(b)
 }
 
-fn show_bytes(n: usize, s: &[u8], at: usize, row: &mut [u8], o: usize) -> Content
+fn show_bytes(n: usize, s: &[u8], at: usize, row: &mut [u8], o: usize) -> Option<Content>
     requires { (0 < n) × (n ≤ most_elements) × (at + n ≤ length s.now) × (o ≤ length row.old) }
     ensures { MovesContent (InBinary (Whole false W1) n s.now at) (AsText (Whole false W1)) row.old o row.new result }
 {
     if row.len() - o < 4 * n {
-        return Content::Careful;
+        return None;
     }
     let mut e = o;
     let mut k: usize = 0;
@@ -320,10 +332,21 @@ fn show_bytes(n: usize, s: &[u8], at: usize, row: &mut [u8], o: usize) -> Conten
         e = put_byte(s[at + k], row, e);
         k += 1;
     }
-    Content::Elements(n, at + n, e - 1)
+    Some(Content {
+        count: n,
+        next: at + n,
+        end: e - 1,
+    })
 }
 
-fn show_whole(integer: Integer, n: usize, s: &[u8], at: usize, row: &mut [u8], o: usize) -> Content
+fn show_whole(
+    integer: Integer,
+    n: usize,
+    s: &[u8],
+    at: usize,
+    row: &mut [u8],
+    o: usize,
+) -> Option<Content>
     requires { (0 < n) × (n ≤ most_elements) × (at + n * size integer ≤ length s.now) × (o ≤ length row.old) }
     ensures { MovesContent (InBinary (Whole (is_signed integer) (width_of integer)) n s.now at) (AsText (Whole (is_signed integer) (width_of integer))) row.old o row.new result }
 {
@@ -369,19 +392,23 @@ fn put_bits(size: usize, s: &[u8], at: usize, row: &mut [u8], o: usize)
     }
 }
 
-fn show_bits(n: usize, s: &[u8], at: usize, row: &mut [u8], o: usize) -> Content
+fn show_bits(n: usize, s: &[u8], at: usize, row: &mut [u8], o: usize) -> Option<Content>
     requires { (0 < n) × (n ≤ most_elements) × (at + bit_bytes n ≤ length s.now) × (o ≤ length row.old) }
     ensures { MovesContent (InBinary Bits n s.now at) (AsText Bits) row.old o row.new result }
 {
     let size = (n + 7) / 8;
     if row.len() - o < 8 * size {
-        return Content::Careful;
+        return None;
     }
     if !is_padded(n, s, at) {
-        return Content::Careful;
+        return None;
     }
     put_bits(size, s, at, row, o);
-    Content::Elements(n, at + size, o + n)
+    Some(Content {
+        count: n,
+        next: at + size,
+        end: o + n,
+    })
 }
 
 // ---- booleans
@@ -423,27 +450,42 @@ fn put_truths(n: usize, s: &[u8], at: usize, row: &mut [u8], o: usize) -> u8
 }
 
 // The space behind the last is left out.
-fn show_truths(n: usize, s: &[u8], at: usize, row: &mut [u8], o: usize) -> Content
+fn show_truths(n: usize, s: &[u8], at: usize, row: &mut [u8], o: usize) -> Option<Content>
     requires { (0 < n) × (n ≤ most_elements) × (at + n ≤ length s.now) × (o ≤ length row.old) }
     ensures { MovesContent (InBinary Truths n s.now at) (AsText Truths) row.old o row.new result }
 {
     if row.len() - o < 2 * n {
-        return Content::Careful;
+        return None;
     }
     if put_truths(n, s, at, row, o) != 0 {
-        return Content::Careful;
+        return None;
     }
-    Content::Elements(n, at + n, o + 2 * n - 1)
+    Some(Content {
+        count: n,
+        next: at + n,
+        end: o + 2 * n - 1,
+    })
 }
 
 // ---- a content
 
-pub fn show_content(kind: Kind, n: usize, s: &[u8], at: usize, row: &mut [u8], o: usize) -> Content
+pub fn show_content(
+    kind: Kind,
+    n: usize,
+    s: &[u8],
+    at: usize,
+    row: &mut [u8],
+    o: usize,
+) -> Option<Content>
     requires { (n ≤ most_elements) × (at + content_bytes (shape kind) n + 8 ≤ length s.now) × (o ≤ length row.old) }
     ensures { MovesContent (InBinary (shape kind) n s.now at) (AsText (shape kind)) row.old o row.new result }
 {
     if n == 0 {
-        return Content::Elements(0, at, o);
+        return Some(Content {
+            count: 0,
+            next: at,
+            end: o,
+        });
     }
     match elements_of(kind) {
         Elements::Truths => show_truths(n, s, at, row, o),

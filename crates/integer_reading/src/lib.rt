@@ -149,24 +149,27 @@ fn with_sign(minus: bool, number: u64) -> i64
 }
 
 // A word of digits, with a minus before it or not; the byte after it is the caller's to look at.
-pub fn text_integer(s: &[u8], at: usize, integer: Integer) -> One
+pub fn text_integer(s: &[u8], at: usize, integer: Integer) -> Option<One>
     requires { at ≤ length s.now }
     ensures { FindsOne (InText (Whole (is_signed integer) (width_of integer)) s.now at) result }
 {
     if s.len() - at < 32 {
-        return One::Careful;
+        return None;
     }
     let first = after_minus(s, at, is_signed(integer));
     let run = digits_at(s, first);
     let number = run.number;
     let count = run.count;
     if count == 0 {
-        return One::Careful;
+        return None;
     }
     if top_of(integer) < number {
-        return One::Careful;
+        return None;
     }
-    One::Element(with_sign(first != at, number), first + count)
+    Some(One {
+        value: with_sign(first != at, number),
+        next: first + count,
+    })
 }
 
 // ---- a word among others
@@ -201,22 +204,26 @@ fn short_run(x: u64, s: &[u8], behind: usize) -> Run
 }
 
 // A word that is not short.
-fn long_integer(s: &[u8], at: usize, integer: Integer) -> One
+fn long_integer(s: &[u8], at: usize, integer: Integer) -> Option<One>
     requires { at ≤ length s.now }
     ensures { FindsOne (InText (Whole (is_signed integer) (width_of integer)) s.now at) result × EndsBefore (length s.now) result }
 {
-    let One::Element(z, end) = text_integer(s, at, integer) else {
-        return One::Careful;
-    };
+    let One {
+        value: z,
+        next: end,
+    } = text_integer(s, at, integer)?;
     if s.len() <= end {
-        return One::Careful;
+        return None;
     }
-    One::Element(z, end)
+    Some(One {
+        value: z,
+        next: end,
+    })
 }
 
 // A word among others, which does not wait for its sign: a minus counts as a zero before its digits. Called in one place, so that the compiler
 // makes one loop of it.
-pub fn array_integer(s: &[u8], at: usize, integer: Integer) -> One
+pub fn array_integer(s: &[u8], at: usize, integer: Integer) -> Option<One>
     requires { at + 32 ≤ length s.now }
     ensures { FindsOne (InText (Whole (is_signed integer) (width_of integer)) s.now at) result × EndsBefore (length s.now) result }
 {
@@ -229,9 +236,12 @@ pub fn array_integer(s: &[u8], at: usize, integer: Integer) -> One
         return long_integer(s, at, integer);
     }
     if top_of(integer) < number {
-        return One::Careful;
+        return None;
     }
-    One::Element(with_sign(first != at, number), at + count)
+    Some(One {
+        value: with_sign(first != at, number),
+        next: at + count,
+    })
 }
 
 // ---- words of one to three digits, without a branch on how many

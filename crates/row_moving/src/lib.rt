@@ -31,30 +31,22 @@ pub struct Done {
     pub bytes: usize,
 }
 
-// A row as it stands in the buffer, of so many bytes; or the buffer has no room for it.
-#[derive(Clone, Copy)]
-pub enum Framed {
-    Row(usize),
-    TooLong,
-}
-
 // Room for what stands around a row's cells.
 const MOST_FRAME_BYTES: usize = 8;
 
 // A row above this is copied by vectors.
 const MOST_BY_EIGHTS: usize = 128;
 
-// What begins a row and what ends it, around its cells, which end at a place of the buffer.
-fn frame_row(to: Rows, count: usize, nulls: u64, row: &mut [u8], end: usize) -> Framed
+// What begins a row and what ends it, around its cells, which end at a place of the buffer: the bytes of the row, unless the buffer has no room for it.
+fn frame_row(to: Rows, count: usize, nulls: u64, row: &mut [u8], end: usize) -> Option<usize>
     requires { (count ≤ 64) × (most_frame_bytes ≤ length row.old) × (end ≤ length row.old) }
     ensures { FramesRow to count nulls row.old end row.new result }
 {
     if row.len() - end < MOST_FRAME_BYTES {
-        return Framed::TooLong;
+        return None;
     }
     write_start(to, count, nulls, row, 0);
-    let size = write_end(to, row, end);
-    Framed::Row(size)
+    Some(write_end(to, row, end))
 }
 
 // ---- the first bytes of the buffer, to the output, and not a byte more
@@ -191,14 +183,14 @@ pub fn move_rows(
             let step = plan.list[i];
             let planned = move_planned(from, to, step, flagged, s, at, row, end);
             match planned {
-                Moved::Cell(next, e, null) => {
+                Some(Moved { next, end: e, null }) => {
                     at = next;
                     end = e;
                     nulls = add_flag(nulls, i, null);
                 }
-                Moved::Careful => {
+                None => {
                     let c = cols.list[i];
-                    let Moved::Cell(next, e, null) = move_cell(
+                    let Some(Moved { next, end: e, null }) = move_cell(
                         from, to, c, flagged, s, at, scratch, row, end,
                     ) else {
                         break 'rows;
@@ -213,7 +205,7 @@ pub fn move_rows(
         let Close::Closed(next) = end_row(from, s, at) else {
             break 'rows;
         };
-        let Framed::Row(size) = frame_row(to, count, nulls, row, end) else {
+        let Some(size) = frame_row(to, count, nulls, row, end) else {
             break 'rows;
         };
         if out.len() - bytes < size {

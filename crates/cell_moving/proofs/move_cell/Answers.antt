@@ -1,4 +1,5 @@
 -- cell_moving::move_cell: what the quick way moves is moved; what it declines leaves what stands before its place, and the careful way goes on there.
+use Rattle.std.specs.Prelude.{None}
 use mathlib.Core.Path.{refl, subst}
 use native.Mathlib.Omega.{arith}
 use borrow.Author.Rules.{rules}
@@ -18,7 +19,7 @@ returns-in-Cell c =
 
 pub careful_cell-requires : goal.careful_cell-requires
 careful_cell-requires c =
-    let declined : let a = c.args in MovesCell a.from a.to a.column a.flagged a.s.now a.at a.row.now a.o c.quick_cell-quick.new.row Moved.Careful = (let a = c.args in
+    let declined : let a = c.args in MovesCell a.from a.to a.column a.flagged a.s.now a.at a.row.now a.o c.quick_cell-quick.new.row None = (let a = c.args in
     let q = c.quick_cell-quick in
     subst (MovesCell a.from a.to a.column a.flagged a.s.now a.at a.row.now a.o q.new.row) c.in-Careful.is q.ensures) in
     let u = declined in
@@ -26,7 +27,7 @@ careful_cell-requires c =
 
 pub returns-in-Careful : goal.returns-in-Careful
 returns-in-Careful c =
-    let declined : let a = c.args in MovesCell a.from a.to a.column a.flagged a.s.now a.at a.row.now a.o c.quick_cell-quick.new.row Moved.Careful = (let a = c.args in
+    let declined : let a = c.args in MovesCell a.from a.to a.column a.flagged a.s.now a.at a.row.now a.o c.quick_cell-quick.new.row None = (let a = c.args in
     let q = c.quick_cell-quick in
     subst (MovesCell a.from a.to a.column a.flagged a.s.now a.at a.row.now a.o q.new.row) c.in-Careful.is q.ensures) in
     let a = c.args in

@@ -1,4 +1,5 @@
 -- `content_copying::copy_text` meets its contract: before each turn the characters passed over stand in the buffer as they are written.
+use Rattle.std.specs.Prelude.{Some}
 use Prim.Native.Nat.{◌+◌, ◌-◌, ◌≤◌}
 use native.Mathlib.Omega.{arith}
 use mathlib.Core.Path.{◌∙◌}
@@ -116,14 +117,14 @@ pub overflow_add-count-in-loop-from : goal.overflow_add-count-in-loop-from
 overflow_add-count-in-loop-from c =
     let copied : let a = c.args in TextTo a.s.now a.from c.itself_end-end.result a.row.now a.first c.copy_wide-e.new.row c.copy_wide-e.result
     (c.loop-from.count + (c.itself_end-end.result - c.loop-from.at)) = text-run c.loop-from.invariant c.itself_end-end.ensures c.copy_wide-e.ensures in
-    let letter : LetterIs c.args.s.now c.itself_end-end.result (Letter.Is c.in-Is.c c.in-Is.next) = c.in-Is.ensures in
+    let letter : LetterIs c.args.s.now c.itself_end-end.result (Some (record { byte = c.in-Is.c; next = c.in-Is.next })) = c.in-Is.ensures in
     let r = copied in
     let l = letter in
     let h = r.few in let k = l.0.inside in let m = l.2 in search rules
 
 pub loop-from-smaller : goal.loop-from-smaller
 loop-from-smaller c =
-    let letter : LetterIs c.args.s.now c.itself_end-end.result (Letter.Is c.in-Is.c c.in-Is.next) = c.in-Is.ensures in
+    let letter : LetterIs c.args.s.now c.itself_end-end.result (Some (record { byte = c.in-Is.c; next = c.in-Is.next })) = c.in-Is.ensures in
     let l = letter in
     let p = c.itself_end-end.ensures in omega (arith, p.low, l.2, l.0.inside)
 
@@ -131,5 +132,5 @@ pub loop-from-preserved : goal.loop-from-preserved
 loop-from-preserved c =
     let copied : let a = c.args in TextTo a.s.now a.from c.itself_end-end.result a.row.now a.first c.copy_wide-e.new.row c.copy_wide-e.result
     (c.loop-from.count + (c.itself_end-end.result - c.loop-from.at)) = text-run c.loop-from.invariant c.itself_end-end.ensures c.copy_wide-e.ensures in
-    let letter : LetterIs c.args.s.now c.itself_end-end.result (Letter.Is c.in-Is.c c.in-Is.next) = c.in-Is.ensures in
+    let letter : LetterIs c.args.s.now c.itself_end-end.result (Some (record { byte = c.in-Is.c; next = c.in-Is.next })) = c.in-Is.ensures in
     text-letter copied letter c.if-o-e.false c.put_reference-o.ensures

@@ -1,4 +1,5 @@
 -- `content_reading::read_text` meets its contract: before each turn the characters passed over stand in the buffer.
+use Rattle.std.specs.Prelude.{Some}
 use Prim.Native.Nat.{◌<◌}
 use native.Mathlib.Omega.{arith}
 use mathlib.Core.Path.{subst}
@@ -109,7 +110,7 @@ overflow_add-o c =
 
 pub loop-from-smaller : goal.loop-from-smaller
 loop-from-smaller c =
-    let letter : LetterIs c.args.s.now c.plain_end-end.result (Letter.Is c.in-Is.c c.in-Is.next) = subst (LetterIs _ _) c.in-Is.is c.letter_at.ensures in
+    let letter : LetterIs c.args.s.now c.plain_end-end.result (Some (record { byte = c.in-Is.c; next = c.in-Is.next })) = subst (LetterIs _ _) c.in-Is.is c.letter_at.ensures in
     let l = letter in let p = c.plain_end-end.ensures in
     omega (arith, p.0, l.2, l.0.inside)
 
@@ -117,7 +118,7 @@ pub loop-from-preserved : goal.loop-from-preserved
 loop-from-preserved c =
     let copied : let a = c.args in TextTo a.s.now a.from c.plain_end-end.result a.row.now a.first c.copy_wide-o.new.row c.copy_wide-o.result =
     text-run c.loop-from.invariant c.plain_end-end.ensures.0 c.plain_end-end.ensures.1 c.copy_wide-o.ensures in
-    let letter : LetterIs c.args.s.now c.plain_end-end.result (Letter.Is c.in-Is.c c.in-Is.next) = subst (LetterIs _ _) c.in-Is.is c.letter_at.ensures in
+    let letter : LetterIs c.args.s.now c.plain_end-end.result (Some (record { byte = c.in-Is.c; next = c.in-Is.next })) = subst (LetterIs _ _) c.in-Is.is c.letter_at.ensures in
     let room : c.copy_wide-o.result < length c.copy_wide-o.new.row = (let q = c.copy_wide-o.ensures in
     omega (arith, passes-length c.plain_end-end.ensures.1, q.next-is, q.long)) in
     text-letter copied letter room

@@ -1,6 +1,7 @@
 -- row_moving::move_rows: rows made in the buffer and copied. Over columns: what is read of the row is what has been read and what is still to come
 -- (RowRead), and its cells stand in the buffer as they are written (RowMoved). Over rows: some rows more are moved (RowsMoved). A way out gives back
 -- what was done before, and says why no row is moved there (Stopping).
+use Rattle.std.specs.Prelude.{Some, None}
 use Prim.Native.Nat.{◌+◌, ◌-◌, ◌<◌, ◌≤◌, suc, ℕ}
 use mathlib.Core.Bool.{Bool}
 use mathlib.Core.List.{List, [], ◌++◌, ◌∷◌}
@@ -203,7 +204,7 @@ loop-i-preserved c =
           let m = w.move_cell in
           let n = w.in-Cell-move_cell in
           let y = subst (SettlesCell from_at to_at column-at flag_at s-at l.at planned-row l.end m.new.row) n.is m.ensures.settles_cell in
-          let x = settled-after from_at to_at column-at flag_at s-at l.at l.row l.end planned-row _ (Moved.Cell n.next n.e n.null) declined y in
+          let x = settled-after from_at to_at column-at flag_at s-at l.at l.row l.end planned-row _ (Some (record { next = n.next; end = n.e; null = n.null })) declined y in
           let a = advance _ _ _ _ _ x w.add_flag-nulls-in-Careful.ensures in
           rw (w.scratch-is, w.row-is, w.at-is, w.end-is, w.nulls-is) (a.0, a.1, m.ensures.scratch_len_unchanged ∙ l.invariant.2)
     ]
@@ -377,7 +378,7 @@ shape_of-row-in_default c =
     let unmoved-cell : let l = c.loop-i in CellLeft from_at to_at column-at flag_at s-at l.at l.row l.end c.move_cell.new.row = (
     let l = c.loop-i in
     let m = c.move_cell in
-    settled-after from_at to_at column-at flag_at s-at l.at l.row l.end planned-row _ Moved.Careful declined
+    settled-after from_at to_at column-at flag_at s-at l.at l.row l.end planned-row _ None declined
     (subst (SettlesCell from_at to_at column-at _ s-at l.at planned-row l.end _) c.in_default.is m.ensures.settles_cell)) in
     let l = c.loop-i in
     unmoved-cell.puts.long ∙ l.invariant.1.puts.long ∙ c.rows.invariant.2
@@ -409,7 +410,7 @@ returns-in_default c =
     let unmoved-cell : let l = c.loop-i in CellLeft from_at to_at column-at flag_at s-at l.at l.row l.end c.move_cell.new.row = (
     let l = c.loop-i in
     let m = c.move_cell in
-    settled-after from_at to_at column-at flag_at s-at l.at l.row l.end planned-row _ Moved.Careful declined
+    settled-after from_at to_at column-at flag_at s-at l.at l.row l.end planned-row _ None declined
     (subst (SettlesCell from_at to_at column-at _ s-at l.at planned-row l.end _) c.in_default.is m.ensures.settles_cell)) in
     let uncelled : LeftAt = (
     let l = c.loop-i in

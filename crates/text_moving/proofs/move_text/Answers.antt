@@ -1,4 +1,5 @@
 -- `text_moving::move_text` meets its contract: by how the cell begins.
+use Rattle.std.specs.Prelude.{Some}
 use mathlib.Core.Path.{subst}
 use Rattle.moving.proofs.Puts.{puts_none}
 use Rattle.text_moving.proofs.Cells.{empty-moved, text-moved}
@@ -13,7 +14,7 @@ returns-then-row-o-lt-ROOM c = λ flagged. puts_none _ _ c.requires.2
 
 pub move_content-requires : goal.move_content-requires
 move_content-requires c =
-    let opened : let a = c.args in OpensAs a.s.now a.at (Opening.Content c.in-Content.from) = c.in-Content.ensures in
+    let opened : let a = c.args in OpensAs a.s.now a.at (Some (Opening.Content c.in-Content.from)) = c.in-Content.ensures in
     (opened.2, c.requires.1, omega (arith, c.if-row-o-lt-ROOM.false, c.requires.2))
 
 pub returns-in-Careful : goal.returns-in-Careful
@@ -28,7 +29,7 @@ returns-in-Empty c =
 
 pub returns-in-Content : goal.returns-in-Content
 returns-in-Content c =
-    let opened : let a = c.args in OpensAs a.s.now a.at (Opening.Content c.in-Content.from) = c.in-Content.ensures in
+    let opened : let a = c.args in OpensAs a.s.now a.at (Some (Opening.Content c.in-Content.from)) = c.in-Content.ensures in
     let a = c.args in
     let move = c.move_content in
     λ flagged. text-moved a.column a.s.now a.at a.to flagged a.row.now a.o move.new.row move.result
