@@ -1,7 +1,7 @@
 // Contents of cells that go from BINARY or BINARY2 to BINARY or BINARY2: most go as they stand.
 #![tactic(auto)]
 
-ghost use Rattle.std.specs.Prelude.{[], ◌∷◌, ◌≡◌, ◌*◌, ◌+◌, ◌<◌, ◌≤◌, drop, length, take};
+ghost use Rattle.std.specs.Prelude.{Some, [], ◌∷◌, ◌≡◌, ◌*◌, ◌+◌, ◌<◌, ◌≤◌, drop, length, take};
 ghost use Rattle.eights.specs.Marks.{is_letter, run};
 ghost use Rattle.moving.specs.Contents.{AsBinary, FindsOne, InBinary, MovesContent, content_form};
 ghost use Rattle.moving.specs.Puts.{Puts};
@@ -20,7 +20,7 @@ use table::Kind;
 // ---- booleans
 
 // The letter that a byte of a boolean is written as, 0 for a byte that is none. No branch, so that a loop over it is vector code.
-fn truth_letter(b: u8) -> u8
+pub fn truth_letter(b: u8) -> u8
     ensures { result ≡ letter_of (truth b) }
 {
     let is_true = (b == b'T') | (b == b't') | (b == b'1');
@@ -32,15 +32,15 @@ fn truth_letter(b: u8) -> u8
 // ---- one element
 
 // An integer by its value.
-pub fn binary_integer(s: &[u8], at: usize, integer: Integer) -> Option<One>
+pub fn binary_integer(s: &[u8], at: usize, integer: Integer) -> One
     requires { at + size integer ≤ length s.now }
-    ensures { FindsOne (InBinary (Whole (is_signed integer) (width_of integer)) 1 s.now at) result }
+    ensures { FindsOne (InBinary (Whole (is_signed integer) (width_of integer)) 1 s.now at) (Some result) }
 {
     let value = integers::read_integer(s, at, integer);
-    Some(One {
+    One {
         value,
         next: at + number::integer_bytes(integer),
-    })
+    }
 }
 
 // A boolean by its value.
@@ -83,10 +83,8 @@ fn copy_many(s: &[u8], from: usize, n: usize, row: &mut [u8], o: usize) -> usize
     requires { (from + n + 8 ≤ length s.now) × (o + n + 8 ≤ length row.old) }
     ensures { Puts row.old o (take n (drop from s.now)) row.new result }
 {
-    let mut k: usize = 0;
-    while k < n {
+    for k in 0..n {
         row[o + k] = s[from + k];
-        k += 1;
     }
     o + n
 }
@@ -134,10 +132,7 @@ fn letters_in(n: usize, s: &[u8], at: usize) -> usize
     while k < n {
         let ahead = letters_ahead(s, at + k);
         if ahead < 8 {
-            if n < k + ahead {
-                return n;
-            }
-            return k + ahead;
+            return n.min(k + ahead);
         }
         k += 8;
     }
@@ -164,8 +159,8 @@ fn pass_text(n: usize, s: &[u8], at: usize, row: &mut [u8], o: usize) -> Option<
 // ---- bits
 
 // Are the bits behind the n-th 0?
-fn is_padded(n: usize, s: &[u8], at: usize) -> bool
-    requires { (n ≤ most_elements) × (at + bit_bytes n + 8 ≤ length s.now) }
+pub fn is_padded(n: usize, s: &[u8], at: usize) -> bool
+    requires { (n ≤ most_elements) × (at + bit_bytes n ≤ length s.now) }
     ensures { result ≡ all_zero (drop n (bits_of (take (bit_bytes n) (drop at s.now)))) }
 {
     let bytes = (n + 7) / 8;
@@ -202,12 +197,10 @@ fn pass_truths(n: usize, s: &[u8], at: usize, row: &mut [u8], o: usize) -> Optio
     ensures { Passes Truths n s.now at row.old o row.new result }
 {
     let mut none: u8 = 0;
-    let mut k: usize = 0;
-    while k < n {
+    for k in 0..n {
         let letter = truth_letter(s[at + k]);
         row[o + k] = letter;
         none = none | ((letter == 0) as u8);
-        k += 1;
     }
     if none == 0 {
         return Some(Content {

@@ -13,6 +13,7 @@ ghost use Rattle.number.specs.Number.{digits, shortest, to_digits};
 ghost use Rattle.table.specs.Cell.{most_elements, truth_byte};
 ghost use Rattle.table.specs.Shape.{Bits, Text, Truths, W1, Whole, shape};
 
+use content_passing::{is_padded, truth_letter};
 use eights::{copy_wide, eight_digits, first_of};
 use integers::{eight_bytes, put_eight, put_four, read_integer};
 use moving::Content;
@@ -102,17 +103,6 @@ fn put_number(v: u64, row: &mut [u8], o: usize) -> usize
     put_long(v, row, o)
 }
 
-// z without its sign.
-fn magnitude(z: i64) -> u64
-    ensures { result ≡ nat_abs z }
-{
-    if 0 <= z {
-        z as u64
-    } else {
-        ((-1 - z) as u64) + 1
-    }
-}
-
 // The sign is stored whether it counts or not, so that nothing is branched on.
 fn put_sign(z: i64, row: &mut [u8], o: usize) -> usize
     requires { o + 1 ≤ length row.old }
@@ -127,7 +117,7 @@ pub fn show_integer(z: i64, row: &mut [u8], o: usize) -> usize
     ensures { Puts row.old o (shortest z) row.new result }
 {
     let next = put_sign(z, row, o);
-    put_number(magnitude(z), row, next)
+    put_number(z.unsigned_abs(), row, next)
 }
 
 // ---- "Booleans are `T`, `F`, `?`"
@@ -162,12 +152,6 @@ pub fn text_ahead(s: &[u8], at: usize) -> usize
     first_of(no_text(eight_bytes(s, at)))
 }
 
-fn smaller(a: usize, b: usize) -> usize
-    ensures { (result ≤ a) × (result ≤ b) }
-{
-    if a < b { a } else { b }
-}
-
 // How many of the next n bytes are, eight at a time.
 fn text_run(s: &[u8], at: usize, n: usize) -> usize
     requires { at + n + 8 ≤ length s.now }
@@ -177,7 +161,7 @@ fn text_run(s: &[u8], at: usize, n: usize) -> usize
     while k < n {
         let ahead = text_ahead(s, at + k);
         if ahead < 8 {
-            return smaller(k + ahead, n);
+            return n.min(k + ahead);
         }
         k += 8;
     }
@@ -279,14 +263,12 @@ fn show_integers(
     let width = integer_bytes(integer);
     let mut from = at;
     let mut e = o;
-    let mut k: usize = 0;
-    while k < n {
+    for _ in 0..n {
         if row.len() - e < 40 {
             return None;
         }
         e = put_word(read_integer(s, from, integer), row, e);
         from += width;
-        k += 1;
     }
     Some(Content {
         count: n,
@@ -327,10 +309,8 @@ fn show_bytes(n: usize, s: &[u8], at: usize, row: &mut [u8], o: usize) -> Option
         return None;
     }
     let mut e = o;
-    let mut k: usize = 0;
-    while k < n {
+    for k in 0..n {
         e = put_byte(s[at + k], row, e);
-        k += 1;
     }
     Some(Content {
         count: n,
@@ -371,24 +351,12 @@ fn bit_word(b: u8) -> u64
     z + 0x3030303030303030
 }
 
-// Is each bit after the n-th 0?
-fn is_padded(n: usize, s: &[u8], at: usize) -> bool
-    requires { (0 < n) × (n ≤ most_elements) × (at + bit_bytes n ≤ length s.now) }
-    ensures { result ≡ all_zero (drop n (bits_of (take (bit_bytes n) (drop at s.now)))) }
-{
-    let size = (n + 7) / 8;
-    let last = s[at + size - 1] as u64;
-    last % (1u64 << (8 * size - n)) == 0
-}
-
 fn put_bits(size: usize, s: &[u8], at: usize, row: &mut [u8], o: usize)
     requires { (at + size ≤ length s.now) × (o + 8 * size ≤ length row.old) }
     ensures { Puts row.old o (bit_letters (take size (drop at s.now))) row.new (o + 8 * size) }
 {
-    let mut k: usize = 0;
-    while k < size {
+    for k in 0..size {
         put_eight(row, o + 8 * k, bit_word(s[at + k]));
-        k += 1;
     }
 }
 
@@ -413,16 +381,6 @@ fn show_bits(n: usize, s: &[u8], at: usize, row: &mut [u8], o: usize) -> Option<
 
 // ---- booleans
 
-// The letter that a boolean's byte is written as, and 0 for a byte that is none. No test is a branch.
-fn truth_letter(b: u8) -> u8
-    ensures { result ≡ truth_shown b }
-{
-    let truth = ((b == 84) | (b == 116) | (b == 49)) as u8;
-    let falsehood = ((b == 70) | (b == 102) | (b == 48)) as u8;
-    let unknown = ((b == 0) | (b == 32) | (b == 63)) as u8;
-    truth * 84 + falsehood * 70 + unknown * 63
-}
-
 // A letter and a space behind it.
 fn put_truth(b: u8, row: &mut [u8], o: usize) -> u8
     requires { o + 2 ≤ length row.old }
@@ -440,11 +398,9 @@ fn put_truths(n: usize, s: &[u8], at: usize, row: &mut [u8], o: usize) -> u8
     ensures { TruthsPut (take n (drop at s.now)) row.old o row.new (o + 2 * n) result }
 {
     let mut bad: u8 = 0;
-    let mut k: usize = 0;
-    while k < n {
+    for k in 0..n {
         let letter = put_truth(s[at + k], row, o + 2 * k);
         bad = bad | ((letter == 0) as u8);
-        k += 1;
     }
     bad
 }

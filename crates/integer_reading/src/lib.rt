@@ -53,7 +53,7 @@ fn decimal_of(t: u64) -> u64
     b - (b >> 32) * 4294957296
 }
 
-// A run of digits: their number, and how many they are.
+// A run of digits: their number, and how many they are. No Option where none is taken: a count of 0 is found without a branch of its own.
 #[derive(Clone, Copy)]
 pub struct Run {
     pub number: u64,
@@ -208,17 +208,11 @@ fn long_integer(s: &[u8], at: usize, integer: Integer) -> Option<One>
     requires { at ≤ length s.now }
     ensures { FindsOne (InText (Whole (is_signed integer) (width_of integer)) s.now at) result × EndsBefore (length s.now) result }
 {
-    let One {
-        value: z,
-        next: end,
-    } = text_integer(s, at, integer)?;
-    if s.len() <= end {
+    let one = text_integer(s, at, integer)?;
+    if s.len() <= one.next {
         return None;
     }
-    Some(One {
-        value: z,
-        next: end,
-    })
+    Some(one)
 }
 
 // A word among others, which does not wait for its sign: a minus counts as a zero before its digits. Called in one place, so that the compiler

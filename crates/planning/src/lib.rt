@@ -88,10 +88,8 @@ pub fn plan_of(cols: Columns) -> Plan
 {
     let none = no_step();
     let mut list = [none; 64];
-    let mut i: usize = 0;
-    while i < cols.count {
+    for i in 0..cols.count {
         list[i] = step_of(cols.list[i]);
-        i += 1;
     }
     Plan { list }
 }
