@@ -1,10 +1,10 @@
 -- Laws of binary cells: bits, numbers, content and cells that are written are read back; what is read fits its column.
+use Rattle.std.specs.Prelude.{Option, None, Some}
 use Prim.Native.Nat.{◌*◌, ◌+◌, ◌-◌, ◌/◌, ◌<◌, ◌^◌, ◌≤◌, suc, zero, zero-le, ℕ}
 use native.Mathlib.Nat.{le_of_eq, le_refl, le_trans, mod-eq_of_lt, zero-mul}
 use native.Mathlib.Omega.{arith}
 use mathlib.Core.Bool.{Bool, ◌&&◌, ◌||◌, cond, false, false≢true, not, true}
 use mathlib.Core.List.{List, [], ◌++◌, ◌∷◌, append_assoc, map}
-use mathlib.Core.Option.{Option, none, some}
 use mathlib.Core.Path.{◌∙◌, ◌≡◌, ap, ap₂, refl, sym}
 use lib.Dec.{eqb, leb, lit<, lit≤, ltb}
 use lib.IntN.{negsuc, pos, ℤ}
@@ -29,7 +29,6 @@ use Rattle.table.specs.declared.Column.{Column}
 use Rattle.table.specs.declared.Kind.TheVariants.{Short}
 use Rattle.table.specs.declared.Len.{Len}
 use Rattle.table.specs.declared.Len.TheVariants.{Bounded, Fixed, Free}
-use Rattle.table.specs.declared.Null.TheVariants.{Declared, Undeclared}
 
 -- ---- "Its count is read and checked; its content is skipped unread."
 
@@ -235,7 +234,7 @@ count-back Free m t b h =
     rw (first_back 4 (to_digits 256 4 m) t (length_to 256 4 m), of-to 256 (lit< tt) 4 m (omega arith), le-ltb most_elements m h)
 
 -- "a 4-byte unsigned count of elements, not bytes": two shorts are counted as 2
-counts-elements : take 4 (elements_bytes (column_of Short Free Undeclared) (pos 7 ∷ pos 8 ∷ [])) ≡ 0 ∷ 0 ∷ 0 ∷ 2 ∷ []
+counts-elements : take 4 (elements_bytes (column_of Short Free None) (pos 7 ∷ pos 8 ∷ [])) ≡ 0 ∷ 0 ∷ 0 ∷ 2 ∷ []
 unfolding elements_bytes count_bytes to_digits content_bytes
 counts-elements = refl
 
@@ -277,16 +276,16 @@ unfolding write_binary2 is_null show
 binary2-cell-back c null rest i f = zeros-back c rest i
 binary2-cell-back c (shown es) rest i (fits-shown e n) = elements-back c es rest i e ∙ rw n
 
-none-some : {z : ℤ} → none ≡ some z → ⊥
+none-some : {z : ℤ} → None ≡ Some z → ⊥
 none-some h = let q : ◌≡◌ {A = ℕ} 0 1 = cc in omega arith
 
 -- a null element's column is a scalar
-pub scalar-room : (k : Shape) (l : Len) (o : Option ℤ) (z : ℤ) → cond (is_one l) o none ≡ some z
+pub scalar-room : (k : Shape) (l : Len) (o : Option ℤ) (z : ℤ) → cond (is_one l) o None ≡ Some z
     → (room_fits k (room_in l 1) 1 ≡ true) × (1 ≤ bound l)
 unfolding room_fits
 scalar-room k (Fixed n) o z h = go (eqb n 1) refl h
   where
-    go : (b : Bool) → eqb n 1 ≡ b → cond b o none ≡ some z → (room_fits k n 1 ≡ true) × (1 ≤ n)
+    go : (b : Bool) → eqb n 1 ≡ b → cond b o None ≡ Some z → (room_fits k n 1 ≡ true) × (1 ≤ n)
     go true e h = (rw (eqb-true n 1 e) (room-self k 1), omega (arith, eqb-true n 1 e))
     go false e h = absurd (none-some h)
 scalar-room k (Bounded n) o z h = absurd (none-some h)
@@ -302,16 +301,16 @@ Back1 : Column → Cell → List ℕ → Type 0
 Back1 c x b = (rest : List ℕ) → read_binary c (b ++ rest) ≡ good (x, rest)
 
 -- "Null in BINARY: the declared null": a short's -99
-declared-null-written : write_binary (column_of Short (Fixed 1) (Declared (negsuc 98))) null ≡ good (0xFF ∷ 0x9D ∷ [])
+declared-null-written : write_binary (column_of Short (Fixed 1) (Some (negsuc 98))) null ≡ good (0xFF ∷ 0x9D ∷ [])
 unfolding write_binary null_form null_element elements_bytes count_bytes bytes_of groups number pattern to_digits zeros content_bytes
 declared-null-written = refl
 
 null-back : (c : Column) (o : Option ℤ) → null_element c ≡ o → IsColumn c → Holds (Back1 c null) (null_form c o)
 unfolding null_element null_form Back1 read_binary show empty_is_null is_null_list
-null-back c none q i =
+null-back c None q i =
     holds-cond (can_be_empty (shape c.kind) c.len)
     (λ t. holds (λ rest. rw (elements-back c [] rest i (record { each = tt; room = empty-room (shape c.kind) c.len t; few = zero-le })))) (λ _. refuses)
-null-back c (some z) q i =
+null-back c (Some z) q i =
     let s : (room_fits (shape c.kind) (room_in c.len 1) 1 ≡ true) × (1 ≤ bound c.len) = scalar-room (shape c.kind) c.len (null_of_kind (shape c.kind) c.null) z q in
     holds {a = elements_bytes c (z ∷ [])} (λ rest. rw (elements-back c (z ∷ []) rest i (record { each = (i.null_is z q, tt); room = s.0; few = s.1 }), null-stands c z q))
 
@@ -498,8 +497,8 @@ binary-fails c s = fails-bind (binary2-fails c false s) (λ p. gives)
 module _ {P : ℕ → Type 0} (fifteen : P 15) where
   pub null-fails : (c : Column) (o : Option ℤ) → Fails P (null_form c o)
   unfolding null_form
-  null-fails c (some z) = gives
-  null-fails c none = fails-cond (can_be_empty (shape c.kind) c.len) gives (fails fifteen)
+  null-fails c (Some z) = gives
+  null-fails c None = fails-cond (can_be_empty (shape c.kind) c.len) gives (fails fifteen)
 
 pub write-binary-fails : (c : Column) (x : Cell) → Fails (Numbered 14 16) (write_binary c x)
 unfolding write_binary

@@ -1,6 +1,5 @@
 -- A cell of BINARY and of BINARY2.
-use Rattle.std.specs.Prelude.{◌*◌, ◌+◌, ◌-◌, ◌/◌, suc, zero, ℕ, Bool, ◌&&◌, ◌||◌, cond, false, true, List, [], ◌++◌, ◌∷◌, map, eqb, ltb, negsuc, pos, ℤ, drop, length, replicate, take}
-use Rattle.std.proofs.Math.Option.{Option, none, some}
+use Rattle.std.specs.Prelude.{◌*◌, ◌+◌, ◌-◌, ◌/◌, suc, zero, ℕ, Bool, ◌&&◌, ◌||◌, cond, false, true, List, [], ◌++◌, ◌∷◌, map, eqb, ltb, negsuc, pos, ℤ, drop, length, replicate, take, Option, None, Some}
 use Rattle.number.specs.Number.{of_digits, of_pattern, pattern, to_digits}
 use Rattle.table.specs.Bytes.{byte}
 use Rattle.table.specs.Cell.{Cell, empty_is_null, is_char, most_elements, null, null_element, room_in, show, shown, truth_byte}
@@ -182,8 +181,8 @@ can_be_empty k Free = true
 
 -- "Null in BINARY: the declared null, `?` for a scalar boolean, count 0 for bounded and free, NULs for fixed char; else 15."
 unfoldable pub null_form : Column → Option ℤ → Result ℕ (List ℕ)
-null_form c (some z) = good (elements_bytes c (z ∷ []))
-null_form c none = cond (can_be_empty (shape c.kind) c.len) (good (elements_bytes c [])) (bad 15)
+null_form c (Some z) = good (elements_bytes c (z ∷ []))
+null_form c None = cond (can_be_empty (shape c.kind) c.len) (good (elements_bytes c [])) (bad 15)
 
 -- "Empty, not null, goes only to BINARY2."
 unfoldable pub write_binary : Column → Cell → Result ℕ (List ℕ)

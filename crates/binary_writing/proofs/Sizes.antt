@@ -1,4 +1,5 @@
 -- How many bytes a cell takes, by the three shapes of a length; and that no cell takes many.
+use Rattle.std.specs.Prelude.{Option, None, Some}
 use Prim.Native.Nat.{◌+◌, ◌≤◌, zero-le, ℕ}
 use Rattle.binary.proofs.Laws.{filled-length, scalar-room}
 use Rattle.binary.specs.Binary.{bit_bytes, bytes_of, can_be_empty, content_bytes, count_bytes, elements_bytes, null_form, number, write_binary, write_binary2, zeros}
@@ -19,7 +20,6 @@ use lib.ListN.{length, length-append, length-map, length-replicate, length-take,
 use lib.Seq.{length-take-le}
 use mathlib.Core.Bool.{Bool, cond, false, false≢true, true}
 use mathlib.Core.List.{List, [], ◌∷◌, map}
-use mathlib.Core.Option.{Option, none, some}
 use mathlib.Core.Path.{◌∙◌, ◌≡◌, ap, refl}
 use native.Mathlib.Nat.{le_of_eq, le_refl, le_trans, mul-le-mul, zero-add}
 use native.Mathlib.Omega.{arith}
@@ -147,10 +147,10 @@ binary2-size c (shown es) b f = elements-most c es b f
 
 null_size : (c : Column) (o : Option ℤ) → null_element c ≡ o → bound c.len ≤ most_elements → length (form_bytes (null_form c o)) ≤ 40000
 unfolding null_form null_element
-null_size c none q b =
+null_size c None q b =
     cond_cases (λ (r : Result ℕ (List ℕ)). length (form_bytes r) ≤ 40000) (can_be_empty (shape c.kind) c.len) (good (elements_bytes c [])) (bad 15)
     (λ _. elements-most c [] b zero-le) (λ _. zero-le)
-null_size c (some z) q b =
+null_size c (Some z) q b =
     elements-most c (z ∷ []) b (scalar-room (shape c.kind) c.len (null_of_kind (shape c.kind) c.null) z q).1
 
 pub binary-size : (c : Column) (x : Cell) → bound c.len ≤ most_elements → Few c x → length (form_bytes (write_binary c x)) ≤ 40000

@@ -1,4 +1,5 @@
 -- What is written: the forms of a cell, a turn of each loop that writes, and the bytes of elements by their shape.
+use Rattle.std.specs.Prelude.{Option, None, Some}
 use Prim.Native.Nat.{◌%◌, ◌*◌, ◌+◌, ◌-◌, ◌/◌, ◌<◌, ◌^◌, ◌≤◌, suc, zero, ℕ}
 use Rattle.binary.proofs.Digits.{drop-map, sets_then, take-map}
 use Rattle.binary.proofs.Laws.{length-groups, length-pack, scalar-room}
@@ -23,7 +24,6 @@ use lib.Pow.{pow-add, pow_mono, shl_exact}
 use lib.Seq.{drop-append-le, drop-cons, drop-drop, length-take-le, sets, take_all, take-append-le, take-take}
 use mathlib.Core.Bool.{Bool, cond, false, false≢true, true}
 use mathlib.Core.List.{List, [], ◌++◌, ◌∷◌, map}
-use mathlib.Core.Option.{Option, none, some}
 use mathlib.Core.Path.{◌∙◌, ◌≡◌, ap, ap₂, refl, sym}
 use native.Mathlib.Nat.{mul-le-mul_right, mul-one, pow-succ', sub-zero, suc-mul, zero-mul}
 use native.Mathlib.Numerals.{add-one}
@@ -64,35 +64,35 @@ write-shown c flag count scratch e n h =
 -- ---- null in BINARY
 
 -- an element that is written for null has a scalar column
-scalar-length : (l : Len) (o : Option ℤ) (z : ℤ) → cond (is_one l) o none ≡ some z → l ≡ Fixed 1
+scalar-length : (l : Len) (o : Option ℤ) (z : ℤ) → cond (is_one l) o None ≡ Some z → l ≡ Fixed 1
 scalar-length (Fixed n) o z h = go (eqb n 1) refl h
   where
-    go : (b : Bool) → eqb n 1 ≡ b → cond b o none ≡ some z → Fixed n ≡ Fixed 1
+    go : (b : Bool) → eqb n 1 ≡ b → cond b o None ≡ Some z → Fixed n ≡ Fixed 1
     go true e h = ap Fixed (eqb-true n 1 e)
     go false e h = let q : ◌≡◌ {A = ℕ} 0 1 = cc in absurd (omega arith)
 scalar-length (Bounded n) o z h = let q : ◌≡◌ {A = ℕ} 0 1 = cc in absurd (omega arith)
 scalar-length Free o z h = let q : ◌≡◌ {A = ℕ} 0 1 = cc in absurd (omega arith)
 
 module _ (c : Column) where
-  pub null-bound : (z : ℤ) → null_element c ≡ some z → 1 ≤ bound c.len
+  pub null-bound : (z : ℤ) → null_element c ≡ Some z → 1 ≤ bound c.len
   unfolding null_element
   null-bound z q = (scalar-room (shape c.kind) c.len (null_of_kind (shape c.kind) c.null) z q).1
 
-  pub null-some : (z : ℤ) → null_element c ≡ some z → null_form c (null_element c) ≡ good (elements_bytes c (z ∷ []))
+  pub null-some : (z : ℤ) → null_element c ≡ Some z → null_form c (null_element c) ≡ good (elements_bytes c (z ∷ []))
   unfolding null_form
   null-some z q = rw q
 
   -- a scalar has no count before its element, and room for one
-  pub null-content : (z : ℤ) → null_element c ≡ some z
+  pub null-content : (z : ℤ) → null_element c ≡ Some z
       → form_bytes (null_form c (null_element c)) ≡ bytes_of (shape c.kind) 1 (map (number (shape c.kind)) (z ∷ []))
   unfolding null_element elements_bytes count_bytes
   null-content z q = ap form_bytes (null-some z q) ∙ rw (scalar-length c.len (null_of_kind (shape c.kind) c.null) z q)
 
-  pub null-empty : null_element c ≡ none → can_be_empty (shape c.kind) c.len ≡ true → null_form c (null_element c) ≡ good (elements_bytes c [])
+  pub null-empty : null_element c ≡ None → can_be_empty (shape c.kind) c.len ≡ true → null_form c (null_element c) ≡ good (elements_bytes c [])
   unfolding null_form
   null-empty q h = rw (q, h)
 
-  pub null-none : null_element c ≡ none → can_be_empty (shape c.kind) c.len ≡ false → null_form c (null_element c) ≡ bad 15
+  pub null-none : null_element c ≡ None → can_be_empty (shape c.kind) c.len ≡ false → null_form c (null_element c) ≡ bad 15
   unfolding null_form
   null-none q h = rw (q, h)
 

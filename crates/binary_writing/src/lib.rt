@@ -13,7 +13,7 @@ ghost use Rattle.binary.specs.Clauses.{filled_bytes};
 ghost use Rattle.binary_writing.specs.Clauses.{elements_size, room_size};
 
 use number::{Elements, Integer, elements_of};
-use table::{Column, Kind, Len, Null, Size, is_char};
+use table::{Column, Kind, Len, Size, is_char};
 
 // ---- a cell is measured
 
@@ -81,8 +81,8 @@ pub fn null_size(column: Column) -> Size
     let len = column.len;
     let null = table::null_element(column);
     match null {
-        Null::Declared(_) => Size::Bytes(elements_size(column, 1)),
-        Null::Undeclared => {
+        Some(_) => Size::Bytes(elements_size(column, 1)),
+        None => {
             if can_be_empty(kind, len) {
                 Size::Bytes(room_size(column, 0))
             } else {
@@ -282,11 +282,11 @@ pub fn put_binary_null(column: Column, out: &mut [u8], at: usize) -> usize
     let len = column.len;
     let null = table::null_element(column);
     match null {
-        Null::Declared(z) => {
+        Some(z) => {
             let one = [z; 1];
             put_content(kind, 1, 1, &one, out, at)
         }
-        Null::Undeclared => {
+        None => {
             if can_be_empty(kind, len) {
                 put_null(column, out, at)
             } else {

@@ -1,13 +1,14 @@
 -- How many places are filled, and the numbers of the buffer: two for each place that fits, from the front, and the rest as it was. By induction along the places,
 -- two numbers a step.
+use Rattle.std.proofs.lemmas.Option.{none-some}
+use Rattle.std.specs.Prelude.{Some, slice_get}
 use Prim.Native.Nat.{◌*◌, ◌+◌, ◌/◌, ◌<◌, ◌≤◌, min, suc, zero, ℕ}
 use native.Mathlib.Omega.{arith}
 use mathlib.Core.List.{List, [], ◌++◌, ◌∷◌, append-nil}
 use mathlib.Core.Logic.{◌⊎◌, inl, inr}
-use mathlib.Core.Option.{none-ne-some, some}
 use mathlib.Core.Path.{◌≡◌, ap, refl}
 use lib.Dec.{ltb}
-use lib.ListN.{get_or, get_elem?, length, length-append}
+use lib.ListN.{get_or, length, length-append}
 use borrow.Author.Tests.{ltb-false, ltb-true}
 use Rattle.compare.specs.Compare.{Place, filled, placed}
 use Rattle.table.proofs.Laws.{cond_cases}
@@ -24,10 +25,10 @@ placed-long (p ∷ ps) [] = refl
 placed-long (p ∷ ps) (x ∷ []) = refl
 placed-long (p ∷ ps) (x ∷ y ∷ entry) = ap (λ (n : ℕ). suc (suc n)) (placed-long ps entry)
 
-pub placed-named : (ps : List Place) (entry : List ℕ) (k : ℕ) (p : Place) → k < length entry / 2 → get_elem? ps k ≡ some p
+pub placed-named : (ps : List Place) (entry : List ℕ) (k : ℕ) (p : Place) → k < length entry / 2 → slice_get ps k ≡ Some p
     → (get_or (placed ps entry) (2 * k) 0 ≡ p.row) × (get_or (placed ps entry) (2 * k + 1) 0 ≡ p.column)
 unfolding placed
-placed-named [] entry k p l e = absurd (none-ne-some p e)
+placed-named [] entry k p l e = absurd (none-some p e)
 placed-named (q ∷ ps) [] k p l e = absurd (omega arith)
 placed-named (q ∷ ps) (x ∷ []) k p l e = absurd (omega arith)
 placed-named (q ∷ ps) (x ∷ y ∷ entry) zero p l e = let here : q ≡ p = cc e in rw here (refl, refl)

@@ -1,9 +1,9 @@
 -- A call of `sailmortar_compare` is a call of `compare`, by its contract; so what is proved of `compare` is carried along that equation to the numbers and
 -- the buffers. All over plain lists.
+use Rattle.std.specs.Prelude.{Option, None, Some}
 use Prim.Native.Nat.{◌≤◌, ℕ}
 use native.Mathlib.Omega.{arith}
 use mathlib.Core.List.{List, [], ◌∷◌}
-use mathlib.Core.Option.{Option, none, some}
 use mathlib.Core.Path.{◌∙◌, ◌≡◌, ap, ap₂, refl, subst, subst⁻¹, sym}
 use lib.ListN.{get_or, length, take}
 use Rattle.compare.specs.Compare.{Compared, both_show, compare, compared_as, counted}
@@ -35,12 +35,12 @@ compared_call decls first second entry source other = compared_faced (compare de
 
 module _ (decls : List ℕ) (from : ℕ) (first : List ℕ) (kind : ℕ) (second entry : List ℕ) {numbers exit : List ℕ}
     (h : Faces (compare_face decls from first kind second entry) numbers exit) where
-  faces-compare : (source other : Rows) → rows_of from ≡ some source → rows_of kind ≡ some other → Faces (compared_call decls first second entry source other) numbers exit
+  faces-compare : (source other : Rows) → rows_of from ≡ Some source → rows_of kind ≡ Some other → Faces (compared_call decls first second entry source other) numbers exit
   unfolding compare_face
   faces-compare source other e f =
       subst (λ (x : Faced). Faces x numbers exit) (known from kind (no_such_kind 7 entry) (compared_call decls first second entry) source e other f) h
 
-  is-compare : (source other : Rows) → rows_of from ≡ some source → rows_of kind ≡ some other → comparison_of numbers exit ≡ compare decls source first other second entry
+  is-compare : (source other : Rows) → rows_of from ≡ Some source → rows_of kind ≡ Some other → comparison_of numbers exit ≡ compare decls source first other second entry
   unfolding compared_faced
   is-compare source other e f =
       let k = faces-compare source other e f in
@@ -58,10 +58,10 @@ module _ (decls : List ℕ) (from : ℕ) (first : List ℕ) (kind : ℕ) (second
         no_second = λ f. nothing (either (rows_of from) refl f);
       }
     where
-      either : (o : Option Rows) → rows_of from ≡ o → rows_of kind ≡ none
+      either : (o : Option Rows) → rows_of from ≡ o → rows_of kind ≡ None
           → between_kinds (rows_of from) (rows_of kind) (no_such_kind 7 entry) (compared_call decls first second entry) ≡ no_such_kind 7 entry
-      either none e f = no_source from kind (no_such_kind 7 entry) (compared_call decls first second entry) e
-      either (some source) e f = no_target from kind (no_such_kind 7 entry) (compared_call decls first second entry) source e f
+      either None e f = no_source from kind (no_such_kind 7 entry) (compared_call decls first second entry) e
+      either (Some source) e f = no_target from kind (no_such_kind 7 entry) (compared_call decls first second entry) source e f
 
   pub compared-exactly : Between from kind (ComparedExactly decls first second entry (comparison_of numbers exit))
   compared-exactly source other e f =
@@ -88,16 +88,16 @@ module _ (decls : List ℕ) (from to : ℕ) (input out : List ℕ) {numbers exit
   written-within = by-kinds (rows_of from) refl (rows_of to) refl
     where
       by-kinds : (o : Option Rows) → rows_of from ≡ o → (p : Option Rows) → rows_of to ≡ p → get_or numbers 4 0 ≤ length exit
-      by-kinds none e p f = none_within ((unnamed decls from to input out h).no_source e).0
-      by-kinds (some source) e none f = none_within ((unnamed decls from to input out h).no_target f).0
-      by-kinds (some source) e (some target) f =
+      by-kinds None e p f = none_within ((unnamed decls from to input out h).no_source e).0
+      by-kinds (Some source) e None f = none_within ((unnamed decls from to input out h).no_target f).0
+      by-kinds (Some source) e (Some target) f =
           subst⁻¹ (λ (c : Call). c.answer.bytes ≤ length c.buffer) (is-convert decls from to input out h source target e f)
           (convert-within decls source target input out)
 
   -- the input, compared with that part read as any number's kind: where that is the target, they are the same night
   pub same-night : AreBytes input → (kind : ℕ) (entry : List ℕ) {others left : List ℕ}
       → Faces (compare_face decls from input kind (take (get_or numbers 4 0) exit) entry) others left
-      → (source target : Rows) → rows_of from ≡ some source → rows_of to ≡ some target → rows_of kind ≡ some target → SameNight decls input out entry others left source target
+      → (source target : Rows) → rows_of from ≡ Some source → rows_of to ≡ Some target → rows_of kind ≡ Some target → SameNight decls input out entry others left source target
   unfolding output call_of compared_faced eight
   same-night bytes kind entry {others} {left} k source target e f g v small =
       let part : List ℕ = take (get_or numbers 4 0) exit in
@@ -117,8 +117,8 @@ module _ (decls input changed : List ℕ) (kind : ℕ) (other : List ℕ) where
     where
       by_kind : (o : Option Rows)
           → between_kinds (rows_of 2) o (no_such_kind 7 entry) (compared_call decls changed other entry) ≡ between_kinds (rows_of 2) o (no_such_kind 7 entry) (compared_call decls input other entry)
-      by_kind none = refl
-      by_kind (some k) = ap compared_faced (compares-nights.unseen-first decls input changed k other entry u)
+      by_kind None = refl
+      by_kind (Some k) = ap compared_faced (compares-nights.unseen-first decls input changed k other entry u)
 
   pub compared-alike : (one two : List ℕ) {numbers exit others left : List ℕ} → Faces (compare_face decls 2 input kind other one) numbers exit
       → Faces (compare_face decls 2 changed kind other two) others left → ComparedAlike decls input changed one two numbers others exit left

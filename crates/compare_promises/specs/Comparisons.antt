@@ -1,6 +1,5 @@
 -- Two nights compared, as calls of the face: what holds between the slices and the numbers that a caller has in hand. 02, #110.
-use Rattle.std.specs.Prelude.{◌≤◌, ℕ, List, [], ◌∷◌, ◌≡◌, get_or, length}
-use Rattle.std.proofs.Math.Option.{none}
+use Rattle.std.specs.Prelude.{◌≤◌, ℕ, List, [], ◌∷◌, ◌≡◌, get_or, length, None}
 use Rattle.compare.specs.Compare.{Compared}
 use Rattle.demands.specs.Demands.{Valid}
 use Rattle.demands.specs.TwoNights.{ComparisonEnded, InputRead, SameExactly, Swapped, Unseen}
@@ -33,8 +32,8 @@ abbrev pub NotCompared : List ℕ → List ℕ → List ℕ → Type 0
 NotCompared entry numbers exit = (numbers ≡ 255 ∷ 0 ∷ 0 ∷ 0 ∷ 0 ∷ 0 ∷ 0 ∷ 0 ∷ []) × (exit ≡ entry)
 
 pub record NotKinds (from kind : ℕ) (entry numbers exit : List ℕ) : Type 0 where
-  pub no-first : rows_of from ≡ none → NotCompared entry numbers exit
-  pub no_second : rows_of kind ≡ none → NotCompared entry numbers exit
+  pub no-first : rows_of from ≡ None → NotCompared entry numbers exit
+  pub no_second : rows_of kind ≡ None → NotCompared entry numbers exit
 
 -- "Give the exact number of cells that show differently in rows both have, the rows that each has beyond the other, and in a lent buffer the first
 -- differing places": one answer and one buffer meet `ended` (theorem only-comparison)

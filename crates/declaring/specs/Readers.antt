@@ -1,6 +1,5 @@
 -- What the private functions answer, in the terms of Fields: the code knows a value by where it stands, the definitions by its bytes.
-use Rattle.std.specs.Prelude.{◌+◌, ◌-◌, ◌<◌, ◌≤◌, suc, ℕ, Bool, ◌||◌, cond, not, List, [], ◌∷◌, ◌≡◌, eqb, ℤ, drop, length, take}
-use Rattle.std.proofs.Math.Option.{Option, none, some}
+use Rattle.std.specs.Prelude.{◌+◌, ◌-◌, ◌<◌, ◌≤◌, suc, ℕ, Bool, ◌||◌, cond, not, List, [], ◌∷◌, ◌≡◌, eqb, ℤ, drop, length, take, Option, None, Some}
 use Rattle.fields.specs.Fields.{Attribute, Field, at_most_one, attributes, field_body, is_name_byte, length_of, null_value, read_value, values_of}
 use Rattle.declaring.specs.declared.attributes.Attributes.{Attributes}
 use Rattle.declaring.specs.declared.attributes.Attributes.TheVariants as of-attributes
@@ -35,8 +34,6 @@ use Rattle.table.specs.declared.Column.{Column}
 use Rattle.table.specs.declared.Kind.{Kind}
 use Rattle.table.specs.declared.Len.{Len}
 use Rattle.table.specs.declared.Len.TheVariants.{Fixed}
-use Rattle.table.specs.declared.Null.{Null}
-use Rattle.table.specs.declared.Null.TheVariants.{Declared, Undeclared}
 use Rattle.text.specs.Clauses.{TagIs}
 use Rattle.text.specs.declared.Tag.{Tag}
 
@@ -89,8 +86,8 @@ assigned s = ends 1 (bytes "=") s >>= λ u. read_value (skip_white u)
 
 -- a value that may stand or not
 abbrev pub as_written : List ℕ → Value → Option (List ℕ)
-as_written s of-value.Absent = none
-as_written s (of-value.Present a b) = some (part s a b)
+as_written s of-value.Absent = None
+as_written s (of-value.Present a b) = Some (part s a b)
 
 abbrev pub ValueIn : List ℕ → Value → Type 0
 ValueIn s of-value.Absent = Unit {0}
@@ -100,8 +97,8 @@ ValueIn s (of-value.Present a b) = (a ≤ b) × (b ≤ length s)
 
 -- "may stand once": the value of an attribute, or refusal 1 where it stands more often
 abbrev pub met_of : List ℕ → Met → Result ℕ (Option (List ℕ))
-met_of s of-met.Never = good none
-met_of s (of-met.Once a b) = good (some (part s a b))
+met_of s of-met.Never = good None
+met_of s (of-met.Once a b) = good (Some (part s a b))
 met_of s of-met.Often = bad 1
 
 abbrev pub MetIn : List ℕ → Met → Type 0
@@ -190,7 +187,7 @@ end_tag v s = tag 1 (bytes "</FIELD") (skip_white s) >>= λ rest. good (v, rest)
 
 -- what follows the attributes of a FIELD: "an empty-element tag, or a start tag, at most one VALUES as an empty-element tag, and the end tag"
 unfoldable pub field_end : List ℕ → Result ℕ (Option (List ℕ) × List ℕ)
-field_end u = or_else (ends 1 (bytes "/>") u >>= λ rest. good (none, rest)) (ends 1 (bytes ">") u >>= λ v. field_body v)
+field_end u = or_else (ends 1 (bytes "/>") u >>= λ rest. good (None, rest)) (ends 1 (bytes ">") u >>= λ v. field_body v)
 
 unfoldable pub element_of : List ℕ → Element → Field
 element_of s e = record {
@@ -244,22 +241,22 @@ abbrev pub len_read : LenRead → Result ℕ Len
 len_read of-len.Broken = bad 3
 len_read (of-len.Shaped l) = good l
 
-abbrev pub null_read : NullRead → Result ℕ Null
+abbrev pub null_read : NullRead → Result ℕ (Option ℤ)
 null_read of-null.Broken = bad 4
 null_read (of-null.Counts n) = good n
 
 -- 4: a null value is one element
-unfoldable pub one_null : Result ℕ (List ℤ) → Result ℕ Null
+unfoldable pub one_null : Result ℕ (List ℤ) → Result ℕ (Option ℤ)
 one_null (good []) = bad 4
-one_null (good (z ∷ [])) = good (Declared z)
+one_null (good (z ∷ [])) = good (Some z)
 one_null (good (z ∷ y ∷ es)) = bad 4
 one_null (bad n) = bad 4
 
 -- the null value of a scalar: "`null` counts only on scalar integer columns" "Elsewhere it is skipped."
-unfoldable pub null_of_scalar : Shape → List ℕ → Result ℕ Null
-null_of_scalar Truths s = good Undeclared
-null_of_scalar Bits s = good Undeclared
-null_of_scalar Text s = good Undeclared
+unfoldable pub null_of_scalar : Shape → List ℕ → Result ℕ (Option ℤ)
+null_of_scalar Truths s = good None
+null_of_scalar Bits s = good None
+null_of_scalar Text s = good None
 null_of_scalar (Whole g v) s = null_value g v (words s)
 
 abbrev pub judged : Judged → Result ℕ Column

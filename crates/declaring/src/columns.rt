@@ -9,7 +9,7 @@ use crate::attributes::Value;
 use crate::elements::Element;
 use element_reading::{Counted, plain_elements};
 use number::{Elements, elements_of};
-use table::{Column, Kind, Len, Null, column_of, is_scalar};
+use table::{Column, Kind, Len, column_of, is_scalar};
 use text::same_bytes;
 
 // What an attribute's value says, or that it says nothing.
@@ -34,7 +34,7 @@ enum LenRead {
 #[derive(Clone, Copy)]
 enum NullRead {
     Broken,
-    Counts(Null),
+    Counts(Option<i64>),
 }
 
 #[derive(Clone, Copy)]
@@ -155,7 +155,7 @@ fn null_value(t: &[u8], kind: Kind) -> NullRead
         Counted::Refused(_) => NullRead::Broken,
         Counted::All(count) => {
             if count == 1 {
-                return NullRead::Counts(Null::Declared(element[0]));
+                return NullRead::Counts(Some(element[0]));
             }
             NullRead::Broken
         }
@@ -166,9 +166,9 @@ fn null_of(t: &[u8], kind: Kind) -> NullRead
     ensures { null_of_scalar (shape kind) t.now ≡ null_read result }
 {
     match elements_of(kind) {
-        Elements::Truths => NullRead::Counts(Null::Undeclared),
-        Elements::Bits => NullRead::Counts(Null::Undeclared),
-        Elements::Text => NullRead::Counts(Null::Undeclared),
+        Elements::Truths => NullRead::Counts(None),
+        Elements::Bits => NullRead::Counts(None),
+        Elements::Text => NullRead::Counts(None),
         Elements::Whole(_) => null_value(t, kind),
     }
 }
@@ -179,12 +179,12 @@ fn read_null(s: &[u8], v: Value, kind: Kind, scalar: bool) -> NullRead
     ensures { null_of (shape kind) scalar (as_written s.now v) ≡ null_read result }
 {
     let Value::Present(start, end) = v else {
-        return NullRead::Counts(Null::Undeclared);
+        return NullRead::Counts(None);
     };
     if scalar {
         return null_of(&s[start..end], kind);
     }
-    NullRead::Counts(Null::Undeclared)
+    NullRead::Counts(None)
 }
 
 // "in each one shape (through its end), 2, 3, 4"
@@ -202,7 +202,7 @@ pub fn judge(s: &[u8], e: Element) -> Judged
         return Judged::Refused(3);
     };
     let n = e.null;
-    let scalar = is_scalar(column_of(kind, len, Null::Undeclared));
+    let scalar = is_scalar(column_of(kind, len, None));
     let NullRead::Counts(null) = read_null(s, n, kind, scalar) else {
         return Judged::Refused(4);
     };

@@ -16,7 +16,7 @@ ghost use Rattle.declaring.specs.Clauses.{answered};
 
 use columns::{Judged, judge};
 use elements::{FieldRead, read_field};
-use table::{Columns, Kind, Len, Null, column_of};
+use table::{Columns, Kind, Len, column_of};
 use text::skip_white;
 
 // "declarations up to 65,536 bytes", "any row input [..] up to 1,073,741,824 bytes"
@@ -35,7 +35,7 @@ pub struct Declared {
 fn no_columns() -> Columns
     ensures { result ≡ holding [] }
 {
-    let none = column_of(Kind::Boolean, Len::Fixed(0), Null::Undeclared);
+    let none = column_of(Kind::Boolean, Len::Fixed(0), None);
     let list = [none; 64];
     Columns { list, count: 0 }
 }

@@ -1,11 +1,11 @@
 -- Demand 3 of the converter. What a row gets is what the target has for its cells, `write_row`, and that sees nothing else: so two rows that
 -- show the same get the same. Bytes that show nothing: Unseen. What a buffer held: a call is `ending` of an outcome, and the outcome sees its
 -- room alone.
+use Rattle.std.specs.Prelude.{Some}
 use Prim.Native.Nat.{◌+◌, ◌<◌, ◌≤◌, ℕ}
 use native.Mathlib.Omega.{arith}
 use mathlib.Core.Bool.{Bool, cond, false, true}
 use mathlib.Core.List.{List, [], ◌++◌, append_assoc, append-nil}
-use mathlib.Core.Option.{some}
 use mathlib.Core.Path.{◌∙◌, ◌≡◌, ap, refl, subst, sym}
 use lib.Dec.{ltb}
 use lib.ListN.{get_or, length}
@@ -60,7 +60,7 @@ here to cs room r out xs t (good b) q h =
     let m = more-written to cs room (r + 1) (out ++ b) t in
     (m.0, ap written (goes_on to cs room r out b xs t q h) ∙ m.1 ∙ append_assoc out b m.0)
 
-gets : (to : Rows) (cs : List Column) (room : ℕ) (t : Table) (before : List ℕ) (j : ℕ) (xs : List Cell) → row_at j t ≡ some xs → lines to cs (up_to j t) ≡ good before
+gets : (to : Rows) (cs : List Column) (room : ℕ) (t : Table) (before : List ℕ) (j : ℕ) (xs : List Cell) → row_at j t ≡ Some xs → lines to cs (up_to j t) ≡ good before
     → length before ≤ room → Roomy room before (write_row to cs xs) → Gets before (write_row to cs xs) j (write to cs room 0 [] t)
 gets to cs room t before j xs q l f h =
     let p = row-behind j t xs q in rw (first-written to cs room before p.1 l f) (here to cs room j before xs p.0 (write_row to cs xs) refl h)

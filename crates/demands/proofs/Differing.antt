@@ -1,12 +1,12 @@
 -- The places that `differences` lists: each names two cells that are not equal, each such pair is named, in row and column order. By induction along a row,
 -- and then along the rows, with how far a place is past where the list begins. Two lists of the same places in order are one list.
+use Rattle.std.proofs.lemmas.Option.{none-some}
+use Rattle.std.specs.Prelude.{Some, slice_get}
 use Prim.Native.Nat.{◌+◌, suc, zero, ℕ}
 use native.Mathlib.Omega.{arith}
 use mathlib.Core.List.{List, [], ◌++◌, ◌∷◌}
 use mathlib.Core.Logic.{◌⊎◌, inl, inr}
-use mathlib.Core.Option.{none-ne-some, some}
 use mathlib.Core.Path.{◌∙◌, ◌≡◌, ap₂, refl, subst, sym}
-use lib.ListN.{get_elem?}
 use Rattle.compare.proofs.Same.{cell-false, cell_other}
 use Rattle.compare.specs.Compare.{Place, cell_differs, differences, row_differs, same_cell}
 use Rattle.demands.specs.TwoNights.{Among, Ascending, Before}
@@ -72,8 +72,8 @@ one_list (p ∷ ps) (q ∷ qs) a b f g =
 pub record CellsDiffer (xs ys : List Cell) (k : ℕ) : Type 0 where
   pub first_cell : Cell
   pub second-cell : Cell
-  pub of-first : get_elem? xs k ≡ some first_cell
-  pub of-second : get_elem? ys k ≡ some second-cell
+  pub of-first : slice_get xs k ≡ Some first_cell
+  pub of-second : slice_get ys k ≡ Some second-cell
   pub not_same : first_cell ≡ second-cell → ⊥
 
 -- a place of row r, of cells that stand from column k on
@@ -113,8 +113,8 @@ row_listed r k (x ∷ xs) (y ∷ ys) =
 
 row-complete : (r k : ℕ) (xs ys : List Cell) (i : ℕ) (p : Place) → p.row ≡ r → p.column ≡ k + i → CellsDiffer xs ys i → Among p (row_differs r k xs ys)
 unfolding row_differs cell_differs
-row-complete r k [] ys i p e f d = absurd (none-ne-some d.first_cell d.of-first)
-row-complete r k (x ∷ xs) [] i p e f d = absurd (none-ne-some d.second-cell d.of-second)
+row-complete r k [] ys i p e f d = absurd (none-some d.first_cell d.of-first)
+row-complete r k (x ∷ xs) [] i p e f d = absurd (none-some d.second-cell d.of-second)
 row-complete r k (x ∷ xs) (y ∷ ys) zero p e f d =
     let here : x ≡ d.first_cell = cc d.of-first in
     let there : y ≡ d.second-cell = cc d.of-second in
@@ -144,8 +144,8 @@ pub record InRows (r : ℕ) (first second : List (List Cell)) (p : Place) : Type
   pub row_is : p.row ≡ r + past
   pub first-row : List Cell
   pub second-row : List Cell
-  pub in-first : get_elem? first past ≡ some first-row
-  pub in-second : get_elem? second past ≡ some second-row
+  pub in-first : slice_get first past ≡ Some first-row
+  pub in-second : slice_get second past ≡ Some second-row
   pub differ : CellsDiffer first-row second-row p.column
 
 pub listed : (r : ℕ) (first second : List (List Cell)) → All (InRows r first second) (differences r first second)
@@ -179,11 +179,11 @@ listed r (xs ∷ first) (ys ∷ second) =
       differ = h.differ;
     }
 
-complete-from : (r : ℕ) (first second : List (List Cell)) (i : ℕ) (xs ys : List Cell) (p : Place) → p.row ≡ r + i → get_elem? first i ≡ some xs → get_elem? second i ≡ some ys
+complete-from : (r : ℕ) (first second : List (List Cell)) (i : ℕ) (xs ys : List Cell) (p : Place) → p.row ≡ r + i → slice_get first i ≡ Some xs → slice_get second i ≡ Some ys
     → CellsDiffer xs ys p.column → Among p (differences r first second)
 unfolding differences
-complete-from r [] second i xs ys p e f g d = absurd (none-ne-some xs f)
-complete-from r (us ∷ first) [] i xs ys p e f g d = absurd (none-ne-some ys g)
+complete-from r [] second i xs ys p e f g d = absurd (none-some xs f)
+complete-from r (us ∷ first) [] i xs ys p e f g d = absurd (none-some ys g)
 complete-from r (us ∷ first) (vs ∷ second) zero xs ys p e f g d =
     let here : us ≡ xs = cc f in
     let there : vs ≡ ys = cc g in

@@ -1,12 +1,12 @@
 -- An index holds the starts of rows 0, 64, 128 and so on of the rows that were read, and no more: by induction on what is left of the stream, with the
 -- entries so far (Standing). And nothing else stands for an index: whatever answer and buffer meet the statement are these.
+use Rattle.std.specs.Prelude.{Some}
 use Prim.Native.Nat.{◌%◌, ◌*◌, ◌+◌, ◌-◌, ◌/◌, ◌<◌, ◌≤◌, suc, zero, ℕ}
 use native.Mathlib.Nat.{lt_irrefl, not-suc-le-zero}
 use native.Mathlib.Numerals.{add-one}
 use native.Mathlib.Omega.{arith}
 use mathlib.Core.Bool.{Bool, cond, false, true}
 use mathlib.Core.List.{List, [], ◌++◌, ◌∷◌, append-nil}
-use mathlib.Core.Option.{some}
 use mathlib.Core.Path.{◌∙◌, ◌≡◌, ap, ap₂, refl, subst, subst⁻¹, sym}
 use lib.Dec.{eqb, ltb}
 use lib.ListN.{get_or-append, drop, get_or, length, length-append, length-drop}
@@ -44,12 +44,12 @@ pub one_further : {j : ℕ} {t u : Table} {xs : List Cell} → Behind j t (row x
 one_further from-here = past_row from-here
 one_further (past_row p) = past_row (one_further p)
 
-pub row-there : {j : ℕ} {t u : Table} {xs : List Cell} → Behind j t (row xs u) → row_at j t ≡ some xs
+pub row-there : {j : ℕ} {t u : Table} {xs : List Cell} → Behind j t (row xs u) → row_at j t ≡ Some xs
 unfolding row_at
 row-there from-here = refl
 row-there (past_row p) = row-there p
 
-pub stop-there : {j : ℕ} {t : Table} {e : Refusal} → Behind j t (stopped e) → stop_at j t ≡ some e
+pub stop-there : {j : ℕ} {t : Table} {e : Refusal} → Behind j t (stopped e) → stop_at j t ≡ Some e
 unfolding stop_at
 stop-there from-here = refl
 stop-there (past_row p) = stop-there p

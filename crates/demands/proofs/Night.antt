@@ -1,4 +1,5 @@
 -- The sample night, computed: what it declares, its two rows, and that its forms are bytes.
+use Rattle.std.specs.Prelude.{None, Some}
 use Prim.Native.Nat.{ℕ}
 use mathlib.Core.Bool.{Bool, ◌&&◌, true}
 use mathlib.Core.List.{List, [], ◌∷◌, map}
@@ -19,14 +20,13 @@ use Rattle.table.specs.declared.Column.{Column}
 use Rattle.table.specs.declared.Kind.{Kind}
 use Rattle.table.specs.declared.Kind.TheVariants.{Boolean, Short}
 use Rattle.table.specs.declared.Len.TheVariants.{Fixed}
-use Rattle.table.specs.declared.Null.TheVariants.{Declared, Undeclared}
 
 abbrev pub night_decls : List ℕ
 night_decls = bytes night_declared
 
 abbrev pub night_columns : List Column
 night_columns =
-    column_of Short (Fixed 1) (Declared (negsuc 98)) ∷ column_of Kind.Char (Fixed 4) Undeclared ∷ column_of Boolean (Fixed 1) Undeclared ∷ []
+    column_of Short (Fixed 1) (Some (negsuc 98)) ∷ column_of Kind.Char (Fixed 4) None ∷ column_of Boolean (Fixed 1) None ∷ []
 
 abbrev pub first_row : List Cell
 first_row = shown (pos 7 ∷ []) ∷ shown (map pos (bytes "a&b")) ∷ shown (pos 1 ∷ []) ∷ []

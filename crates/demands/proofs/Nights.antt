@@ -1,16 +1,17 @@
 -- Two nights compared: `compare` meets all that is stated of a comparer (TwoNights), and nothing else does. An input shows its rows or its refusal, by what it is
 -- read as; a call of which that is known is one pair of lists and what differs between them (Differing), or a refusal; and what two calls have to do with each
 -- other follows from what their inputs show.
+use Rattle.std.proofs.lemmas.Option.{none-some}
+use Rattle.std.specs.Prelude.{Some, slice_get}
 use Prim.Native.Nat.{◌%◌, ◌*◌, ◌+◌, ◌-◌, ◌/◌, ◌<◌, ◌≤◌, min, suc, zero, ℕ}
 use native.Mathlib.Nat.{add-zero, zero-add}
 use native.Mathlib.Omega.{arith}
 use mathlib.Core.Bool.{Bool, cond, false, true}
 use mathlib.Core.List.{List, [], ◌∷◌}
 use mathlib.Core.Logic.{◌↔◌}
-use mathlib.Core.Option.{none-ne-some, some}
 use mathlib.Core.Path.{◌∙◌, ◌≡◌, ap, ap₂, refl, subst, sym}
 use lib.Dec.{eqb, ltb}
-use lib.ListN.{get_or, get_elem?, length}
+use lib.ListN.{get_or, length}
 use lib.Seq.{ext_get_or}
 use borrow.Author.Tests.{eqb-false, eqb-true, ltb-false, ltb-true}
 use Rattle.compare.proofs.Placed.{filled-least, placed-long, placed-named, placed-rest}
@@ -51,7 +52,7 @@ rows-counted finished = refl
 rows-counted (stopped e) = refl
 rows-counted (row xs t) = ap suc (rows-counted t)
 
-row_of : (j : ℕ) (t : Table) → row_at j t ≡ get_elem? (in_order t) j
+row_of : (j : ℕ) (t : Table) → row_at j t ≡ slice_get (in_order t) j
 unfolding row_at in_order
 row_of j finished = refl
 row_of j (stopped e) = refl
@@ -72,12 +73,12 @@ shown-whole r finished e = refl
 shown-whole r (stopped x) e = absurd e
 shown-whole r (row xs t) e = rw (shown-whole (r + 1) t e)
 
-shown-stopped : (r j : ℕ) (t : Table) (e : Refusal) → stop_at j t ≡ some e → rows_shown r t ≡ bad (answer_of (refused e (r + j) []))
+shown-stopped : (r j : ℕ) (t : Table) (e : Refusal) → stop_at j t ≡ Some e → rows_shown r t ≡ bad (answer_of (refused e (r + j) []))
 unfolding rows_shown stop_at
-shown-stopped r j finished e q = absurd (none-ne-some e q)
+shown-stopped r j finished e q = absurd (none-some e q)
 shown-stopped r zero (stopped x) e q = let same : x ≡ e = cc in rw (same, add-zero)
-shown-stopped r (suc j) (stopped x) e q = absurd (none-ne-some e q)
-shown-stopped r zero (row xs t) e q = absurd (none-ne-some e q)
+shown-stopped r (suc j) (stopped x) e q = absurd (none-some e q)
+shown-stopped r zero (row xs t) e q = absurd (none-some e q)
 shown-stopped r (suc j) (row xs t) e q =
     let on : r + 1 + j ≡ r + suc j = omega arith in rw (shown-stopped (r + 1) j t e q, on)
 
@@ -103,7 +104,7 @@ module _ (decls : List ℕ) (from : Rows) (input : List ℕ) where
     is_read : {cs : List Column} → InputRead decls cs from input → Fate
 
   -- a table ends, or stops at a row
-  ends-or-stops : (t : Table) {A : Type 0} → (Ends t → A) → ((j : ℕ) (e : Refusal) → stop_at j t ≡ some e → A) → A
+  ends-or-stops : (t : Table) {A : Type 0} → (Ends t → A) → ((j : ℕ) (e : Refusal) → stop_at j t ≡ Some e → A) → A
   unfolding stop_at
   ends-or-stops finished f g = f tt
   ends-or-stops (stopped e) f g = g 0 e refl
@@ -164,8 +165,8 @@ rows-differ t u p h =
     record {
       first-row = h.first-row;
       second-row = h.second-row;
-      in-first = row_of p.row t ∙ ap (get_elem? (in_order t)) there ∙ h.in-first;
-      in-second = row_of p.row u ∙ ap (get_elem? (in_order u)) there ∙ h.in-second;
+      in-first = row_of p.row t ∙ ap (slice_get (in_order t)) there ∙ h.in-first;
+      in-second = row_of p.row u ∙ ap (slice_get (in_order u)) there ∙ h.in-second;
       first_cell = h.differ.first_cell;
       second-cell = h.differ.second-cell;
       of-first = h.differ.of-first;
@@ -189,7 +190,7 @@ nights-of t u entry =
       as_long = placed-long ps entry;
     }
 
-element-there : (ps : List Place) (k : ℕ) → k < length ps → (p : Place) × (get_elem? ps k ≡ some p)
+element-there : (ps : List Place) (k : ℕ) → k < length ps → (p : Place) × (slice_get ps k ≡ Some p)
 element-there [] k l = absurd (omega arith)
 element-there (p ∷ ps) zero l = (p, refl)
 element-there (p ∷ ps) (suc k) l = element-there ps k (omega arith)
@@ -228,7 +229,7 @@ module _ (t u : Table) (entry : List ℕ) (c d : Compared) (h : NightsCompared t
           let least : c.answer.places ≡ min (length h.differing-places) (length entry / 2) = ap (λ (a : Comparison). a.places) h.answered in
           let e = element-there h.differing-places k (omega (arith, m, least)) in
           let in_c = h.named k e.0 m e.1 in
-          let in-d = g.named k e.0 (omega (arith, m, one-many)) (ap (λ (ps : List Place). get_elem? ps k) (sym one-places) ∙ e.1) in
+          let in-d = g.named k e.0 (omega (arith, m, one-many)) (ap (λ (ps : List Place). slice_get ps k) (sym one-places) ∙ e.1) in
           (in_c.0 ∙ sym in-d.0, in_c.1 ∙ sym in-d.1)
 
       at-number : (j : ℕ) → j ≡ i → get_or c.buffer j 0 ≡ get_or d.buffer j 0 → get_or c.buffer i 0 ≡ get_or d.buffer i 0

@@ -1,9 +1,10 @@
 -- How a table is written, as a relation: each row whole, up to the first that is not. What the demands need of it follows by induction.
+use Rattle.std.proofs.lemmas.Option.{none-some}
+use Rattle.std.specs.Prelude.{Some}
 use Prim.Native.Nat.{◌+◌, ◌<◌, ◌≤◌, suc, zero, zero-le, ℕ}
 use native.Mathlib.Nat.{add-zero, zero-add}
 use native.Mathlib.Omega.{arith}
 use mathlib.Core.List.{List, [], ◌++◌, ◌∷◌, append_assoc, append-nil}
-use mathlib.Core.Option.{none-ne-some, some}
 use mathlib.Core.Path.{◌∙◌, ◌≡◌, ap, ap₂, refl, sym}
 use lib.Dec.{lit≤, ltb}
 use lib.ListN.{length, length-append}
@@ -108,18 +109,18 @@ ends-behind finished e = from-here
 ends-behind (stopped n) e = absurd e
 ends-behind (row xs t) e = past_row (ends-behind t e)
 
-pub stop-behind : (j : ℕ) (t : Table) (e : Refusal) → stop_at j t ≡ some e → Behind j t (stopped e)
+pub stop-behind : (j : ℕ) (t : Table) (e : Refusal) → stop_at j t ≡ Some e → Behind j t (stopped e)
 unfolding stop_at
-stop-behind j finished e q = absurd (none-ne-some e q)
+stop-behind j finished e q = absurd (none-some e q)
 stop-behind zero (stopped x) e q = let k : x ≡ e = cc in rw k from-here
-stop-behind (suc j) (stopped x) e q = absurd (none-ne-some e q)
-stop-behind zero (row xs t) e q = absurd (none-ne-some e q)
+stop-behind (suc j) (stopped x) e q = absurd (none-some e q)
+stop-behind zero (row xs t) e q = absurd (none-some e q)
 stop-behind (suc j) (row xs t) e q = past_row (stop-behind j t e q)
 
-pub row-behind : (j : ℕ) (t : Table) (xs : List Cell) → row_at j t ≡ some xs → (u : Table) × Behind j t (row xs u)
+pub row-behind : (j : ℕ) (t : Table) (xs : List Cell) → row_at j t ≡ Some xs → (u : Table) × Behind j t (row xs u)
 unfolding row_at
-row-behind j finished xs q = absurd (none-ne-some xs q)
-row-behind j (stopped e) xs q = absurd (none-ne-some xs q)
+row-behind j finished xs q = absurd (none-some xs q)
+row-behind j (stopped e) xs q = absurd (none-some xs q)
 row-behind zero (row ys t) xs q = let k : ys ≡ xs = cc in (t, rw k from-here)
 row-behind (suc j) (row ys t) xs q = let r = row-behind j t xs q in (r.0, past_row r.1)
 
@@ -136,9 +137,9 @@ stops-behind P (past_row p) h = stops-behind P p h
 
 -- why it is refused behind so many rows, with so many bytes written
 pub data Stopped (to : Rows) (cs : List Column) (room : ℕ) (t : Table) (done size : ℕ) : Refusal → Type 0 where
-  not-read : {e : Refusal} → stop_at done t ≡ some e → Stopped to cs room t done size e
-  no-form : {e : Refusal} {xs : List Cell} → row_at done t ≡ some xs → write_row to cs xs ≡ bad e → Stopped to cs room t done size e
-  too_long : {xs : List Cell} {b : List ℕ} → row_at done t ≡ some xs → write_row to cs xs ≡ good b → room < size + length b → Stopped to cs room t done size (at 0 17)
+  not-read : {e : Refusal} → stop_at done t ≡ Some e → Stopped to cs room t done size e
+  no-form : {e : Refusal} {xs : List Cell} → row_at done t ≡ Some xs → write_row to cs xs ≡ bad e → Stopped to cs room t done size e
+  too_long : {xs : List Cell} {b : List ℕ} → row_at done t ≡ Some xs → write_row to cs xs ≡ good b → room < size + length b → Stopped to cs room t done size (at 0 17)
 
 -- how it ends: at the table's end, or with a refusal of reading or of writing
 abbrev pub EndsAt : Rows → List Column → ℕ → Table → ℕ → Outcome → Type 0

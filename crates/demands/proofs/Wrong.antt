@@ -3,11 +3,11 @@
 -- that meets demand 2 is one of these. Each is caught by the sample night, whose two rows differ, or by the empty input. Demand 1 leaves one
 -- converter, ours (`only_one`), so whoever answers otherwise meets it no more: the liar below, who throws good rows away, is caught by a night that
 -- was cut in its third row, and so is one that names another number. Demand 3 by itself shuts out one that looks at what its buffer held.
+use Rattle.std.specs.Prelude.{Some}
 use Prim.Native.Nat.{◌≤◌, suc, zero, zero-le, ℕ}
 use native.Mathlib.Omega.{arith}
 use mathlib.Core.Bool.{Bool, false, true}
 use mathlib.Core.List.{List, [], ◌++◌, ◌∷◌}
-use mathlib.Core.Option.{some}
 use mathlib.Core.Path.{◌∙◌, ◌≡◌, ap, ap₂, refl, subst, sym}
 use lib.Dec.{eqb, lit≤}
 use lib.ListN.{length, length-append}
@@ -84,10 +84,10 @@ night-bytes : AreBytes night_text
 night-bytes = small_bytes night_text refl
 
 -- what tells them apart: a table with a row, a cell that is not null, a row whose first cell is not null
-abbrev Some : Table → Type 0
-Some finished = ⊥
-Some (stopped e) = Unit {0}
-Some (row xs t) = Unit {0}
+abbrev Begun : Table → Type 0
+Begun finished = ⊥
+Begun (stopped e) = Unit {0}
+Begun (row xs t) = Unit {0}
 
 abbrev IsShown : Cell → Type 0
 IsShown null = ⊥
@@ -135,12 +135,12 @@ module _ (convert : Converter) (d : Demand2 convert) where
   -- the one with a constant text
   pub not-the-constant : (text : List ℕ) → ((decls : List ℕ) (from to : Rows) (input out : List ℕ) → output (convert decls from to input out) ≡ text) → ⊥
   not-the-constant text wrong =
-      subst Some (sym night-written ∙ ap (read Binary2 night_columns) (wrong night_decls TableData Binary2 night_text room ∙ sym (wrong night_decls TableData Binary2 [] room)) ∙ empty-written) tt
+      subst Begun (sym night-written ∙ ap (read Binary2 night_columns) (wrong night_decls TableData Binary2 night_text room ∙ sym (wrong night_decls TableData Binary2 [] room)) ∙ empty-written) tt
 
   -- the one that writes nothing yet answers 0
   pub not-the-silent : ((decls : List ℕ) (from to : Rows) (input out : List ℕ) → Accepted (convert decls from to input out) → output (convert decls from to input out) ≡ []) → ⊥
   not-the-silent wrong =
-      subst Some
+      subst Begun
       (sym night-written
       ∙ ap (read Binary2 night_columns) (wrong night_decls TableData Binary2 night_text room night-accepted ∙ sym (wrong night_decls TableData Binary2 [] room empty-accepted))
       ∙ empty-written)
@@ -148,7 +148,7 @@ module _ (convert : Converter) (d : Demand2 convert) where
 
   -- a row of what was written, as it reads back
   abbrev WrittenRow : List ℕ → Rows → Rows → List ℕ → List ℕ → List Column → ℕ → List Cell → Type 0
-  WrittenRow decls from to input out cs j xs = (declare decls ≡ good cs) × (row_at j (read to cs (output (convert decls from to input out))) ≡ some xs)
+  WrittenRow decls from to input out cs j xs = (declare decls ≡ good cs) × (row_at j (read to cs (output (convert decls from to input out))) ≡ Some xs)
 
   second-written : WrittenRow night_decls TableData Binary2 night_text room night_columns 1 second_row
   second-written = (night-declared, ap (row_at 1) night-written ∙ (unfold row_at in refl))

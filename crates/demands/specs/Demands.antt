@@ -1,6 +1,5 @@
 -- The user's three demands, stated of any converter, from the text of the declarations.
-use Rattle.std.specs.Prelude.{◌+◌, ◌<◌, ◌≤◌, ℕ, Bool, false, true, List, ◌++◌, ◌↔◌, ◌≡◌, ltb, drop, get_or, length, take}
-use Rattle.std.proofs.Math.Option.{some}
+use Rattle.std.specs.Prelude.{◌+◌, ◌<◌, ◌≤◌, ℕ, Bool, false, true, List, ◌++◌, ◌↔◌, ◌≡◌, ltb, drop, get_or, length, take, Some}
 use Rattle.demands.specs.Places.{shows_at}
 use Rattle.demands.specs.Tables.{Ends, count, lines, only, row_at, stop_at, up_to}
 use Rattle.fields.specs.Fields.{declare}
@@ -34,11 +33,11 @@ pub data Why (to : Rows) (cs : List Column) (room : ℕ) (t : Table) (rows size 
   -- "Acceptance has number, row and column 0 and rows done equal to the rows in the input"
   all-rows : Ends t → rows ≡ count t → Why to cs room t rows size 0 0 0
   -- "the row and column where it stopped": what stands there does not read as a row
-  in-reading : {e : Refusal} → stop_at rows t ≡ some e → Why to cs room t rows size e.number rows e.column
+  in-reading : {e : Refusal} → stop_at rows t ≡ Some e → Why to cs room t rows size e.number rows e.column
   -- the row that stands there has no form in the target
-  in-writing : {e : Refusal} {xs : List Cell} → row_at rows t ≡ some xs → write_row to cs xs ≡ bad e → Why to cs room t rows size e.number rows e.column
+  in-writing : {e : Refusal} {xs : List Cell} → row_at rows t ≡ Some xs → write_row to cs xs ≡ bad e → Why to cs room t rows size e.number rows e.column
   -- 17: "the row is longer than the room left", at column 0
-  no-space : {xs : List Cell} {b : List ℕ} → row_at rows t ≡ some xs → write_row to cs xs ≡ good b → room < size + length b
+  no-space : {xs : List Cell} {b : List ℕ} → row_at rows t ≡ Some xs → write_row to cs xs ≡ good b → room < size + length b
       → Why to cs room t rows size 17 rows 0
 
 -- under good declarations, of an input within its size
@@ -129,7 +128,7 @@ pub record Stream : Type 0 where
 -- its row shows xs, and "nothing earlier is refused and there is room enough": said of the table that is read and of the room
 pub record Comes (to : Rows) (cs : List Column) (xs : List Cell) (s : Stream) : Type 0 where
   pub sized : length s.input ≤ most_input
-  pub shows : row_at s.row (read s.from cs s.input) ≡ some xs
+  pub shows : row_at s.row (read s.from cs s.input) ≡ Some xs
   -- each row before it has a form in the target, and these are their lines
   pub before : List ℕ
   pub not_earlier : lines to cs (up_to s.row (read s.from cs s.input)) ≡ good before

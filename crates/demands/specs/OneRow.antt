@@ -1,6 +1,5 @@
 -- One row from a long night, stated of any function that indexes a stream and any that fetches a row by an index. 02, #101.
-use Rattle.std.specs.Prelude.{◌%◌, ◌*◌, ◌+◌, ◌-◌, ◌/◌, ◌<◌, ◌≤◌, suc, zero, ℕ, Bool, false, true, List, ◌≡◌, ltb, drop, get_or, length, take}
-use Rattle.std.proofs.Math.Option.{some}
+use Rattle.std.specs.Prelude.{◌%◌, ◌*◌, ◌+◌, ◌-◌, ◌/◌, ◌<◌, ◌≤◌, suc, zero, ℕ, Bool, false, true, List, ◌≡◌, ltb, drop, get_or, length, take, Some}
 use Rattle.demands.specs.Demands.{NoRows, SameOutput}
 use Rattle.demands.specs.Tables.{Ends, count, lines, only, row_at, stop_at}
 use Rattle.fields.specs.Fields.{declare}
@@ -25,9 +24,9 @@ start_of from cs input r = length input - length (behind_rows from cs r input)
 pub data WhyIndexed (room : ℕ) (t : Table) (rows : ℕ) : ℕ → ℕ → ℕ → Type 0 where
   all-indexed : Ends t → rows ≡ count t → WhyIndexed room t rows 0 0 0
   -- "A stream that is refused in reading gets the same refusal while indexing."
-  index-stopped : {e : Refusal} → stop_at rows t ≡ some e → WhyIndexed room t rows e.number rows e.column
+  index-stopped : {e : Refusal} → stop_at rows t ≡ Some e → WhyIndexed room t rows e.number rows e.column
   -- "17, at column 0, for a row that reads well but whose start has no place left"
-  no_place : {xs : List Cell} → row_at rows t ≡ some xs → rows ≡ 64 * room → WhyIndexed room t rows 17 rows 0
+  no_place : {xs : List Cell} → row_at rows t ≡ Some xs → rows ≡ 64 * room → WhyIndexed room t rows 17 rows 0
 
 -- under good declarations, of an input within its size
 pub record IndexStands (cs : List Column) (from : Rows) (input entry : List ℕ) (c : Call) : Type 0 where
@@ -81,7 +80,7 @@ pub record FetchStands (decls : List ℕ) (cs : List Column) (from : Rows) (inpu
   -- "the TABLEDATA line, or the refusal in writing it .., that the row gets in a stream of its own"
   pub alone : row < rows → d ≡ as_row row (convert decls from TableData (own_bytes from cs input row) out)
   -- that stream is this row and no other
-  pub itself : row < rows → (xs : List Cell) × (row_at row (read from cs input) ≡ some xs) × (read from cs (own_bytes from cs input row) ≡ only xs)
+  pub itself : row < rows → (xs : List Cell) × (row_at row (read from cs input) ≡ Some xs) × (read from cs (own_bytes from cs input row) ≡ only xs)
   -- "20 at that row, column 0, past the end"
   pub past_end : rows ≤ row → d ≡ record { answer = record { number = 20; row = row; column = 0; rows = 0; bytes = 0 }; buffer = out }
 

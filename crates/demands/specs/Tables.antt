@@ -1,6 +1,5 @@
 -- What the demands say of a table that was read: its end, its rows, their lines.
-use Rattle.std.specs.Prelude.{◌+◌, ◌-◌, suc, zero, ℕ, List, [], ◌++◌, ◌∷◌, length}
-use Rattle.std.proofs.Math.Option.{Option, none, some}
+use Rattle.std.specs.Prelude.{◌+◌, ◌-◌, suc, zero, ℕ, List, [], ◌++◌, ◌∷◌, length, Option, None, Some}
 use Rattle.rows.specs.Sequence.{finished, in_order, row, sequence, stopped}
 use Rattle.rows.specs.Stream.{Table, at_end, read_row, write_row}
 use Rattle.table.specs.Cell.{Cell}
@@ -30,17 +29,17 @@ up_to (suc m) (row xs t) = row xs (up_to m t)
 
 -- the cells of row j, counted from 0
 unfoldable pub row_at : ℕ → Table → Option (List Cell)
-row_at j finished = none
-row_at j (stopped e) = none
-row_at zero (row xs t) = some xs
+row_at j finished = None
+row_at j (stopped e) = None
+row_at zero (row xs t) = Some xs
 row_at (suc j) (row xs t) = row_at j t
 
 -- the refusal in reading that stands where row j should stand
 unfoldable pub stop_at : ℕ → Table → Option Refusal
-stop_at j finished = none
-stop_at zero (stopped e) = some e
-stop_at (suc j) (stopped e) = none
-stop_at zero (row xs t) = none
+stop_at j finished = None
+stop_at zero (stopped e) = Some e
+stop_at (suc j) (stopped e) = None
+stop_at zero (row xs t) = None
 stop_at (suc j) (row xs t) = stop_at j t
 
 -- a table of one row

@@ -1,8 +1,6 @@
 -- Two nights compared, stated of any function that compares two inputs. 02, #110. A call is said by facts of the declarations and the inputs alone: what is
 -- declared, what each input reads as, and whether two cells are the same.
-use Rattle.std.specs.Prelude.{◌*◌, ◌+◌, ◌-◌, ◌/◌, ◌<◌, ◌≤◌, min, ℕ, true, List, [], ◌∷◌, ◌↔◌, ◌⊎◌, ◌≡◌, get_or, length}
-use Rattle.std.proofs.Math.Option.{some}
-use Rattle.std.proofs.Math.ListN.{get_elem?}
+use Rattle.std.specs.Prelude.{◌*◌, ◌+◌, ◌-◌, ◌/◌, ◌<◌, ◌≤◌, min, ℕ, true, List, [], ◌∷◌, ◌↔◌, ◌⊎◌, ◌≡◌, get_or, length, Some, slice_get}
 use Rattle.compare.specs.Compare.{Compared, Place}
 use Rattle.demands.specs.Demands.{Converter, Demand2, Valid, output}
 use Rattle.demands.specs.Places.{shows_at}
@@ -32,7 +30,7 @@ pub data InputRefused (decls : List ℕ) (from : Rows) (input : List ℕ) : ℕ 
   -- "For each input size comes first: 6 stands at row 0, column 0"
   input-oversized : {cs : List Column} → declare decls ≡ good cs → most_input < length input → InputRefused decls from input 6 0 0
   -- "the row and column where it stopped": what stands there does not read as a row
-  row-unread : {cs : List Column} {e : Refusal} {r : ℕ} → declare decls ≡ good cs → length input ≤ most_input → stop_at r (read from cs input) ≡ some e
+  row-unread : {cs : List Column} {e : Refusal} {r : ℕ} → declare decls ≡ good cs → length input ≤ most_input → stop_at r (read from cs input) ≡ Some e
       → InputRefused decls from input e.number r e.column
 
 -- an input that has no refusal
@@ -53,12 +51,12 @@ pub record NothingCompared (input number row column : ℕ) (entry : List ℕ) (c
 pub record Differ (t u : Table) (p : Place) : Type 0 where
   pub first-row : List Cell
   pub second-row : List Cell
-  pub in-first : row_at p.row t ≡ some first-row
-  pub in-second : row_at p.row u ≡ some second-row
+  pub in-first : row_at p.row t ≡ Some first-row
+  pub in-second : row_at p.row u ≡ Some second-row
   pub first_cell : Cell
   pub second-cell : Cell
-  pub of-first : get_elem? first-row p.column ≡ some first_cell
-  pub of-second : get_elem? second-row p.column ≡ some second-cell
+  pub of-first : slice_get first-row p.column ≡ Some first_cell
+  pub of-second : slice_get second-row p.column ≡ Some second-cell
   pub not_same : first_cell ≡ second-cell → ⊥
 
 -- "in row and column order"
@@ -93,7 +91,7 @@ pub record NightsCompared (t u : Table) (entry : List ℕ) (c : Compared) : Type
         places = min (length differing-places) (length entry / 2);
       }
   -- "in a lent buffer the first differing places .., each as two 32-bit numbers"
-  pub named : (k : ℕ) (p : Place) → k < c.answer.places → get_elem? differing-places k ≡ some p
+  pub named : (k : ℕ) (p : Place) → k < c.answer.places → slice_get differing-places k ≡ Some p
       → (get_or c.buffer (2 * k) 0 ≡ p.row) × (get_or c.buffer (2 * k + 1) 0 ≡ p.column)
   -- "the rest untouched"
   pub untouched : (i : ℕ) → 2 * c.answer.places ≤ i → get_or c.buffer i 0 ≡ get_or entry i 0

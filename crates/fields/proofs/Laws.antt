@@ -1,10 +1,11 @@
 -- What is declared: 1 to 64 columns, lengths 1 to 4,096, a declared null only where it is an element of its column.
+use Rattle.std.proofs.lemmas.Option.{none-some}
+use Rattle.std.specs.Prelude.{Option, None, Some}
 use Prim.Native.Nat.{◌*◌, ◌+◌, ◌-◌, ◌<◌, ◌≤◌, suc, zero, zero-le, ℕ}
 use native.Mathlib.Nat.{le_refl}
 use native.Mathlib.Omega.{arith}
 use mathlib.Core.Bool.{Bool, ◌&&◌, cond, false, true}
 use mathlib.Core.List.{List, [], ◌∷◌}
-use mathlib.Core.Option.{Option, none-ne-some, none, some}
 use mathlib.Core.Path.{◌≡◌, refl, subst}
 use lib.Dec.{eqb, leb, lit≤, ltb}
 use lib.IntN.{pos, ℤ}
@@ -23,8 +24,6 @@ use Rattle.table.specs.Shape.{Bits, Shape, Text, Truths, Whole, Width, in_range,
 use Rattle.table.specs.declared.Column.{Column}
 use Rattle.table.specs.declared.Len.{Len}
 use Rattle.table.specs.declared.Len.TheVariants.{Fixed, Free}
-use Rattle.table.specs.declared.Null.{Null}
-use Rattle.table.specs.declared.Null.TheVariants.{Declared, Undeclared}
 
 -- a numeral is at least what came before
 numeral-ge : (v : ℕ → Result Fault ℕ) (a : ℕ) (s : List ℕ) → Holds (λ (n : ℕ). a ≤ n) (numeral v 10 a s)
@@ -50,40 +49,40 @@ bounded-is (b ∷ t) = holds-bind (length-is (b ∷ t)) (λ n h. holds h)
 
 before-is : (o : Option (List ℕ)) (s : List ℕ) → Holds Room (len_before o s)
 unfolding len_before
-before-is (some t) s = bounded-is t
-before-is none s = holds-bind (length-is s) (λ n h. holds h)
+before-is (Some t) s = bounded-is t
+before-is None s = holds-bind (length-is s) (λ n h. holds h)
 
 len_is : (o : Option (List ℕ)) → Holds Room (len_of o)
 unfolding len_of
-len_is none = holds {a = Fixed 1} (lit≤ tt, lit≤ tt)
-len_is (some s) = before-is (before_star s) s
+len_is None = holds {a = Fixed 1} (lit≤ tt, lit≤ tt)
+len_is (Some s) = before-is (before_star s) s
 
 -- the null that a column shows is an element of it
-abbrev NullIs : Shape → Bool → Null → Type 0
-NullIs k scalar n = (z : ℤ) → cond scalar (null_of_kind k n) none ≡ some z → is_element k z ≡ true
+abbrev NullIs : Shape → Bool → Option ℤ → Type 0
+NullIs k scalar n = (z : ℤ) → cond scalar (null_of_kind k n) None ≡ Some z → is_element k z ≡ true
 
 -- a declared null is a value of its kind
-abbrev Value : Shape → Null → Type 0
+abbrev Value : Shape → Option ℤ → Type 0
 Value Truths n = Unit {0}
 Value Bits n = Unit {0}
 Value Text n = Unit {0}
-Value (Whole g v) Undeclared = Unit {0}
-Value (Whole g v) (Declared z) = in_range g (suc (last v)) z ≡ true
+Value (Whole g v) None = Unit {0}
+Value (Whole g v) (Some z) = in_range g (suc (last v)) z ≡ true
 
-scalar-some : (b : Bool) (o : Option ℤ) (z : ℤ) → cond b o none ≡ some z → o ≡ some z
+scalar-some : (b : Bool) (o : Option ℤ) (z : ℤ) → cond b o None ≡ Some z → o ≡ Some z
 scalar-some true o z h = h
-scalar-some false o z h = absurd (none-ne-some z h)
+scalar-some false o z h = absurd (none-some z h)
 
-is-value : (P : ℤ → Type 0) (y z : ℤ) → P y → some y ≡ some z → P z
+is-value : (P : ℤ → Type 0) (y z : ℤ) → P y → Some y ≡ Some z → P z
 is-value P y z p e = subst P (cc) p
 
-null_is : (k : Shape) (scalar : Bool) (n : Null) → Value k n → NullIs k scalar n
+null_is : (k : Shape) (scalar : Bool) (n : Option ℤ) → Value k n → NullIs k scalar n
 unfolding is_element below
 null_is Truths scalar n v z h = is-value (λ (z : ℤ). is_element Truths z ≡ true) (pos 2) z refl (scalar-some scalar _ z h)
-null_is Bits scalar n v z h = absurd (none-ne-some z (scalar-some scalar _ z h))
-null_is Text scalar n v z h = absurd (none-ne-some z (scalar-some scalar _ z h))
-null_is (Whole g w) scalar Undeclared v z h = absurd (none-ne-some z (scalar-some scalar _ z h))
-null_is (Whole g w) scalar (Declared y) v z h = is-value (λ (z : ℤ). in_range g (suc (last w)) z ≡ true) y z v (scalar-some scalar _ z h)
+null_is Bits scalar n v z h = absurd (none-some z (scalar-some scalar _ z h))
+null_is Text scalar n v z h = absurd (none-some z (scalar-some scalar _ z h))
+null_is (Whole g w) scalar None v z h = absurd (none-some z (scalar-some scalar _ z h))
+null_is (Whole g w) scalar (Some y) v z h = is-value (λ (z : ℤ). in_range g (suc (last w)) z ≡ true) y z v (scalar-some scalar _ z h)
 
 value-is : (g : Bool) (v : Width) (ws : List (List ℕ)) → Holds (Value (Whole g v)) (null_value g v ws)
 unfolding null_value
@@ -91,7 +90,7 @@ value-is g v [] = refuses
 value-is g v (w ∷ []) = holds-bind (holds_as (λ f. 4) (integer-is g (last v) w)) (λ z h. holds h)
 value-is g v (w ∷ x ∷ ws) = refuses
 
-undeclared : (k : Shape) → Value k Undeclared
+undeclared : (k : Shape) → Value k None
 undeclared Truths = tt
 undeclared Bits = tt
 undeclared Text = tt
@@ -99,18 +98,18 @@ undeclared (Whole g v) = tt
 
 null_of-is : (k : Shape) (scalar : Bool) (o : Option (List ℕ)) → Holds (Value k) (null_of k scalar o)
 unfolding null_of
-null_of-is k scalar none = holds (undeclared k)
-null_of-is Truths scalar (some s) = holds tt
-null_of-is Bits scalar (some s) = holds tt
-null_of-is Text scalar (some s) = holds tt
-null_of-is (Whole g v) scalar (some s) = holds-cond scalar (λ _. value-is g v (words s)) (λ _. holds tt)
+null_of-is k scalar None = holds (undeclared k)
+null_of-is Truths scalar (Some s) = holds tt
+null_of-is Bits scalar (Some s) = holds tt
+null_of-is Text scalar (Some s) = holds tt
+null_of-is (Whole g v) scalar (Some s) = holds-cond scalar (λ _. value-is g v (words s)) (λ _. holds tt)
 
 judge-is : (f : Field) → Holds IsColumn (judge f)
 unfolding judge null_element
 judge-is f =
     holds-bind (holds-any (kind_of kinds f.datatype)) (λ k _.
     holds-bind (len_is f.arraysize) (λ l r.
-    holds-bind (null_of-is (shape k) (is_scalar (column_of k l Undeclared)) f.null) (λ n v.
+    holds-bind (null_of-is (shape k) (is_scalar (column_of k l None)) f.null) (λ n v.
     holds (record { some-room = r.0; most-room = r.1; null_is = null_is (shape k) (is_scalar (column_of k l n)) n v }))))
 
 abbrev From : ℕ → List Column → Type 0

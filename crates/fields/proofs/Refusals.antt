@@ -1,9 +1,9 @@
 -- Declarations refuse with 1 to 6, at a place that is at most 64: by following each refusal of the definition.
+use Rattle.std.specs.Prelude.{Option, None, Some}
 use Prim.Native.Nat.{◌+◌, ◌-◌, ◌≤◌, suc, zero, zero-le, ℕ}
 use native.Mathlib.Omega.{arith}
 use mathlib.Core.Bool.{Bool, ◌&&◌, ◌||◌}
 use mathlib.Core.List.{List, [], ◌∷◌}
-use mathlib.Core.Option.{Option, none, some}
 use lib.Dec.{eqb, leb, lit≤, ltb}
 use lib.ListN.{length}
 use borrow.Author.Tests.{eqb-false}
@@ -19,7 +19,6 @@ use Rattle.table.specs.Result.{Fails, Result, ◌>>=◌, bad, fails, gives, good
 use Rattle.table.specs.Shape.{Bits, Shape, Text, Truths, Whole, Width, last, shape}
 use Rattle.table.specs.declared.Column.{Column}
 use Rattle.table.specs.declared.Kind.{Kind}
-use Rattle.table.specs.declared.Null.TheVariants.{Undeclared}
 
 -- ---- each part of an element refuses with its own number
 
@@ -113,13 +112,13 @@ module _ {P : ℕ → Type 0} (three : P 3) where
 
   before-fails : (o : Option (List ℕ)) (s : List ℕ) → Fails P (len_before o s)
   unfolding len_before
-  before-fails (some t) s = bounded-fails t
-  before-fails none s = fails-bind (length-fails s) (λ n. gives)
+  before-fails (Some t) s = bounded-fails t
+  before-fails None s = fails-bind (length-fails s) (λ n. gives)
 
   pub len-fails : (o : Option (List ℕ)) → Fails P (len_of o)
   unfolding len_of
-  len-fails none = gives
-  len-fails (some s) = before-fails (before_star s) s
+  len-fails None = gives
+  len-fails (Some s) = before-fails (before_star s) s
 
 -- 4: its null
 module _ {P : ℕ → Type 0} (four : P 4) where
@@ -131,11 +130,11 @@ module _ {P : ℕ → Type 0} (four : P 4) where
 
   pub null-fails : (k : Shape) (scalar : Bool) (o : Option (List ℕ)) → Fails P (null_of k scalar o)
   unfolding null_of
-  null-fails k scalar none = gives
-  null-fails Truths scalar (some s) = gives
-  null-fails Bits scalar (some s) = gives
-  null-fails Text scalar (some s) = gives
-  null-fails (Whole g v) scalar (some s) = fails-cond scalar (null-value-fails g v (words s)) gives
+  null-fails k scalar None = gives
+  null-fails Truths scalar (Some s) = gives
+  null-fails Bits scalar (Some s) = gives
+  null-fails Text scalar (Some s) = gives
+  null-fails (Whole g v) scalar (Some s) = fails-cond scalar (null-value-fails g v (words s)) gives
 
 -- ---- declarations
 
@@ -147,7 +146,7 @@ unfolding judge
 judge-fails f =
     fails-bind (kind-fails (lit≤ tt, lit≤ tt) kinds f.datatype) (λ k.
     fails-bind (len-fails (lit≤ tt, lit≤ tt) f.arraysize) (λ l.
-    fails-bind (null-fails (lit≤ tt, lit≤ tt) (shape k) (is_scalar (column_of k l Undeclared)) f.null) (λ n. gives)))
+    fails-bind (null-fails (lit≤ tt, lit≤ tt) (shape k) (is_scalar (column_of k l None)) f.null) (λ n. gives)))
 
 -- a refusal of declarations: 1 to 6, at a place that is at most 64
 abbrev pub AtPlace : Refusal → Type 0

@@ -1,6 +1,5 @@
 -- Declarations: "a subset of XML" in which FIELD elements declare columns. What is not of this shape is refusal 1.
-use Rattle.std.specs.Prelude.{◌+◌, ◌-◌, suc, zero, ℕ, Bool, ◌&&◌, ◌||◌, cond, false, List, [], ◌∷◌, eqb, leb, ltb, length}
-use Rattle.std.proofs.Math.Option.{Option, none, some}
+use Rattle.std.specs.Prelude.{◌+◌, ◌-◌, suc, zero, ℕ, Bool, ◌&&◌, ◌||◌, cond, false, List, [], ◌∷◌, eqb, leb, ltb, length, Option, None, Some, ℤ}
 use Rattle.number.specs.Number.{digit, numeral, read_integer}
 use Rattle.table.specs.Bytes.{after, between, byte, bytes, ends, is_white, same, skip_white, tag, words}
 use Rattle.table.specs.Cell.{column_of, is_scalar, most_elements}
@@ -12,8 +11,6 @@ use Rattle.table.specs.declared.Kind.{Kind}
 use Rattle.table.specs.declared.Kind.TheVariants.{Bit, Boolean, Int, Long, Short, UnsignedByte}
 use Rattle.table.specs.declared.Len.{Len}
 use Rattle.table.specs.declared.Len.TheVariants.{Bounded, Fixed, Free}
-use Rattle.table.specs.declared.Null.{Null}
-use Rattle.table.specs.declared.Null.TheVariants.{Declared, Undeclared}
 
 -- ---- attributes
 
@@ -82,8 +79,8 @@ values_of name (a ∷ attrs) = cond (same name a.name) (a.value ∷ values_of na
 
 -- "`datatype`, `arraysize`, and in VALUES `null`, may stand once"
 unfoldable pub at_most_one : List (List ℕ) → Result ℕ (Option (List ℕ))
-at_most_one [] = good none
-at_most_one (v ∷ []) = good (some v)
+at_most_one [] = good None
+at_most_one (v ∷ []) = good (Some v)
 at_most_one (v ∷ w ∷ vs) = bad 1
 
 -- "`datatype` is needed"
@@ -117,7 +114,7 @@ begins (bad n) x y = y
 -- "at most one VALUES as an empty-element tag, and the end tag"
 unfoldable pub field_body : List ℕ → Result ℕ (Option (List ℕ) × List ℕ)
 field_body s = do
-  (v, t) ← begins (ends 1 (bytes "<VALUES") s) (read_values s) (good (none, s))
+  (v, t) ← begins (ends 1 (bytes "<VALUES") s) (read_values s) (good (None, s))
   rest ← tag 1 (bytes "</FIELD") (skip_white t)
   good (v, rest)
 
@@ -126,7 +123,7 @@ unfoldable pub read_field : List ℕ → Result ℕ Field
 read_field s = do
   t ← after 1 (bytes "<FIELD") s
   (attrs, u) ← attributes t
-  (written, rest) ← or_else (ends 1 (bytes "/>") u >>= λ rest. good (none, rest)) (ends 1 (bytes ">") u >>= λ v. field_body v)
+  (written, rest) ← or_else (ends 1 (bytes "/>") u >>= λ rest. good (None, rest)) (ends 1 (bytes ">") u >>= λ v. field_body v)
   d ← exactly_one (values_of (bytes "datatype") attrs)
   l ← at_most_one (values_of (bytes "arraysize") attrs)
   good (record { datatype = d; arraysize = l; null = written; rest = rest })
@@ -153,13 +150,13 @@ length_of (b ∷ s) =
 
 -- what comes before a last `*`, where one is
 unfoldable pub before_star : List ℕ → Option (List ℕ)
-before_star [] = none
-before_star (b ∷ []) = cond (eqb b (byte "*")) (some []) none
+before_star [] = None
+before_star (b ∷ []) = cond (eqb b (byte "*")) (Some []) None
 before_star (b ∷ c ∷ s) = put_back b (before_star (c ∷ s))
   where
     put_back : ℕ → Option (List ℕ) → Option (List ℕ)
-    put_back b none = none
-    put_back b (some t) = some (b ∷ t)
+    put_back b None = None
+    put_back b (Some t) = Some (b ∷ t)
 
 -- "bounded `n*`, free `*` (4,096)"
 unfoldable pub bounded_len : List ℕ → Result ℕ Len
@@ -168,34 +165,34 @@ bounded_len (b ∷ s) = length_of (b ∷ s) >>= λ n. good (Bounded n)
 
 -- "The length of a column is one of three shapes: fixed `n`, bounded `n*`, free `*`"
 unfoldable pub len_before : Option (List ℕ) → List ℕ → Result ℕ Len
-len_before (some t) s = bounded_len t
-len_before none s = length_of s >>= λ n. good (Fixed n)
+len_before (Some t) s = bounded_len t
+len_before None s = length_of s >>= λ n. good (Fixed n)
 
 -- "No `arraysize` is the same as `1`"
 unfoldable pub len_of : Option (List ℕ) → Result ℕ Len
-len_of none = good (Fixed 1)
-len_of (some s) = len_before (before_star s) s
+len_of None = good (Fixed 1)
+len_of (Some s) = len_before (before_star s) s
 
 -- "read as a cell of that kind; an empty one is refused"
-unfoldable pub null_value : Bool → Width → List (List ℕ) → Result ℕ Null
+unfoldable pub null_value : Bool → Width → List (List ℕ) → Result ℕ (Option ℤ)
 null_value g v [] = bad 4
-null_value g v (w ∷ []) = refused_as (λ f. 4) (read_integer g (suc (last v)) w) >>= λ z. good (Declared z)
+null_value g v (w ∷ []) = refused_as (λ f. 4) (read_integer g (suc (last v)) w) >>= λ z. good (Some z)
 null_value g v (w ∷ x ∷ ws) = bad 4
 
 -- "`null` counts only on scalar integer columns" "Elsewhere it is skipped."
-unfoldable pub null_of : Shape → Bool → Option (List ℕ) → Result ℕ Null
-null_of k scalar none = good Undeclared
-null_of Truths scalar (some s) = good Undeclared
-null_of Bits scalar (some s) = good Undeclared
-null_of Text scalar (some s) = good Undeclared
-null_of (Whole g v) scalar (some s) = cond scalar (null_value g v (words s)) (good Undeclared)
+unfoldable pub null_of : Shape → Bool → Option (List ℕ) → Result ℕ (Option ℤ)
+null_of k scalar None = good None
+null_of Truths scalar (Some s) = good None
+null_of Bits scalar (Some s) = good None
+null_of Text scalar (Some s) = good None
+null_of (Whole g v) scalar (Some s) = cond scalar (null_value g v (words s)) (good None)
 
 -- "in each one shape (through its end), 2, 3, 4"
 unfoldable pub judge : Field → Result ℕ Column
 judge f = do
   k ← kind_of kinds f.datatype
   l ← len_of f.arraysize
-  n ← null_of (shape k) (is_scalar (column_of k l Undeclared)) f.null
+  n ← null_of (shape k) (is_scalar (column_of k l None)) f.null
   good (column_of k l n)
 
 -- ---- the whole text

@@ -1,4 +1,5 @@
 -- The flags of a row as one number: the bits of bytes are the digits of the number that the bytes spell, and so back.
+use Rattle.table.proofs.Places.{done, next1}
 use Prim.Native.Nat.{◌%◌, ◌*◌, ◌+◌, ◌-◌, ◌/◌, ◌<◌, ◌^◌, ◌≤◌, suc, zero, ℕ}
 use Rattle.binary.proofs.Digits.{digits-split, unit-is, zero-digits}
 use Rattle.binary.proofs.Laws.{length-pack}
@@ -7,14 +8,13 @@ use Rattle.number.proofs.Laws.{digits_last, digits_low, length_to, of-from, of_l
 use Rattle.number.specs.Number.{of_digits, to_digits}
 use Rattle.table.proofs.Laws.{all_drop, all_take}
 use Rattle.table.specs.All.{AreBytes}
-use Rattle.table.specs.Outcome.{at}
 use Rattle.table.specs.Result.{◌>>=◌, bad, good}
 use borrow.Author.Tests.{eq-eqb, le-ltb, lt-ltb, ne_eqb}
 use lib.Arith.{digits_div, digits_mod}
 use lib.Dec.{eqb, lit<}
 use lib.ListN.{drop, get_or, length, length-drop, replicate, set, take}
 use lib.Pow.{mod-mod-pow, pow-add, pow_mono}
-use lib.Seq.{drop_at, drop-cons, drop-drop, length-take-le, sets, take_at}
+use lib.Seq.{drop_at, drop-drop, length-take-le, sets, take_at}
 use mathlib.Core.Bool.{cond}
 use mathlib.Core.List.{List, [], ◌++◌, ◌∷◌}
 use mathlib.Core.Path.{◌∙◌, ◌≡◌, ap, ap₂, refl, sym}
@@ -38,14 +38,13 @@ bytes-grow k x b h m = omega (arith, pow-add 256 k 1)
 
 -- ---- bytes to a number
 
-pub byte_next : (s : List ℕ) (at n k x : ℕ) → k < n → at + n ≤ length s
-    → of_digits 256 x (take (n - k) (drop (at + k) s)) ≡ of_digits 256 (x * 256 + get_or s (at + k) 0) (take (n - (k + 1)) (drop (at + (k + 1)) s))
+pub byte_next : (t : List ℕ) (k x : ℕ) → k < length t → of_digits 256 x (drop k t) ≡ of_digits 256 (x * 256 + get_or t k 0) (drop (k + 1) t)
 unfolding of_digits
-byte_next s at n k x h m =
-    let e : n - k ≡ suc (n - (k + 1)) = omega arith in
-    let o : suc (at + k) ≡ at + (k + 1) = omega arith in
-    ap (λ (j : ℕ). of_digits 256 x (take j (drop (at + k) s))) e
-    ∙ ap (λ (l : List ℕ). of_digits 256 x (take (suc (n - (k + 1))) l)) (drop-cons s (at + k) 0 (omega arith) ∙ ap (λ (j : ℕ). get_or s (at + k) 0 ∷ drop j s) o)
+byte_next t k x h = rw (next1 t k h)
+
+pub no_byte : (t : List ℕ) (k x : ℕ) → length t ≤ k → x ≡ of_digits 256 x (drop k t)
+unfolding of_digits
+no_byte t k x h = rw (done t k h)
 
 pub are-bytes : (s : List ℕ) → ((i : ℕ) → get_or s i 0 < 256) → AreBytes s
 are-bytes [] h = tt

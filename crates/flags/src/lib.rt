@@ -7,13 +7,15 @@ ghost use Rattle.table.specs.Wrote.{Wrote};
 ghost use Rattle.binary.specs.Binary.{bit_bytes, flag_bit, pack, read_flags};
 ghost use Rattle.flags.specs.Clauses.{ReadsFlags};
 
+use table::Reason;
+
 // ---- "A BINARY2 row begins with (columns+7)/8 bytes, rounded down, of flags"
 
 // The flags of a row as one number, the first column's the highest of its digits in base 2, and the place after them.
 #[derive(Clone, Copy)]
-pub enum Flags {
-    Are(u64, usize),
-    Spoiled(u64),
+pub struct Flags {
+    pub word: u64,
+    pub next: usize,
 }
 
 fn flag_bytes(columns: usize) -> usize
@@ -28,30 +30,32 @@ fn few_bytes(s: &[u8], at: usize, n: usize) -> u64
     ensures { result ≡ of_digits 256 0 (take n (drop at s.now)) }
 {
     let mut x: u64 = 0;
-    let mut k: usize = 0;
-    while k < n {
-        x = x * 256 + (s[at + k] as u64);
-        k += 1;
+    for b in &s[at..at + n] {
+        x = x * 256 + (*b as u64);
     }
     x
 }
 
 // "flag bytes first (8, then 13, at column 0)"
-pub fn read_flags(s: &[u8], at: usize, columns: usize) -> Flags
+pub fn read_flags(s: &[u8], at: usize, columns: usize) -> Result<Flags, Reason>
     requires { (at ≤ length s.now) × (columns ≤ 64) }
     ensures { ReadsFlags (read_flags columns (drop at s.now)) s.now at columns result }
 {
     let n = flag_bytes(columns);
     if s.len() - at < n {
-        return Flags::Spoiled(8);
+        return Err(Reason::Cut);
     }
     let x = few_bytes(s, at, n);
     let spare = 8 * n - columns;
     let unit = 1u64 << spare;
+    let flags = Flags {
+        word: x / unit,
+        next: at + n,
+    };
     if x % unit == 0 {
-        Flags::Are(x / unit, at + n)
+        Ok(flags)
     } else {
-        Flags::Spoiled(13)
+        Err(Reason::Padding)
     }
 }
 
@@ -78,13 +82,9 @@ pub fn write_flags(flags: u64, columns: usize, out: &mut [u8], at: usize) -> usi
 {
     let n = flag_bytes(columns);
     let x = flags << (8 * n - columns);
-    let mut m = n;
-    let mut o = at;
-    while 0 < m {
-        m -= 1;
-        let b = (x >> (8 * m)) % 256;
-        out[o] = b as u8;
-        o += 1;
+    for k in 0..n {
+        let b = (x >> (8 * (n - 1 - k))) % 256;
+        out[at + k] = b as u8;
     }
-    o
+    at + n
 }

@@ -1,4 +1,5 @@
 -- Declarations are read exactly, from a FIELD to its column, and the list of columns: `declares-exactly`.
+use Rattle.std.specs.Prelude.{Option, None, Some, ℤ}
 use Prim.Native.Nat.{◌+◌, ◌-◌, ◌<◌, ◌≤◌, suc, zero, ℕ}
 use native.Mathlib.Decide.{dec_le}
 use native.Mathlib.Nat.{zero-add, zero-mul}
@@ -6,7 +7,6 @@ use native.Mathlib.Omega.{arith}
 use mathlib.Core.Bool.{Bool, ◌&&◌, true}
 use mathlib.Core.List.{List, [], ◌++◌, ◌∷◌, append-nil}
 use mathlib.Core.Logic.{◌↔◌}
-use mathlib.Core.Option.{Option, none, some}
 use mathlib.Core.Path.{◌∙◌, ◌≡◌, ap, refl, subst⁻¹, sym}
 use lib.Dec.{eqb, leb, lit≤, ltb}
 use lib.ListN.{length}
@@ -34,8 +34,6 @@ use Rattle.table.specs.declared.Column.{Column}
 use Rattle.table.specs.declared.Kind.{Kind}
 use Rattle.table.specs.declared.Len.{Len}
 use Rattle.table.specs.declared.Len.TheVariants.{Bounded, Free}
-use Rattle.table.specs.declared.Null.{Null}
-use Rattle.table.specs.declared.Null.TheVariants.{Undeclared}
 
 -- ---- datatype
 
@@ -93,13 +91,13 @@ size_is (b ∷ s) =
     digit_at : (b : ℕ) → (49 ≤ b) × (b ≤ 57) → digit b ≡ good (b - 48)
     digit_at b i = unfold digit in rw (between-yes 48 57 b (omega arith) i.1)
 
-star-read : (s : List ℕ) → before_star (s ++ (42 ∷ [])) ≡ some s
+star-read : (s : List ℕ) → before_star (s ++ (42 ∷ [])) ≡ Some s
 unfolding before_star
 star-read [] = refl
 star-read (b ∷ []) = refl
 star-read (b ∷ c ∷ s) = rw (star-read (c ∷ s))
 
-no-star : (s : List ℕ) → All (λ (b : ℕ). b ≤ 57) s → All (λ (b : ℕ). 48 ≤ b) s → before_star s ≡ none
+no-star : (s : List ℕ) → All (λ (b : ℕ). b ≤ 57) s → All (λ (b : ℕ). 48 ≤ b) s → before_star s ≡ None
 unfolding before_star
 no-star [] a h = refl
 no-star (b ∷ []) a h = rw (ne_eqb b 42 (λ e. omega (arith, h.0, e)))
@@ -107,21 +105,21 @@ no-star (b ∷ c ∷ s) a h = rw (no-star (c ∷ s) a.1 h.1)
 
 -- what stands before a last `*`
 abbrev Starred : List ℕ → Option (List ℕ) → Type 0
-Starred s none = Unit {0}
-Starred s (some t) = s ≡ t ++ (42 ∷ [])
+Starred s None = Unit {0}
+Starred s (Some t) = s ≡ t ++ (42 ∷ [])
 
 abbrev put_back : ℕ → Option (List ℕ) → Option (List ℕ)
-put_back b none = none
-put_back b (some t) = some (b ∷ t)
+put_back b None = None
+put_back b (Some t) = Some (b ∷ t)
 
 star-on : (b : ℕ) (s : List ℕ) (o : Option (List ℕ)) → Starred s o → Starred (b ∷ s) (put_back b o)
-star-on b s none h = tt
-star-on b s (some t) h = ap (λ (x : List ℕ). b ∷ x) h
+star-on b s None h = tt
+star-on b s (Some t) h = ap (λ (x : List ℕ). b ∷ x) h
 
 star-is : (s : List ℕ) → Starred s (before_star s)
 unfolding before_star
 star-is [] = tt
-star-is (b ∷ []) = cond_cases (Starred (b ∷ [])) (eqb b 42) (some []) none (λ e. ap (λ (x : ℕ). x ∷ []) (eqb-true b 42 e)) (λ _. tt)
+star-is (b ∷ []) = cond_cases (Starred (b ∷ [])) (eqb b 42) (Some []) None (λ e. ap (λ (x : ℕ). x ∷ []) (eqb-true b 42 e)) (λ _. tt)
 star-is (b ∷ c ∷ s) = star-on b (c ∷ s) (before_star (c ∷ s)) (star-is (c ∷ s))
 
 size-digits : {s : List ℕ} {n : ℕ} → SizeText s n → All (λ (b : ℕ). b ≤ 57) s × All (λ (b : ℕ). 48 ≤ b) s
@@ -139,23 +137,23 @@ arraysize-read (size-fixed {s = s} h) = rw (no-star s (size-digits h).0 (size-di
 arraysize-read (size-bounded {s = s} h) = rw (star-read s) (bounded-read h)
 arraysize-read size-free = unfold before_star bounded_len in refl
 
-bounded-is : (s t : List ℕ) → s ≡ t ++ (42 ∷ []) → Holds (Arraysize (some s)) (bounded_len t)
+bounded-is : (s t : List ℕ) → s ≡ t ++ (42 ∷ []) → Holds (Arraysize (Some s)) (bounded_len t)
 unfolding bounded_len
 bounded-is s [] e = holds {a = Free} (rw e size-free)
 bounded-is s (b ∷ t) e = holds-bind (size_is (b ∷ t)) (λ n h. holds (rw e (size-bounded h)))
 
 pub arraysize-is : (a : Option (List ℕ)) → Holds (Arraysize a) (len_of a)
 unfolding len_of
-arraysize-is none = holds size-absent
-arraysize-is (some s) = go (before_star s) (star-is s)
+arraysize-is None = holds size-absent
+arraysize-is (Some s) = go (before_star s) (star-is s)
   where
-    go : (o : Option (List ℕ)) → Starred s o → Holds (Arraysize (some s)) (len_before o s)
-    go none h = unfold len_before in holds-bind (size_is s) (λ n k. holds (size-fixed k))
-    go (some t) h = unfold len_before in bounded-is s t h
+    go : (o : Option (List ℕ)) → Starred s o → Holds (Arraysize (Some s)) (len_before o s)
+    go None h = unfold len_before in holds-bind (size_is s) (λ n k. holds (size-fixed k))
+    go (Some t) h = unfold len_before in bounded-is s t h
 
 -- ---- null
 
-pub null-read : {k : Shape} {scalar : Bool} {o : Option (List ℕ)} {n : Null} → NullText k scalar o n → null_of k scalar o ≡ good n
+pub null-read : {k : Shape} {scalar : Bool} {o : Option (List ℕ)} {n : Option ℤ} → NullText k scalar o n → null_of k scalar o ≡ good n
 unfolding null_of null_value
 null-read null-absent = refl
 null-read (null-counts h (trimmed {v = v} w m u)) = rw (h, words-trimmed w (integer-word v _ m) u, integer-read m)
@@ -164,7 +162,7 @@ null-read null-truths = refl
 null-read null-bits = refl
 null-read null-chars = refl
 
-value-is : (g : Bool) (v : Width) {s : List ℕ} {ws : List (List ℕ)} → OneWord s ws → (scalar : Bool) → scalar ≡ true → Holds (NullText (Whole g v) scalar (some s)) (null_value g v ws)
+value-is : (g : Bool) (v : Width) {s : List ℕ} {ws : List (List ℕ)} → OneWord s ws → (scalar : Bool) → scalar ≡ true → Holds (NullText (Whole g v) scalar (Some s)) (null_value g v ws)
 unfolding null_value
 value-is g v (no_word w) scalar h = refuses
 value-is g v (one_word {v = x} w i u e) scalar h = holds-bind (holds_as (λ f. 4) (integer-is g (suc (last v)) x)) (λ z m. holds (null-counts h (rw e (trimmed w m u))))
@@ -172,15 +170,15 @@ value-is g v (two-words x y vs) scalar h = refuses
 
 pub null_is : (k : Shape) (scalar : Bool) (o : Option (List ℕ)) → Holds (NullText k scalar o) (null_of k scalar o)
 unfolding null_of
-null_is k scalar none = holds null-absent
-null_is Truths scalar (some s) = holds null-truths
-null_is Bits scalar (some s) = holds null-bits
-null_is Text scalar (some s) = holds null-chars
-null_is (Whole g v) scalar (some s) = holds-cond scalar (λ h. value-is g v (one-word-of s) scalar h) (λ h. holds (null-array h))
+null_is k scalar None = holds null-absent
+null_is Truths scalar (Some s) = holds null-truths
+null_is Bits scalar (Some s) = holds null-bits
+null_is Text scalar (Some s) = holds null-chars
+null_is (Whole g v) scalar (Some s) = holds-cond scalar (λ h. value-is g v (one-word-of s) scalar h) (λ h. holds (null-array h))
 
 -- ---- a FIELD's column
 
-pub judge-read : {d : List ℕ} {a o : Option (List ℕ)} {k : Kind} {l : Len} {n : Null} → Datatype d k → Arraysize a l → NullText (shape k) (is_scalar (column_of k l Undeclared)) o n → (rest : List ℕ)
+pub judge-read : {d : List ℕ} {a o : Option (List ℕ)} {k : Kind} {l : Len} {n : Option ℤ} → Datatype d k → Arraysize a l → NullText (shape k) (is_scalar (column_of k l None)) o n → (rest : List ℕ)
     → judge (field_as d a o rest) ≡ good (column_of k l n)
 unfolding judge
 judge-read h i j rest = rw (datatype-read h, arraysize-read i, null-read j)
@@ -191,7 +189,7 @@ unfolding judge
 judge-is s f h =
     holds-bind (datatype-is f.datatype) (λ k x.
     holds-bind (arraysize-is f.arraysize) (λ l y.
-    holds-bind (null_is (shape k) (is_scalar (column_of k l Undeclared)) f.null) (λ n z. holds (h.0, field_of h.3 h.4 x h.5 y z, h.2))))
+    holds-bind (null_is (shape k) (is_scalar (column_of k l None)) f.null) (λ n z. holds (h.0, field_of h.3 h.4 x h.5 y z, h.2))))
 
 -- ---- the list
 

@@ -1,10 +1,10 @@
 -- Declarations are read exactly, up to the FIELD: names, values, attributes, VALUES, FIELD elements. The reader is followed step by step; each
 -- step says what it took from the front of the text.
+use Rattle.std.specs.Prelude.{Option, None, Some}
 use Prim.Native.Nat.{◌<◌, ◌≤◌, suc, zero, ℕ}
 use native.Mathlib.Omega.{arith}
 use mathlib.Core.Bool.{Bool, ◌||◌, cond, false, false≢true, or-true, true}
 use mathlib.Core.List.{List, [], ◌++◌, ◌∷◌, append_assoc, map}
-use mathlib.Core.Option.{Option, none, some}
 use mathlib.Core.Path.{◌∙◌, ◌≡◌, ap, refl, subst⁻¹, subst₂, sym}
 use lib.Dec.{eqb, lit≤}
 use lib.ListN.{length, length-append}
@@ -270,8 +270,8 @@ all-attributes-are s = attributes-are (suc (length s)) s
 -- ---- the value of a name
 
 unfoldable optional : Option (List ℕ) → List (List ℕ)
-optional none = []
-optional (some v) = v ∷ []
+optional None = []
+optional (Some v) = v ∷ []
 
 same_not : (s t : List ℕ) → (t ≡ s → ⊥) → same s t ≡ false
 same_not s t h = go (same s t) refl
@@ -288,10 +288,10 @@ value-of-read {name} (value-skipped {n = n} h r) = rw (same_not name n h, value-
 
 at-most-one-read : (o : Option (List ℕ)) → at_most_one (optional o) ≡ good o
 unfolding at_most_one optional
-at-most-one-read none = refl
-at-most-one-read (some v) = refl
+at-most-one-read None = refl
+at-most-one-read (Some v) = refl
 
-exactly-one-read : (v : List ℕ) → exactly_one (optional (some v)) ≡ good v
+exactly-one-read : (v : List ℕ) → exactly_one (optional (Some v)) ≡ good v
 unfolding exactly_one optional
 exactly-one-read v = refl
 
@@ -300,33 +300,33 @@ nil-cons v vs e = let q : ◌≡◌ {A = ℕ} (suc (length vs)) 0 = ap length e 
 
 value-of-is : (name : List ℕ) (attrs : List Attribute) (o : Option (List ℕ)) → values_of name attrs ≡ optional o → ValueOf name (map as_pair attrs) o
 unfolding values_of
-value-of-is name [] none e = value_none
-value-of-is name [] (some v) e = unfold optional in absurd (nil-cons v [] (sym e))
+value-of-is name [] None e = value_none
+value-of-is name [] (Some v) e = unfold optional in absurd (nil-cons v [] (sym e))
 value-of-is name (a ∷ attrs) o e = go (same name a.name) refl o e (value-of-is name attrs)
   where
     go : (b : Bool) → same name a.name ≡ b → (o : Option (List ℕ)) → cond b (a.value ∷ values_of name attrs) (values_of name attrs) ≡ optional o
         → ((o : Option (List ℕ)) → values_of name attrs ≡ optional o → ValueOf name (map as_pair attrs) o) → ValueOf name (map as_pair (a ∷ attrs)) o
-    go true h none e ih = unfold optional in absurd (nil-cons a.value (values_of name attrs) e)
-    go true h (some v) e ih = unfold optional in
+    go true h None e ih = unfold optional in absurd (nil-cons a.value (values_of name attrs) e)
+    go true h (Some v) e ih = unfold optional in
         let k : a.value ≡ v = cc e in
         let l : values_of name attrs ≡ [] = cc e in
-        subst₂ (λ (n v : List ℕ). ValueOf name ((n, a.value) ∷ map as_pair attrs) (some v)) (same-is name a.name h) k (value-here (ih none l))
+        subst₂ (λ (n v : List ℕ). ValueOf name ((n, a.value) ∷ map as_pair attrs) (Some v)) (same-is name a.name h) k (value-here (ih None l))
     go false h o e ih = value-skipped {n = a.name} (λ q. false≢true (sym h ∙ rw q (same_read name))) (ih o e)
 
 at-most-one-is : (name : List ℕ) (attrs : List Attribute) → Holds (ValueOf name (map as_pair attrs)) (at_most_one (values_of name attrs))
 at-most-one-is name attrs = go (values_of name attrs) (value-of-is name attrs)
   where
     go : (vs : List (List ℕ)) → ((o : Option (List ℕ)) → vs ≡ optional o → ValueOf name (map as_pair attrs) o) → Holds (ValueOf name (map as_pair attrs)) (at_most_one vs)
-    go [] f = unfold at_most_one optional in holds (f none refl)
-    go (v ∷ []) f = unfold at_most_one optional in holds (f (some v) refl)
+    go [] f = unfold at_most_one optional in holds (f None refl)
+    go (v ∷ []) f = unfold at_most_one optional in holds (f (Some v) refl)
     go (v ∷ w ∷ vs) f = unfold at_most_one in refuses
 
-exactly-one-is : (name : List ℕ) (attrs : List Attribute) → Holds (λ (v : List ℕ). ValueOf name (map as_pair attrs) (some v)) (exactly_one (values_of name attrs))
+exactly-one-is : (name : List ℕ) (attrs : List Attribute) → Holds (λ (v : List ℕ). ValueOf name (map as_pair attrs) (Some v)) (exactly_one (values_of name attrs))
 exactly-one-is name attrs = go (values_of name attrs) (value-of-is name attrs)
   where
-    go : (vs : List (List ℕ)) → ((o : Option (List ℕ)) → vs ≡ optional o → ValueOf name (map as_pair attrs) o) → Holds (λ (v : List ℕ). ValueOf name (map as_pair attrs) (some v)) (exactly_one vs)
+    go : (vs : List (List ℕ)) → ((o : Option (List ℕ)) → vs ≡ optional o → ValueOf name (map as_pair attrs) o) → Holds (λ (v : List ℕ). ValueOf name (map as_pair attrs) (Some v)) (exactly_one vs)
     go [] f = unfold exactly_one in refuses
-    go (v ∷ []) f = unfold exactly_one optional in holds (f (some v) refl)
+    go (v ∷ []) f = unfold exactly_one optional in holds (f (Some v) refl)
     go (v ∷ w ∷ vs) f = unfold exactly_one in refuses
 
 -- ---- VALUES
@@ -412,7 +412,7 @@ some-values h (values-tag r v k) rest = (_, ends-word 1 60 (86 ∷ 65 ∷ 76 ∷
 abbrev ended : Option (List ℕ) × List ℕ → Result ℕ (Option (List ℕ) × List ℕ)
 ended v = end-tag v.1 >>= λ rest. good (v.0, rest)
 
-body-split : (s : List ℕ) → field_body s ≡ (begins (ends 1 (bytes "<VALUES") s) (read_values s) (good (none, s)) >>= ended)
+body-split : (s : List ℕ) → field_body s ≡ (begins (ends 1 (bytes "<VALUES") s) (read_values s) (good (None, s)) >>= ended)
 unfolding field_body tag ends
 body-split s = refl
 
@@ -440,25 +440,25 @@ body_is s = subst⁻¹ (Holds (IsBody s)) (body-split s) (go (ends 1 (bytes "<VA
               ∙ sym (append_assoc h.white (h.taken ++ k.0) (k.1 ++ rest)),
         )))
 
-    without : Holds (IsBody s) (end-tag s >>= λ rest. good (none, rest))
+    without : Holds (IsBody s) (end-tag s >>= λ rest. good (None, rest))
     without = holds-bind (end-tag-is s) (λ rest k. holds (k.0, k.1, inside-nothing k.2, k.3, k.4))
 
-    go : (r : Result ℕ (List ℕ)) → Holds (IsBody s) (begins r (read_values s) (good (none, s)) >>= ended)
+    go : (r : Result ℕ (List ℕ)) → Holds (IsBody s) (begins r (read_values s) (good (None, s)) >>= ended)
     go (good u) = unfold begins in with_values
     go (bad n) = unfold begins in without
 
 abbrev closing : List ℕ → Result ℕ (Option (List ℕ) × List ℕ)
-closing u = or_else (ends 1 (bytes "/>") u >>= λ rest. good (none, rest)) (ends 1 (bytes ">") u >>= λ v. field_body v)
+closing u = or_else (ends 1 (bytes "/>") u >>= λ rest. good (None, rest)) (ends 1 (bytes ">") u >>= λ v. field_body v)
 
 abbrev pub field_as : List ℕ → Option (List ℕ) → Option (List ℕ) → List ℕ → Field
 field_as d a o rest = record { datatype = d; arraysize = a; null = o; rest = rest }
 
 field-rest-read : (a u rest d : List ℕ) {prs : List Pair} {l o : Option (List ℕ)} → AttributesText a prs → attribute_comes u ≡ false → closing u ≡ good (o, rest)
-    → ValueOf (bytes "datatype") prs (some d) → ValueOf (bytes "arraysize") prs l → read_field (bytes "<FIELD" ++ (a ++ u)) ≡ good (field_as d l o rest)
+    → ValueOf (bytes "datatype") prs (Some d) → ValueOf (bytes "arraysize") prs l → read_field (bytes "<FIELD" ++ (a ++ u)) ≡ good (field_as d l o rest)
 unfolding read_field after
 field-rest-read a u rest d {l = l} h c e x y = rw (all-attributes-read h u c, e, value-of-read x, exactly-one-read d, value-of-read y, at-most-one-read l)
 
-pub field-read : {t d : List ℕ} {prs : List Pair} {o l : Option (List ℕ)} → FieldText t prs o → ValueOf (bytes "datatype") prs (some d) → ValueOf (bytes "arraysize") prs l → (rest : List ℕ)
+pub field-read : {t d : List ℕ} {prs : List Pair} {o l : Option (List ℕ)} → FieldText t prs o → ValueOf (bytes "datatype") prs (Some d) → ValueOf (bytes "arraysize") prs l → (rest : List ℕ)
     → read_field (t ++ rest) ≡ good (field_as d l o rest)
 field-read {d = d} (field-empty {a = a} {w = w} h k) x y rest =
     ap (λ (s : List ℕ). read_field (bytes "<FIELD" ++ s)) (append_assoc a (w ++ (47 ∷ 62 ∷ [])) rest ∙ ap (λ (s : List ℕ). a ++ s) (append_assoc w (47 ∷ 62 ∷ []) rest))
@@ -491,7 +491,7 @@ closing-is u =
 
 -- a FIELD as the grammar sees it
 abbrev pub IsField : List ℕ → Field → Type 0
-IsField s f = (t : List ℕ) × (prs : List Pair) × (s ≡ t ++ f.rest) × FieldText t prs f.null × ValueOf (bytes "datatype") prs (some f.datatype) × ValueOf (bytes "arraysize") prs f.arraysize
+IsField s f = (t : List ℕ) × (prs : List Pair) × (s ≡ t ++ f.rest) × FieldText t prs f.null × ValueOf (bytes "datatype") prs (Some f.datatype) × ValueOf (bytes "arraysize") prs f.arraysize
 
 pub field_is : (s : List ℕ) → Holds (IsField s) (read_field s)
 unfolding read_field

@@ -1,12 +1,12 @@
 -- Declarations are refused exactly: with which number and at which place. What is refused is followed along the reader: a stage that gives no
 -- value has none in the grammar, by its completeness, and one that the grammar has nothing for gives none, by its soundness.
+use Rattle.std.specs.Prelude.{Option, None}
 use Prim.Native.Nat.{◌+◌, ◌<◌, ◌≤◌, suc, zero, ℕ}
 use native.Mathlib.Numerals.{add-one}
 use native.Mathlib.Omega.{arith}
 use mathlib.Core.Bool.{Bool, cond}
 use mathlib.Core.List.{List, [], ◌++◌, ◌∷◌}
 use mathlib.Core.Logic.{◌↔◌}
-use mathlib.Core.Option.{Option}
 use mathlib.Core.Path.{◌∙◌, ◌≡◌, ap, refl, subst, subst⁻¹, sym}
 use lib.Dec.{eqb, lit≤, ltb}
 use lib.ListN.{length}
@@ -27,7 +27,6 @@ use Rattle.table.specs.Outcome.{Refusal, at, most_declarations}
 use Rattle.table.specs.Result.{Fails, Result, ◌>>=◌, bad, fails, gives, good, refused_as}
 use Rattle.table.specs.Shape.{shape}
 use Rattle.table.specs.declared.Column.{Column}
-use Rattle.table.specs.declared.Null.TheVariants.{Undeclared}
 
 -- ---- a FIELD
 
@@ -62,7 +61,7 @@ unfolding judge
 judge-refused s f h =
     fails-then (fails-told (kind-fails (λ q. no_kind h (λ k x. bad-good (sym q ∙ datatype-read x))) kinds f.datatype)) (datatype-is f.datatype) (λ k x.
     fails-then (fails-told (len-fails (λ q. no_length h x (λ l y. bad-good (sym q ∙ arraysize-read y))) f.arraysize)) (arraysize-is f.arraysize) (λ l y.
-    let scalar : Bool = is_scalar (column_of k l Undeclared) in
+    let scalar : Bool = is_scalar (column_of k l None) in
     fails-bind (fails-told (null-fails (λ q. no-null h x y (λ n z. bad-good (sym q ∙ null-read z))) (shape k) scalar f.null)) (λ n. gives)))
 
 -- ---- the list
@@ -141,7 +140,7 @@ no-column-read k s more (no_kind {d = d} {a = a} {o = o} {rest = rest} h none) =
 no-column-read k s more (no_length {d = d} {a = a} {o = o} {rest = rest} h x none) =
     rw (then-judged k (skip_white s) (field_as d a o rest) more (field-at-read h), datatype-read x, refused (len-fails refl a) (holds-weaken (arraysize-is a) none))
 no-column-read k s more (no-null {d = d} {a = a} {o = o} {rest = rest} {k = q} {l = l} h x y none) =
-    let scalar : Bool = is_scalar (column_of q l Undeclared) in
+    let scalar : Bool = is_scalar (column_of q l None) in
     rw (
       then-judged k (skip_white s) (field_as d a o rest) more (field-at-read h),
       datatype-read x,

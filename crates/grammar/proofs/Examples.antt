@@ -1,4 +1,5 @@
 -- Some of 01's P cases in the grammar, and of 02's line ends, derived by its constructors alone or through the theorems.
+use Rattle.std.specs.Prelude.{Option}
 use Prim.Native.Nat.{◌<◌, ◌≤◌, ℕ}
 use native.Mathlib.Omega.{arith}
 use mathlib.Core.Bool.{Bool, false, true}
@@ -33,7 +34,6 @@ use Rattle.table.specs.Shape.{W2, Whole, half}
 use Rattle.table.specs.declared.Kind.{Kind}
 use Rattle.table.specs.declared.Kind.TheVariants.{Bit, UnsignedByte}
 use Rattle.table.specs.declared.Len.TheVariants.{Bounded, Fixed}
-use Rattle.table.specs.declared.Null.{Null}
 use Rattle.table.specs.declared.Rows.TheVariants.{Binary, Binary2, TableData}
 
 -- "P short `0xffff` is -1"
@@ -119,7 +119,7 @@ digit : (n : ℕ) → Itself n n
 digit n = itself
 
 -- "P nine bits .. `FF 81` 13": nine of 1, and a padding whose last bit is 1
-pub nine-bits : (n : Null) (flagged : Bool) → NoCell Binary (column_of Bit (Fixed 9) n) flagged (0xFF ∷ 0x81 ∷ []) 13
+pub nine-bits : (n : Option ℤ) (flagged : Bool) → NoCell Binary (column_of Bit (Fixed 9) n) flagged (0xFF ∷ 0x81 ∷ []) 13
 nine-bits n flagged = padding-not-0 {a = []} [] refl refl counted-fixed refl
     (padding-set (1 ∷ 1 ∷ 1 ∷ 1 ∷ 1 ∷ 1 ∷ 1 ∷ 1 ∷ 1 ∷ []) (0 ∷ 0 ∷ 0 ∷ 0 ∷ 0 ∷ 0 ∷ 1 ∷ []) refl refl packed (λ z. omega (arith, z.1.1.1.1.1.1.0)))
   where
@@ -139,7 +139,7 @@ nine-bits n flagged = padding-not-0 {a = []} [] refl refl counted-fixed refl
         (one_more (one_more (one_more (one_more (one_more (one_more (one_more (one-digit i) o) o) o) o) o) o) i) packed-end)
 
 -- "P `4*` with count .. 5 is 9": of any kind, under a flag or not, whatever follows
-pub five-of-four : (k : Kind) (n : Null) (flagged : Bool) (rest : List ℕ) → NoCell Binary2 (column_of k (Bounded 4) n) flagged (0 ∷ 0 ∷ 0 ∷ 5 ∷ rest) 9
+pub five-of-four : (k : Kind) (n : Option ℤ) (flagged : Bool) (rest : List ℕ) → NoCell Binary2 (column_of k (Bounded 4) n) flagged (0 ∷ 0 ∷ 0 ∷ 5 ∷ rest) 9
 five-of-four k n flagged rest =
     let o = digit 0 in
     over-bound {b = 0 ∷ 0 ∷ 0 ∷ 5 ∷ []} rest has-bounded refl (big_endian refl (one_more (one_more (one_more (one-digit o) o) o) (digit 5))) (lit< tt)
@@ -161,7 +161,7 @@ unfolding everything
 first-decides-11 h = let z : ◌≡◌ {A = Result ℕ (List ℤ)} (bad 11) (bad 18) = outside-elements h in let n : ◌≡◌ {A = ℕ} 11 18 = cc in omega arith
 
 -- "P cases .. `256` become 18": its tags and characters are there, and they spell a number that no byte holds
-pub no-byte-256 : (n : Null) (flagged : Bool) → NoCell TableData (column_of UnsignedByte (Fixed 1) n) flagged (bytes "<TD>256</TD>") 18
+pub no-byte-256 : (n : Option ℤ) (flagged : Bool) → NoCell TableData (column_of UnsignedByte (Fixed 1) n) flagged (bytes "<TD>256</TD>") 18
 unfolding everything
 no-byte-256 n flagged = out_of_range {cs = bytes "256"} {rest = []}
     (record { white = []; taken = bytes "<TD>256</TD>"; is_white = white-end; whole = refl; marked = marked })

@@ -1,13 +1,13 @@
 -- One row by the index of its stream: the entry of its place is the start of a row, and behind that so many rows are passed over; what is left there begins
 -- with the row's own bytes, which are read as that row and no more, since a row reader looks no further than its row (Taken). For the same reason whatever
 -- stands behind the row, or before the entry's start, may be anything.
+use Rattle.std.specs.Prelude.{Some}
 use Prim.Native.Nat.{◌%◌, ◌*◌, ◌+◌, ◌-◌, ◌/◌, ◌<◌, ◌≤◌, min, suc, zero, ℕ}
 use native.Mathlib.Nat.{add-zero, not-suc-le-zero}
 use native.Mathlib.Numerals.{add-one}
 use native.Mathlib.Omega.{arith}
 use mathlib.Core.Bool.{Bool, false, true}
 use mathlib.Core.List.{List, [], ◌++◌, append_assoc, append-nil}
-use mathlib.Core.Option.{some}
 use mathlib.Core.Path.{◌∙◌, ◌≡◌, ap, ap₂, refl, sym}
 use lib.Dec.{eqb, ltb}
 use lib.ListN.{drop, get_or, length, length-append, length-drop, length-take, take, take-append-drop}
@@ -136,7 +136,7 @@ module _ (from : Rows) (cs : List Column) (are : AreColumns cs) where
     the_row : RowThere
     the_row = row-there-of (read from cs here) refl (left-reads r input (read from cs input) refl (omega (arith, reads)))
 
-    pub own_row : (xs : List Cell) × (row_at r (read from cs input) ≡ some xs) × (read from cs (own_bytes from cs input r) ≡ only xs)
+    pub own_row : (xs : List Cell) × (row_at r (read from cs input) ≡ Some xs) × (read from cs (own_bytes from cs input r) ≡ only xs)
     own_row =
         let w = the_row in
         let k : Taken (read_row from cs) here (w.cells, behind) = holds_at (row-taken from cs here) w.reads-there in

@@ -1,9 +1,9 @@
 -- A cell has a form in the target, as the grammar says it, exactly when the writer's definition gives one; and a row is refused in writing exactly where
 -- the grammar says, with that number.
+use Rattle.std.specs.Prelude.{Option, None, Some}
 use Prim.Native.Nat.{◌+◌, ℕ}
 use mathlib.Core.Bool.{Bool, cond, false, false≢true, true}
 use mathlib.Core.List.{List, [], ◌++◌, ◌∷◌}
-use mathlib.Core.Option.{Option, none, some}
 use mathlib.Core.Path.{◌∙◌, ◌≡◌, refl, subst, subst⁻¹, sym}
 use lib.IntN.{negsuc, pos, ℤ}
 use Rattle.binary.proofs.Laws.{null-fails}
@@ -60,8 +60,8 @@ elements-written Text es h = absurd (h refl)
 -- null in BINARY
 empty-written : (c : Column) (o : Option ℤ) → can_be_empty (shape c.kind) c.len ≡ true → IsGood (null_form c o)
 unfolding null_form
-empty-written c none h = rw h tt
-empty-written c (some z) h = tt
+empty-written c None h = rw h tt
+empty-written c (Some z) h = tt
 
 chars-empty : (l : Len) → can_be_empty Text l ≡ true
 unfolding can_be_empty
@@ -120,8 +120,8 @@ null-form c g = by-element (null_element c) refl g
     can-be false h g = absurd g
 
     by-element : (o : Option ℤ) → null_element c ≡ o → IsGood (null_form c o) → HasForm c Binary null
-    by-element none q g = unfold null_form in can-be (can_be_empty (shape c.kind) c.len) refl g
-    by-element (some z) q g = form-binary-null (stands-for-is c z (null-stands c z q))
+    by-element None q g = unfold null_form in can-be (can_be_empty (shape c.kind) c.len) refl g
+    by-element (Some z) q g = form-binary-null (stands-for-is c z (null-stands c z q))
 
 pub form-is : (to : Rows) (c : Column) (x : Cell) → IsGood (write_cell to c x) → HasForm c to x
 unfolding write_cell write_text write_binary

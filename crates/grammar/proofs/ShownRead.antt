@@ -1,7 +1,7 @@
 -- What the grammar says a cell shows is what the definition `show` computes: which elements stand for null, then lists of them.
+use Rattle.std.specs.Prelude.{Some, Option, None}
 use mathlib.Core.Bool.{false, false≢true, true}
 use mathlib.Core.List.{List, [], ◌∷◌}
-use mathlib.Core.Option.{some}
 use mathlib.Core.Path.{◌∙◌, ◌≡◌, ap, refl, subst⁻¹, sym}
 use lib.IntN.{pos, ℤ}
 use borrow.Author.Tests.{eqb-true}
@@ -13,8 +13,6 @@ use Rattle.table.specs.Shape.{Bits, Shape, Text, Truths, Whole, shape}
 use Rattle.table.specs.declared.Column.{Column}
 use Rattle.table.specs.declared.Len.{Len}
 use Rattle.table.specs.declared.Len.TheVariants.{Bounded, Fixed, Free}
-use Rattle.table.specs.declared.Null.{Null}
-use Rattle.table.specs.declared.Null.TheVariants.{Declared, Undeclared}
 
 pub stands-for-read : {c : Column} {z : ℤ} → StandsForNull c z → stands_for_null c z ≡ true
 unfolding stands_for_null
@@ -22,7 +20,7 @@ stands-for-read {z = z} (null-declared l k n) = rw (l, k, n) (same_self z)
 stands-for-read {z = z} (null-unknown l k) = rw (l, k) (same_self z)
 
 -- where an element stands for null, one is written for it
-pub stands-written : {c : Column} {z : ℤ} → StandsForNull c z → (y : ℤ) × (null_element c ≡ some y)
+pub stands-written : {c : Column} {z : ℤ} → StandsForNull c z → (y : ℤ) × (null_element c ≡ Some y)
 unfolding null_element
 stands-written {z = z} (null-declared l k n) = (z, rw (l, k, n))
 stands-written {z = z} (null-unknown l k) = (z, rw (l, k))
@@ -37,12 +35,12 @@ unfolding stands_for_null
 stands-for-is c z e =
     let b = and_both (is_scalar c) (is_null_of_kind (shape c.kind) c.null z) e in by_kind (is_one_lem c.len b.0) (shape c.kind) refl c.null refl b.1
   where
-    by_kind : c.len ≡ Fixed 1 → (k : Shape) → shape c.kind ≡ k → (n : Null) → c.null ≡ n → is_null_of_kind k n z ≡ true → StandsForNull c z
+    by_kind : c.len ≡ Fixed 1 → (k : Shape) → shape c.kind ≡ k → (n : Option ℤ) → c.null ≡ n → is_null_of_kind k n z ≡ true → StandsForNull c z
     by_kind l Truths k n m e = subst⁻¹ (StandsForNull c) (same_true z (pos 2) e) (null-unknown l k)
     by_kind l Bits k n m e = absurd (false≢true e)
     by_kind l Text k n m e = absurd (false≢true e)
-    by_kind l (Whole g v) k Undeclared m e = absurd (false≢true e)
-    by_kind l (Whole g v) k (Declared y) m e = subst⁻¹ (StandsForNull c) (same_true z y e) (null-declared l k m)
+    by_kind l (Whole g v) k None m e = absurd (false≢true e)
+    by_kind l (Whole g v) k (Some y) m e = subst⁻¹ (StandsForNull c) (same_true z y e) (null-declared l k m)
 
 is-null : (c : Column) (es : List ℤ) → is_null_list (stands_for_null c) es ≡ true → Shows c es null
 unfolding is_null_list

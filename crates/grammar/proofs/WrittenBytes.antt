@@ -1,10 +1,10 @@
 -- What is written in BINARY and BINARY2 are bytes: each number below 256.
+use Rattle.std.specs.Prelude.{Option, None, Some}
 use Prim.Native.Nat.{◌*◌, ◌+◌, ◌-◌, ◌<◌, ◌^◌, ◌≤◌, suc, zero, ℕ}
 use native.Mathlib.Nat.{pow-le-pow_right}
 use native.Mathlib.Omega.{arith}
 use mathlib.Core.Bool.{true}
 use mathlib.Core.List.{List, [], ◌∷◌, map}
-use mathlib.Core.Option.{Option, none, some}
 use mathlib.Core.Path.{◌≡◌, refl}
 use lib.Dec.{lit<}
 use lib.IntN.{ℤ}
@@ -90,9 +90,9 @@ binary2-bytes c (shown es) (fits-shown e n) = elements-bytes c es e.each
 null-bytes : (c : Column) → IsColumn c → Holds AreBytes (null_form c (null_element c))
 null-bytes c i = go (null_element c) i.null_is
   where
-    go : (o : Option ℤ) → ((z : ℤ) → o ≡ some z → is_element (shape c.kind) z ≡ true) → Holds AreBytes (null_form c o)
-    go none h = unfold null_form in holds-cond (can_be_empty (shape c.kind) c.len) (λ _. holds (elements-bytes c [] tt)) (λ _. refuses)
-    go (some z) h = unfold null_form in holds (elements-bytes c (z ∷ []) (h z refl, tt))
+    go : (o : Option ℤ) → ((z : ℤ) → o ≡ Some z → is_element (shape c.kind) z ≡ true) → Holds AreBytes (null_form c o)
+    go None h = unfold null_form in holds-cond (can_be_empty (shape c.kind) c.len) (λ _. holds (elements-bytes c [] tt)) (λ _. refuses)
+    go (Some z) h = unfold null_form in holds (elements-bytes c (z ∷ []) (h z refl, tt))
 
 binary-bytes : (c : Column) (x : Cell) → IsColumn c → Fits c x → Holds AreBytes (write_binary c x)
 unfolding write_binary

@@ -1,7 +1,6 @@
 -- What is wrong with declarations: for each of their refusals, when it is given and at which place. Nothing here reads. "Declarations: elements
 -- from left to right; in each one shape (through its end), 2, 3, 4, then 5 for a 65th; no column at the end."
-use Rattle.std.specs.Prelude.{◌<◌, ◌≤◌, suc, ℕ, List, ◌++◌, ◌≡◌, length}
-use Rattle.std.proofs.Math.Option.{Option, some}
+use Rattle.std.specs.Prelude.{◌<◌, ◌≤◌, suc, ℕ, List, ◌++◌, ◌≡◌, length, Option, Some, None, ℤ}
 use Rattle.grammar.specs.Declarations.{Arraysize, Datatype, FieldOf, FieldText, NullText, ValueOf}
 use Rattle.grammar.specs.Words.{White}
 use Rattle.table.specs.Bytes.{bytes}
@@ -10,8 +9,6 @@ use Rattle.table.specs.Shape.{shape}
 use Rattle.table.specs.declared.Column.{Column}
 use Rattle.table.specs.declared.Kind.{Kind}
 use Rattle.table.specs.declared.Len.{Len}
-use Rattle.table.specs.declared.Null.{Null}
-use Rattle.table.specs.declared.Null.TheVariants.{Undeclared}
 
 -- ---- an element
 
@@ -24,7 +21,7 @@ pub record FieldAt (s datatype : List ℕ) (arraysize null : Option (List ℕ)) 
   pub whole : s ≡ white ++ (taken ++ rest)
   pub field : FieldText taken attributes null
   -- "`datatype` is needed; `datatype`, `arraysize`, .. may stand once"
-  pub has-datatype : ValueOf (bytes "datatype") attributes (some datatype)
+  pub has-datatype : ValueOf (bytes "datatype") attributes (Some datatype)
   pub has-arraysize : ValueOf (bytes "arraysize") attributes arraysize
 
 -- no column is declared there: something stands there, and it is
@@ -38,7 +35,7 @@ pub data NoColumn (s : List ℕ) : ℕ → Type 0 where
       → NoColumn s 3
   -- 4: "null value not a value of its column"
   no-null : {d : List ℕ} {a o : Option (List ℕ)} {rest : List ℕ} {k : Kind} {l : Len} → FieldAt s d a o rest → Datatype d k → Arraysize a l
-      → ((n : Null) → NullText (shape k) (is_scalar (column_of k l Undeclared)) o n → ⊥) → NoColumn s 4
+      → ((n : Option ℤ) → NullText (shape k) (is_scalar (column_of k l None)) o n → ⊥) → NoColumn s 4
 
 -- a column is declared there, white space before it; then the rest
 pub record ColumnAt (s : List ℕ) (c : Column) (rest : List ℕ) : Type 0 where

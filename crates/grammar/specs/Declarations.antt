@@ -1,6 +1,5 @@
 -- Declarations: which texts declare which columns.
-use Rattle.std.specs.Prelude.{◌≤◌, suc, ℕ, Bool, false, true, List, [], ◌++◌, ◌∷◌, ◌≡◌, ℤ, length}
-use Rattle.std.proofs.Math.Option.{Option, none, some}
+use Rattle.std.specs.Prelude.{◌≤◌, suc, ℕ, Bool, false, true, List, [], ◌++◌, ◌∷◌, ◌≡◌, ℤ, length, Option, None, Some}
 use Rattle.grammar.specs.Words.{Digit, IntegerWord, Numeral, Tag, Trimmed, White}
 use Rattle.table.specs.Bytes.{byte, bytes, is_white}
 use Rattle.table.specs.Cell.{column_of, is_scalar, most_elements}
@@ -10,8 +9,6 @@ use Rattle.table.specs.declared.Kind.{Kind}
 use Rattle.table.specs.declared.Kind.TheVariants.{Bit, Boolean, Int, Long, Short, UnsignedByte}
 use Rattle.table.specs.declared.Len.{Len}
 use Rattle.table.specs.declared.Len.TheVariants.{Bounded, Fixed, Free}
-use Rattle.table.specs.declared.Null.{Null}
-use Rattle.table.specs.declared.Null.TheVariants.{Declared, Undeclared}
 
 -- ---- attributes
 
@@ -63,9 +60,9 @@ pub data AttributesText : List ℕ → List (List ℕ × List ℕ) → Type 0 wh
 -- the value of the attribute of a name, if there is one
 pub data ValueOf (name : List ℕ) : List (List ℕ × List ℕ) → Option (List ℕ) → Type 0 where
   -- "may stand": need not
-  value_none : ValueOf name [] none
+  value_none : ValueOf name [] None
   -- "`datatype`, `arraysize`, and in VALUES `null`, may stand once"
-  value-here : {v : List ℕ} {attrs : List (List ℕ × List ℕ)} → ValueOf name attrs none → ValueOf name ((name, v) ∷ attrs) (some v)
+  value-here : {v : List ℕ} {attrs : List (List ℕ × List ℕ)} → ValueOf name attrs None → ValueOf name ((name, v) ∷ attrs) (Some v)
   -- "other attributes are skipped" "Names are case-sensitive."
   value-skipped : {n v : List ℕ} {attrs : List (List ℕ × List ℕ)} {o : Option (List ℕ)} → (n ≡ name → ⊥) → ValueOf name attrs o
       → ValueOf name ((n, v) ∷ attrs) o
@@ -81,7 +78,7 @@ pub data ValuesTag : List ℕ → Option (List ℕ) → Type 0 where
 -- what stands between the start tag and the end tag
 pub data Inside : List ℕ → Option (List ℕ) → Type 0 where
   -- White space "may stand .. between the tags"
-  inside-nothing : {w : List ℕ} → White w → Inside w none
+  inside-nothing : {w : List ℕ} → White w → Inside w None
   -- "at most one VALUES"
   inside-values : {w t u : List ℕ} {o : Option (List ℕ)} → White w → ValuesTag t o → White u → Inside (w ++ (t ++ u)) o
 
@@ -89,7 +86,7 @@ pub data Inside : List ℕ → Option (List ℕ) → Type 0 where
 pub data FieldText : List ℕ → List (List ℕ × List ℕ) → Option (List ℕ) → Type 0 where
   -- "an empty-element tag"
   field-empty : {a w : List ℕ} {attrs : List (List ℕ × List ℕ)} → AttributesText a attrs → White w
-      → FieldText (bytes "<FIELD" ++ (a ++ (w ++ bytes "/>"))) attrs none
+      → FieldText (bytes "<FIELD" ++ (a ++ (w ++ bytes "/>"))) attrs None
   -- "or a start tag, at most one VALUES as an empty-element tag, and the end tag"
   field-tags : {a w b z : List ℕ} {attrs : List (List ℕ × List ℕ)} {o : Option (List ℕ)} → AttributesText a attrs → White w → Inside b o
       → Tag (bytes "</FIELD") (bytes ">") z → FieldText (bytes "<FIELD" ++ (a ++ (w ++ (bytes ">" ++ (b ++ z))))) attrs o
@@ -115,33 +112,33 @@ pub data SizeText : List ℕ → ℕ → Type 0 where
 -- "The length of a column is one of three shapes"
 pub data Arraysize : Option (List ℕ) → Len → Type 0 where
   -- "No `arraysize` is the same as `1`"
-  size-absent : Arraysize none (Fixed 1)
+  size-absent : Arraysize None (Fixed 1)
   -- "fixed `n`"
-  size-fixed : {s : List ℕ} {n : ℕ} → SizeText s n → Arraysize (some s) (Fixed n)
+  size-fixed : {s : List ℕ} {n : ℕ} → SizeText s n → Arraysize (Some s) (Fixed n)
   -- "bounded `n*`"
-  size-bounded : {s : List ℕ} {n : ℕ} → SizeText s n → Arraysize (some (s ++ bytes "*")) (Bounded n)
+  size-bounded : {s : List ℕ} {n : ℕ} → SizeText s n → Arraysize (Some (s ++ bytes "*")) (Bounded n)
   -- "free `*` (4,096)"
-  size-free : Arraysize (some (bytes "*")) Free
+  size-free : Arraysize (Some (bytes "*")) Free
 
 -- the declared null that the `null` of VALUES gives a column
-pub data NullText : Shape → Bool → Option (List ℕ) → Null → Type 0 where
+pub data NullText : Shape → Bool → Option (List ℕ) → Option ℤ → Type 0 where
   -- it "may stand": need not
-  null-absent : {k : Shape} {scalar : Bool} → NullText k scalar none Undeclared
+  null-absent : {k : Shape} {scalar : Bool} → NullText k scalar None None
   -- "`null` counts only on scalar integer columns, and is read as a cell of that kind; an empty one is refused."
   null-counts : {g : Bool} {v : Width} {scalar : Bool} {s : List ℕ} {z : ℤ} → scalar ≡ true → Trimmed (IntegerWord g (suc (last v))) s z
-      → NullText (Whole g v) scalar (some s) (Declared z)
+      → NullText (Whole g v) scalar (Some s) (Some z)
   -- "Elsewhere it is skipped.": in arrays
-  null-array : {g : Bool} {v : Width} {scalar : Bool} {s : List ℕ} → scalar ≡ false → NullText (Whole g v) scalar (some s) Undeclared
+  null-array : {g : Bool} {v : Width} {scalar : Bool} {s : List ℕ} → scalar ≡ false → NullText (Whole g v) scalar (Some s) None
   -- and on columns of other kinds
-  null-truths : {scalar : Bool} {s : List ℕ} → NullText Truths scalar (some s) Undeclared
-  null-bits : {scalar : Bool} {s : List ℕ} → NullText Bits scalar (some s) Undeclared
-  null-chars : {scalar : Bool} {s : List ℕ} → NullText Text scalar (some s) Undeclared
+  null-truths : {scalar : Bool} {s : List ℕ} → NullText Truths scalar (Some s) None
+  null-bits : {scalar : Bool} {s : List ℕ} → NullText Bits scalar (Some s) None
+  null-chars : {scalar : Bool} {s : List ℕ} → NullText Text scalar (Some s) None
 
 -- a FIELD and its column
 pub data FieldOf : List ℕ → Column → Type 0 where
   -- "`datatype` is needed"
-  field_of : {t d : List ℕ} {attrs : List (List ℕ × List ℕ)} {o a : Option (List ℕ)} {k : Kind} {l : Len} {n : Null} → FieldText t attrs o
-      → ValueOf (bytes "datatype") attrs (some d) → Datatype d k → ValueOf (bytes "arraysize") attrs a → Arraysize a l → NullText (shape k) (is_scalar (column_of k l Undeclared)) o n
+  field_of : {t d : List ℕ} {attrs : List (List ℕ × List ℕ)} {o a : Option (List ℕ)} {k : Kind} {l : Len} {n : Option ℤ} → FieldText t attrs o
+      → ValueOf (bytes "datatype") attrs (Some d) → Datatype d k → ValueOf (bytes "arraysize") attrs a → Arraysize a l → NullText (shape k) (is_scalar (column_of k l None)) o n
       → FieldOf t (column_of k l n)
 
 -- "The text is FIELD elements with only white space around them"

@@ -1,6 +1,5 @@
 -- The numbers of the face: which kind of rows a number names, and in which order an answer's numbers stand.
-use Rattle.std.specs.Prelude.{suc, zero, ℕ, List, [], ◌++◌, ◌∷◌, get_or}
-use Rattle.std.proofs.Math.Option.{Option, none, some}
+use Rattle.std.specs.Prelude.{suc, zero, ℕ, List, [], ◌++◌, ◌∷◌, get_or, Option, None, Some}
 use Rattle.compare.specs.declared.Comparison.{Comparison}
 use Rattle.parts.specs.declared.Joined.{Joined}
 use Rattle.table.specs.declared.Answer.{Answer}
@@ -9,17 +8,17 @@ use Rattle.table.specs.declared.Rows.TheVariants.{Binary, Binary2, TableData}
 
 -- row kinds by number: 0 TABLEDATA, 1 BINARY, 2 BINARY2
 unfoldable pub rows_of : ℕ → Option Rows
-rows_of zero = some TableData
-rows_of (suc zero) = some Binary
-rows_of (suc (suc zero)) = some Binary2
-rows_of (suc (suc (suc n))) = none
+rows_of zero = Some TableData
+rows_of (suc zero) = Some Binary
+rows_of (suc (suc zero)) = Some Binary2
+rows_of (suc (suc (suc n))) = None
 
 -- those of which an index is kept: "beside a BINARY or BINARY2 stream"
 unfoldable pub binary_of : ℕ → Option Rows
-binary_of zero = none
-binary_of (suc zero) = some Binary
-binary_of (suc (suc zero)) = some Binary2
-binary_of (suc (suc (suc n))) = none
+binary_of zero = None
+binary_of (suc zero) = Some Binary
+binary_of (suc (suc zero)) = Some Binary2
+binary_of (suc (suc (suc n))) = None
 
 -- "The answer has the number, the row and column from 0, the rows done and the bytes written."
 unfoldable pub five : Answer → List ℕ

@@ -1,11 +1,11 @@
 -- Two parts of an input, converted each by itself and joined, are one call on the whole: `joined-parts` of the definitions, carried to the numbers and the
 -- buffers; and they end where the cut stands behind whole rows.
+use Rattle.std.specs.Prelude.{Some}
 use Prim.Native.Nat.{◌+◌, ◌-◌, ◌≤◌, ℕ}
 use native.Mathlib.Nat.{le_refl}
 use native.Mathlib.Omega.{arith}
 use mathlib.Core.Bool.{Bool, false, true}
 use mathlib.Core.List.{List, [], ◌++◌, ◌∷◌}
-use mathlib.Core.Option.{some}
 use mathlib.Core.Path.{◌∙◌, ◌≡◌, ap, refl, subst, sym}
 use lib.ListN.{drop, get_or, length, length-take, take}
 use Rattle.demands.specs.Demands.{output}
@@ -54,7 +54,7 @@ joined_numbers_lem size room a b c first d e f second = refl
 -- a call of the face on a part, as the definitions speak of one
 is-part : (decls : List ℕ) (from to : ℕ) (input : List ℕ) (start size : ℕ) (out : List ℕ) {numbers exit : List ℕ}
     → Faces (piece_face decls from to (take size (drop start input)) out) numbers exit → start + size ≤ length input
-    → (source target : Rows) → rows_of from ≡ some source → rows_of to ≡ some target
+    → (source target : Rows) → rows_of from ≡ Some source → rows_of to ≡ Some target
     → PartOf decls source target input (part_of start size (length out) numbers) (output (call_of numbers exit))
 unfolding call_of
 is-part decls from to input start size out {numbers} {exit} h inside source target e f =
@@ -74,7 +74,7 @@ module _ (decls : List ℕ) (from to : ℕ) (input : List ℕ) (cut : ℕ) (out1
     (k : Faces (piece_face decls from to (take (length input - cut) (drop cut input)) out2) numbers2 exit2)
     (j : joined ≡ join_face (length input) (length out3) (part_numbers 0 cut (length out1) numbers1 ++ part_numbers cut (length input - cut) (length out2) numbers2) zeros)
     (l : Faces (convert_face decls from to input out3) numbers3 exit3)
-    (source target : Rows) (e : rows_of from ≡ some source) (f : rows_of to ≡ some target) where
+    (source target : Rows) (e : rows_of from ≡ Some source) (f : rows_of to ≡ Some target) where
   abbrev p : Part
   p = part_of 0 cut (length out1) numbers1
 

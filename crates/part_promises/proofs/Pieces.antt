@@ -1,9 +1,9 @@
 -- A piece of an input and what stands behind its place are one call on the whole: `goes-on-behind` of the definitions, carried to the numbers and the
 -- buffers.
+use Rattle.std.specs.Prelude.{Option, None, Some}
 use Prim.Native.Nat.{◌+◌, ◌-◌, ◌≤◌, zero-le, ℕ}
 use native.Mathlib.Omega.{arith}
 use mathlib.Core.List.{List, ◌++◌}
-use mathlib.Core.Option.{Option, none, some}
 use mathlib.Core.Path.{◌∙◌, ◌≡◌, ap, ap₂, refl, subst, sym}
 use lib.ListN.{drop, get_or, length, length-append, length-drop, length-take, take, take-append-drop}
 use lib.Seq.{drop-append-le}
@@ -44,9 +44,9 @@ place_at from to input out (bad e) = zero-le
 sixth : (decls : List ℕ) (input out : List ℕ) (from to : Option Rows)
     → get_or (between_kinds from to (no_such_kind 5 out) (λ source target. piece_faced (convert_piece decls source target input out))).numbers 5 0 ≤ length input
 unfolding between_kinds no_such_kind piece_faced six five convert_piece
-sixth decls input out none to = zero-le
-sixth decls input out (some from) none = zero-le
-sixth decls input out (some from) (some to) = place_at from to input out (front decls (length input))
+sixth decls input out None to = zero-le
+sixth decls input out (Some from) None = zero-le
+sixth decls input out (Some from) (Some to) = place_at from to input out (front decls (length input))
 
 place-within : (decls : List ℕ) (from to : ℕ) (input out numbers : List ℕ) → numbers ≡ (piece_face decls from to input out).numbers → get_or numbers 5 0 ≤ length input
 unfolding piece_face
@@ -86,7 +86,7 @@ unfolding six five
 sixth-of c place = refl
 
 module _ (decls : List ℕ) (from to : ℕ) (input first : List ℕ) {numbers exit : List ℕ} (h : Faces (piece_face decls from to input first) numbers exit)
-    (source target : Rows) (e : rows_of from ≡ some source) (f : rows_of to ≡ some target) where
+    (source target : Rows) (e : rows_of from ≡ Some source) (f : rows_of to ≡ Some target) where
   pub faces-piece : Faces (piece_faced (convert_piece decls source target input first)) numbers exit
   unfolding piece_face
   faces-piece =

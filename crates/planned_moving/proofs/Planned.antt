@@ -40,7 +40,6 @@ use Rattle.table.specs.declared.Column.{Column}
 use Rattle.table.specs.declared.Kind.{Kind}
 use Rattle.table.specs.declared.Len.{Len}
 use Rattle.table.specs.declared.Len.TheVariants.{Bounded, Fixed, Free}
-use Rattle.table.specs.declared.Null.{Null}
 use Rattle.table.specs.declared.Rows.{Rows}
 use Rattle.table.specs.declared.Rows.TheVariants.{Binary, Binary2, TableData}
 

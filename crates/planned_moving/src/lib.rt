@@ -19,13 +19,13 @@ use content_passing::{binary_integer, copy};
 use moving::{Moved, One};
 use number::Integer;
 use planning::{Step, Want};
-use table::{Null, Rows, is_declared};
+use table::{Rows, is_declared};
 
 // One integer, by its value; not where that stands for null.
 fn move_integer(
     to: Rows,
     integer: Integer,
-    null: Null,
+    null: Option<i64>,
     s: &[u8],
     at: usize,
     row: &mut [u8],

@@ -1,5 +1,5 @@
 -- A plan: "what the cells of each column want", for those that are moved by it from BINARY or BINARY2.
-use Rattle.std.specs.Prelude.{◌%◌, ◌-◌, ℕ, cond, List, ◌++◌, map, eqb, length, replicate, Option, Some, None}
+use Rattle.std.specs.Prelude.{◌%◌, ◌-◌, ℕ, cond, List, ◌++◌, map, eqb, length, replicate, Option, Some, None, ℤ}
 use Rattle.binary.specs.Binary.{content_bytes}
 use Rattle.number.specs.declared.Integer.{Integer}
 use Rattle.planning.specs.declared.Plan.{Plan}
@@ -9,7 +9,6 @@ use Rattle.table.specs.Shape.{Bits, Shape, Text, Truths, W1, W2, W4, W8, Whole, 
 use Rattle.table.specs.declared.Column.{Column}
 use Rattle.table.specs.declared.Kind.{Kind}
 use Rattle.table.specs.declared.Len.{Len}
-use Rattle.table.specs.declared.Null.{Null}
 
 -- one integer: "two's complement for the signed: 1, 2, 4, 8 bytes"
 abbrev pub one_integer : Width → Want
@@ -27,9 +26,9 @@ want_of (Whole signed w) n = cond (eqb n 1) (Some (one_integer w)) (Some Want.By
 
 -- a column with no step of its own
 abbrev pub no_step : Step
-no_step = record { want = None; bytes = 0; null = Null.Undeclared }
+no_step = record { want = None; bytes = 0; null = None }
 
-unfoldable pub step_for : Kind → Len → Null → Step
+unfoldable pub step_for : Kind → Len → Option ℤ → Step
 step_for kind (Len.Fixed n) null = record { want = want_of (shape kind) n; bytes = content_bytes (shape kind) n; null = null }
 step_for kind (Len.Bounded n) null = no_step
 step_for kind Len.Free null = no_step

@@ -11,7 +11,7 @@ ghost use Rattle.table.specs.Shape.{shape};
 
 use binary::content_bytes;
 use number::{Elements, Integer, elements_of};
-use table::{Column, Columns, Kind, Len, Null};
+use table::{Column, Columns, Kind, Len};
 
 // One integer, which may stand for null; or bytes that go as they stand among BINARY and BINARY2.
 #[derive(Clone, Copy)]
@@ -25,7 +25,7 @@ pub enum Want {
 pub struct Step {
     pub want: Option<Want>,
     pub bytes: usize,
-    pub null: Null,
+    pub null: Option<i64>,
 }
 
 // A step for each column.
@@ -78,7 +78,7 @@ fn no_step() -> Step
     Step {
         want: None,
         bytes: 0,
-        null: Null::Undeclared,
+        null: None,
     }
 }
 

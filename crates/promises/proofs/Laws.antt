@@ -1,9 +1,9 @@
 -- A call of the face is a call of `convert`, by its contract; so what is proved of `convert` is carried along that equation. All over plain lists.
+use Rattle.std.specs.Prelude.{Option, None, Some}
 use Prim.Native.Nat.{◌<◌, ◌≤◌, ℕ}
 use native.Mathlib.Nat.{le_refl}
 use native.Mathlib.Omega.{arith}
 use mathlib.Core.List.{List, [], ◌∷◌}
-use mathlib.Core.Option.{Option, none, some}
 use mathlib.Core.Path.{◌∙◌, ◌≡◌, ap, ap₂, refl, subst, subst⁻¹, sym}
 use lib.ListN.{get_or, length, length-append, take}
 use Rattle.demands.proofs.Demand1.{bytes-of, demand1, output-of}
@@ -70,11 +70,11 @@ abbrev converted : List ℕ → List ℕ → List ℕ → Rows → Rows → Face
 converted decls input out source target = faced (convert decls source target input out)
 
 module _ (decls : List ℕ) (from to : ℕ) (input out : List ℕ) {numbers exit : List ℕ} (h : Faces (convert_face decls from to input out) numbers exit) where
-  faces-convert : (source target : Rows) → rows_of from ≡ some source → rows_of to ≡ some target → Faces (faced (convert decls source target input out)) numbers exit
+  faces-convert : (source target : Rows) → rows_of from ≡ Some source → rows_of to ≡ Some target → Faces (faced (convert decls source target input out)) numbers exit
   unfolding convert_face
   faces-convert source target e f = subst (λ (x : Faced). Faces x numbers exit) (known from to (no_such_kind 4 out) (converted decls input out) source e target f) h
 
-  pub is-convert : (source target : Rows) → rows_of from ≡ some source → rows_of to ≡ some target → call_of numbers exit ≡ convert decls source target input out
+  pub is-convert : (source target : Rows) → rows_of from ≡ Some source → rows_of to ≡ Some target → call_of numbers exit ≡ convert decls source target input out
   is-convert source target e f = call-is _ (faces-convert source target e f)
 
   nothing : convert_face decls from to input out ≡ no_such_kind 4 out → (numbers ≡ 255 ∷ 0 ∷ 0 ∷ 0 ∷ 0 ∷ []) × (exit ≡ out)
@@ -89,9 +89,9 @@ module _ (decls : List ℕ) (from to : ℕ) (input out : List ℕ) {numbers exit
         no_target = λ f. nothing (either (rows_of from) refl f);
       }
     where
-      either : (o : Option Rows) → rows_of from ≡ o → rows_of to ≡ none → between_kinds (rows_of from) (rows_of to) (no_such_kind 4 out) (converted decls input out) ≡ no_such_kind 4 out
-      either none e f = no_source from to (no_such_kind 4 out) (converted decls input out) e
-      either (some source) e f = no_target from to (no_such_kind 4 out) (converted decls input out) source e f
+      either : (o : Option Rows) → rows_of from ≡ o → rows_of to ≡ None → between_kinds (rows_of from) (rows_of to) (no_such_kind 4 out) (converted decls input out) ≡ no_such_kind 4 out
+      either None e f = no_source from to (no_such_kind 4 out) (converted decls input out) e
+      either (Some source) e f = no_target from to (no_such_kind 4 out) (converted decls input out) source e f
 
   pub rows-or-refusal : AreBytes input → Between from to (RowsOrRefusal decls input out (call_of numbers exit))
   rows-or-refusal a source target e f = convert-ends decls source target input out a (is-convert source target e f)
@@ -114,11 +114,11 @@ module _ (decls : List ℕ) (from to : ℕ) (input out : List ℕ) {numbers exit
 abbrev MadeBy : List ℕ → ℕ → Made → Type 0
 MadeBy decls to m = Faces (convert_face decls m.from to m.input m.entry) m.numbers m.exit
 
-text-named : rows_of 0 ≡ some TableData
+text-named : rows_of 0 ≡ Some TableData
 unfolding rows_of
 text-named = refl
 
-binary2-named : rows_of 2 ≡ some Binary2
+binary2-named : rows_of 2 ≡ Some Binary2
 unfolding rows_of
 binary2-named = refl
 
@@ -134,17 +134,17 @@ nothing_written numbers exit e = rw e
 
 module _ (decls : List ℕ) (to : ℕ) (first second : Made) (h : MadeBy decls to first) (k : MadeBy decls to second) where
   -- two calls from one kind of rows, that are the same but for what their buffers held, whatever the target's number names
-  same-made : (source : Rows) → rows_of first.from ≡ some source → rows_of second.from ≡ some source
+  same-made : (source : Rows) → rows_of first.from ≡ Some source → rows_of second.from ≡ Some source
       → ((target : Rows) → SameOutput (convert decls source target first.input first.entry) (convert decls source target second.input second.entry))
       → SameMade first second
   same-made source e f same = by-target (rows_of to) refl
     where
       by-target : (o : Option Rows) → rows_of to ≡ o → SameMade first second
-      by-target none t =
+      by-target None t =
           let one = ((unnamed decls first.from to first.input first.entry h).no_target t).0 in
           let other = ((unnamed decls second.from to second.input second.entry k).no_target t).0 in
           (other ∙ sym one, nothing_written second.numbers second.exit other ∙ sym (nothing_written first.numbers first.exit one))
-      by-target (some target) t = unfold faced in
+      by-target (Some target) t = unfold faced in
           let one = faces-convert decls first.from to first.input first.entry h source target e t in
           let other = faces-convert decls second.from to second.input second.entry k source target f t in (
             other.numbers-are ∙ ap five (same target).same_answer ∙ sym one.numbers-are,

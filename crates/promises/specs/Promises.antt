@@ -1,6 +1,5 @@
 -- The demands of calls of the face: what holds between the slices and the numbers that a caller has in hand.
-use Rattle.std.specs.Prelude.{◌<◌, ◌≤◌, ℕ, true, List, [], ◌++◌, ◌∷◌, ◌↔◌, ◌≡◌, get_or, length}
-use Rattle.std.proofs.Math.Option.{none, some}
+use Rattle.std.specs.Prelude.{◌<◌, ◌≤◌, ℕ, true, List, [], ◌++◌, ◌∷◌, ◌↔◌, ◌≡◌, get_or, length, None, Some}
 use Rattle.demands.specs.Demands.{Accepted, Comes, Ended, SameFate, Stream, output}
 use Rattle.demands.specs.Places.{shows_at}
 use Rattle.demands.specs.Tables.{lines, up_to}
@@ -31,12 +30,12 @@ call_of numbers exit =
 
 -- what holds of the kinds of rows that two numbers name
 abbrev pub Between : ℕ → ℕ → (Rows → Rows → Type 0) → Type 0
-Between from to P = (source target : Rows) → rows_of from ≡ some source → rows_of to ≡ some target → P source target
+Between from to P = (source target : Rows) → rows_of from ≡ Some source → rows_of to ≡ Some target → P source target
 
 -- a number that names no kind of rows: 255 and zeros, and nothing is touched
 pub record Unnamed (from to : ℕ) (out numbers exit : List ℕ) : Type 0 where
-  pub no_source : rows_of from ≡ none → (numbers ≡ 255 ∷ 0 ∷ 0 ∷ 0 ∷ 0 ∷ []) × (exit ≡ out)
-  pub no_target : rows_of to ≡ none → (numbers ≡ 255 ∷ 0 ∷ 0 ∷ 0 ∷ 0 ∷ []) × (exit ≡ out)
+  pub no_source : rows_of from ≡ None → (numbers ≡ 255 ∷ 0 ∷ 0 ∷ 0 ∷ 0 ∷ []) × (exit ≡ out)
+  pub no_target : rows_of to ≡ None → (numbers ≡ 255 ∷ 0 ∷ 0 ∷ 0 ∷ 0 ∷ []) × (exit ≡ out)
 
 -- demand 1: "Whatever bytes come in, as column declarations, as rows .., the software ends with rows or with one numbered refusal and the row and
 -- column where it stopped. .. Rows before the bad one stand whole in the output; every byte after them is untouched."
@@ -85,7 +84,7 @@ row_of source m row = record { from = source; input = m.input; out = m.entry; ro
 pub record NothingElse (decls : List ℕ) (to : ℕ) (first second : Made) : Type 0 where
   -- "Two rows that show the same under the same declarations, in any two streams, get for the same target, if nothing earlier is refused and
   -- there is room enough, the same bytes or the same refusal number and column, whatever stands around them."
-  pub same_rows : (target source other : Rows) → rows_of to ≡ some target → rows_of first.from ≡ some source → rows_of second.from ≡ some other
+  pub same_rows : (target source other : Rows) → rows_of to ≡ Some target → rows_of first.from ≡ Some source → rows_of second.from ≡ Some other
       → (cs : List Column) → declare decls ≡ good cs → (xs : List Cell) (j k : ℕ)
       → (c : Comes target cs xs (row_of source first j)) (d : Comes target cs xs (row_of other second k))
       → SameFate target cs xs (row_of source first j) (row_of other second k) c.before d.before

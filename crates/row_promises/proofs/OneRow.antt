@@ -1,7 +1,7 @@
 -- An index and a row fetched by it, as calls of the face: the theorems of the definitions, carried to the numbers and the buffers.
+use Rattle.std.specs.Prelude.{Some}
 use Prim.Native.Nat.{ℕ}
 use mathlib.Core.List.{List}
-use mathlib.Core.Option.{some}
 use mathlib.Core.Path.{◌≡◌, subst, subst⁻¹}
 use lib.ListN.{get_or}
 use Rattle.demands.proofs.Indexed.{index-ended, stops-as-converted}
@@ -21,7 +21,7 @@ use Rattle.table.specs.declared.Rows.{Rows}
 -- ---- the index
 
 module _ (decls : List ℕ) (from : ℕ) (input entry : List ℕ) {numbers exit : List ℕ} (h : Faces (index_face decls from input entry) numbers exit) where
-  pub is-index : (source : Rows) → binary_of from ≡ some source → call_of numbers exit ≡ index decls source input entry
+  pub is-index : (source : Rows) → binary_of from ≡ Some source → call_of numbers exit ≡ index decls source input entry
   unfolding index_face
   is-index source e =
       call-is _
@@ -42,7 +42,7 @@ module _ (decls : List ℕ) (from : ℕ) (input entry : List ℕ) {numbers exit 
 
 module _ (decls : List ℕ) (from : ℕ) (input entries : List ℕ) (rows row : ℕ) (out : List ℕ) {numbers exit : List ℕ}
     (h : Faces (fetch_face decls from input entries rows row out) numbers exit) where
-  pub is-fetch : (source : Rows) → binary_of from ≡ some source → call_of numbers exit ≡ fetch decls source input entries rows row out
+  pub is-fetch : (source : Rows) → binary_of from ≡ Some source → call_of numbers exit ≡ fetch decls source input entries rows row out
   unfolding fetch_face
   is-fetch source e =
       call-is _

@@ -1,6 +1,5 @@
 -- What is promised of an index and of one row by it.
-use Rattle.std.specs.Prelude.{ℕ, List, [], ◌∷◌, ◌≡◌}
-use Rattle.std.proofs.Math.Option.{none, some}
+use Rattle.std.specs.Prelude.{ℕ, List, [], ◌∷◌, ◌≡◌, None, Some}
 use Rattle.demands.specs.OneRow.{FetchEnded, FetchesAlike, IndexEnded, StopsAsConverted}
 use Rattle.fields.specs.Fields.{declare}
 use Rattle.sailmortar.specs.Face.{binary_of}
@@ -11,11 +10,11 @@ use Rattle.table.specs.declared.Rows.{Rows}
 
 -- what holds of BINARY or BINARY2, as a number names them
 abbrev pub OfBinary : ℕ → (Rows → Type 0) → Type 0
-OfBinary from P = (source : Rows) → binary_of from ≡ some source → P source
+OfBinary from P = (source : Rows) → binary_of from ≡ Some source → P source
 
 -- a number that names neither: 255 and zeros, and what was lent is untouched
 abbrev pub NotBinary : ℕ → List ℕ → List ℕ → List ℕ → Type 0
-NotBinary from lent numbers exit = binary_of from ≡ none → (numbers ≡ 255 ∷ 0 ∷ 0 ∷ 0 ∷ 0 ∷ []) × (exit ≡ lent)
+NotBinary from lent numbers exit = binary_of from ≡ None → (numbers ≡ 255 ∷ 0 ∷ 0 ∷ 0 ∷ 0 ∷ []) × (exit ≡ lent)
 
 -- 02, #101: "keep, beside a BINARY or BINARY2 stream, an index in a lent buffer of 32-bit numbers: place k holds the start of row 64k"
 pub record Indexed (decls input entry : List ℕ) (c : Call) (from : Rows) : Type 0 where

@@ -1,11 +1,12 @@
 -- Laws of rows and streams. A row that is written is read back as the cells it was written from. Each row takes at least a byte, so a
 -- stream is its first row and what the rest says: the bound on rows never ends it. What is read fits its columns.
+use Rattle.std.proofs.lemmas.Option.{none-some}
+use Rattle.std.specs.Prelude.{None, Some}
 use Prim.Native.Nat.{◌+◌, ◌<◌, ◌≤◌, zero-le, ℕ}
 use native.Mathlib.Nat.{le_refl, not-suc-le-zero}
 use native.Mathlib.Omega.{arith}
 use mathlib.Core.Bool.{Bool, cond, false, true}
 use mathlib.Core.List.{List, [], ◌++◌, ◌∷◌, append_assoc, map}
-use mathlib.Core.Option.{none-ne-some, none, some}
 use mathlib.Core.Path.{◌∙◌, ◌≡◌, ap, refl, subst, sym}
 use lib.Dec.{lit≤}
 use lib.IntN.{pos, ℤ}
@@ -26,7 +27,6 @@ use Rattle.table.specs.Outcome.{Refusal, at, most_number}
 use Rattle.table.specs.Result.{Fails, Holds, Result, ◌>>=◌, bad, gives, good, holds, refused_as, refuses}
 use Rattle.table.specs.Shape.{Bits, Shape, Text, Truths, Whole, shape}
 use Rattle.table.specs.declared.Column.{Column}
-use Rattle.table.specs.declared.Null.TheVariants.{Undeclared}
 use Rattle.table.specs.declared.Rows.{Rows}
 use Rattle.table.specs.declared.Rows.TheVariants.{Binary, Binary2, TableData}
 use Rattle.tabledata.proofs.Laws.{TextFits, text-cell-back, text-fails, text-fits, text-less, write-text-fails}
@@ -57,18 +57,18 @@ cells-back Binary2 c x i f = holds (λ rest. binary2-cell-back c x rest i f)
 
 -- the column without its declared null
 abbrev bare : Column → Column
-bare c = column_of c.kind c.len Undeclared
+bare c = column_of c.kind c.len None
 
-bare-null : (k : Shape) (scalar : Bool) (z : ℤ) → cond scalar (null_of_kind k Undeclared) none ≡ some z → is_element k z ≡ true
+bare-null : (k : Shape) (scalar : Bool) (z : ℤ) → cond scalar (null_of_kind k None) None ≡ Some z → is_element k z ≡ true
 unfolding is_element below
 bare-null Truths true z q = let e : z ≡ pos 2 = cc in rw e
-bare-null Truths false z q = absurd (none-ne-some z q)
-bare-null Bits true z q = absurd (none-ne-some z q)
-bare-null Bits false z q = absurd (none-ne-some z q)
-bare-null (Whole g v) true z q = absurd (none-ne-some z q)
-bare-null (Whole g v) false z q = absurd (none-ne-some z q)
-bare-null Text true z q = absurd (none-ne-some z q)
-bare-null Text false z q = absurd (none-ne-some z q)
+bare-null Truths false z q = absurd (none-some z q)
+bare-null Bits true z q = absurd (none-some z q)
+bare-null Bits false z q = absurd (none-some z q)
+bare-null (Whole g v) true z q = absurd (none-some z q)
+bare-null (Whole g v) false z q = absurd (none-some z q)
+bare-null Text true z q = absurd (none-some z q)
+bare-null Text false z q = absurd (none-some z q)
 
 bare-is : (c : Column) → Bounded c → IsColumn (bare c)
 unfolding null_element

@@ -1,6 +1,6 @@
 -- The numbers of a declaration's answer, and the kinds of rows by number: by cases on the definitions.
+use Rattle.std.specs.Prelude.{None, Some}
 use Prim.Native.Nat.{ℕ}
-use mathlib.Core.Option.{none, some}
 use mathlib.Core.List.{List, [], ◌∷◌}
 use mathlib.Core.Path.{◌≡◌, refl}
 use Rattle.declaring.specs.Clauses.{answered}
@@ -23,24 +23,24 @@ declared-numbers (bad e) = refl
 -- ---- a call, by what its one number names, or its two
 
 module _ (from : ℕ) (otherwise : Faced) (call : Rows → Faced) where
-  pub of_none : binary_of from ≡ none → of_kind (binary_of from) otherwise call ≡ otherwise
+  pub of_none : binary_of from ≡ None → of_kind (binary_of from) otherwise call ≡ otherwise
   unfolding of_kind
   of_none e = rw e
 
-  pub of-binary : (source : Rows) → binary_of from ≡ some source → of_kind (binary_of from) otherwise call ≡ call source
+  pub of-binary : (source : Rows) → binary_of from ≡ Some source → of_kind (binary_of from) otherwise call ≡ call source
   unfolding of_kind
   of-binary source e = rw e
 
 module _ (from to : ℕ) (otherwise : Faced) (call : Rows → Rows → Faced) where
-  pub no_source : rows_of from ≡ none → between_kinds (rows_of from) (rows_of to) otherwise call ≡ otherwise
+  pub no_source : rows_of from ≡ None → between_kinds (rows_of from) (rows_of to) otherwise call ≡ otherwise
   unfolding between_kinds
   no_source e = rw e
 
-  module _ (source : Rows) (e : rows_of from ≡ some source) where
-    pub no_target : rows_of to ≡ none → between_kinds (rows_of from) (rows_of to) otherwise call ≡ otherwise
+  module _ (source : Rows) (e : rows_of from ≡ Some source) where
+    pub no_target : rows_of to ≡ None → between_kinds (rows_of from) (rows_of to) otherwise call ≡ otherwise
     unfolding between_kinds
     no_target f = rw (e, f)
 
-    pub known : (target : Rows) → rows_of to ≡ some target → between_kinds (rows_of from) (rows_of to) otherwise call ≡ call source target
+    pub known : (target : Rows) → rows_of to ≡ Some target → between_kinds (rows_of from) (rows_of to) otherwise call ≡ call source target
     unfolding between_kinds
     known target f = rw (e, f)

@@ -1,6 +1,5 @@
 -- The public face: what each function for C answers, in numbers, and what it leaves in the buffer that it was lent.
-use Rattle.std.specs.Prelude.{ℕ, List, [], ◌∷◌, length, replicate}
-use Rattle.std.proofs.Math.Option.{Option, none, some}
+use Rattle.std.specs.Prelude.{ℕ, List, [], ◌∷◌, length, replicate, Option, None, Some}
 use Rattle.base64_rules.specs.Base64.{decode_call, encode_call}
 use Rattle.compare.specs.Compare.{Compared, compare}
 use Rattle.fields.specs.Fields.{declare}
@@ -30,9 +29,9 @@ unfoldable pub no_such_kind : ℕ → List ℕ → Faced
 no_such_kind others out = record { numbers = 255 ∷ replicate others 0; buffer = out }
 
 unfoldable pub between_kinds : Option Rows → Option Rows → Faced → (Rows → Rows → Faced) → Faced
-between_kinds (some from) (some to) otherwise call = call from to
-between_kinds (some from) none otherwise call = otherwise
-between_kinds none to otherwise call = otherwise
+between_kinds (Some from) (Some to) otherwise call = call from to
+between_kinds (Some from) None otherwise call = otherwise
+between_kinds None to otherwise call = otherwise
 
 unfoldable pub convert_face : List ℕ → ℕ → ℕ → List ℕ → List ℕ → Faced
 convert_face decls from to input out =
@@ -50,8 +49,8 @@ piece_face decls from to input out =
 -- ---- an index and one row by it, of BINARY and BINARY2: "beside a BINARY or BINARY2 stream"
 
 unfoldable pub of_kind : Option Rows → Faced → (Rows → Faced) → Faced
-of_kind (some from) otherwise call = call from
-of_kind none otherwise call = otherwise
+of_kind (Some from) otherwise call = call from
+of_kind None otherwise call = otherwise
 
 unfoldable pub index_face : List ℕ → ℕ → List ℕ → List ℕ → Faced
 index_face decls from input entries = of_kind (binary_of from) (no_such_kind 4 entries) (λ source. faced (index decls source input entries))

@@ -1,13 +1,14 @@
 -- Bytes written behind bytes: runs of stores join, and a loop that writes keeps that what is still to be written here gives the buffer that
 -- the whole gives (`Left`).
-use Prim.Native.Nat.{◌+◌, ◌≤◌, suc, ℕ}
+use Prim.Native.Nat.{◌+◌, ◌-◌, ◌≤◌, suc, ℕ}
 use native.Mathlib.Nat.{add-suc, add-zero, suc-add}
 use native.Mathlib.Numerals.{add-one}
 use native.Mathlib.Omega.{arith}
-use mathlib.Core.List.{List, [], ◌++◌, ◌∷◌}
+use mathlib.Core.List.{List, [], ◌++◌, ◌∷◌, append_assoc}
 use mathlib.Core.Path.{◌∙◌, ◌≡◌, ap, ap₂, refl, subst, sym}
-use lib.ListN.{length, length-append, set}
-use lib.Seq.{length-sets, sets}
+use lib.ListN.{drop, length, length-append, set, take}
+use lib.Seq.{drop-drop, length-sets, sets, sets-eq}
+use borrow.Rule.Slice.PartMut.{put_mid}
 use Rattle.table.specs.Wrote.{Wrote}
 
 -- a run of stores, and another from where it ends, is one run
@@ -23,6 +24,13 @@ wrote_none l i = record { now-is = refl; next-is = omega arith }
 
 pub wrote_one : (l : List ℕ) (i v : ℕ) → Wrote l i (v ∷ []) (set l i v) (i + 1)
 wrote_one l i v = record { now-is = refl; next-is = refl }
+
+-- bytes copied over a part
+pub wrote-part : (l b : List ℕ) (i e : ℕ) → e ≡ i + length b → e ≤ length l → Wrote l i b (put_mid i (e - i) l b) e
+wrote-part l b i e n h =
+    let long : i + (e - i) ≡ i + length b = omega (arith, n) in
+    let behind : drop (e - i) (drop i l) ≡ drop (i + length b) l = drop-drop (e - i) i l ∙ ap (λ (k : ℕ). drop k l) long in
+    record { now-is = ap (λ (r : List ℕ). take i l ++ (b ++ r)) behind ∙ sym (append_assoc (take i l) b _) ∙ sym (sets-eq b l i (omega (arith, n, h))); next-is = n }
 
 pub wrote_then_lem : {l l₁ l₂ : List ℕ} {i e₁ e₂ : ℕ} {xs ys : List ℕ} → Wrote l i xs l₁ e₁ → Wrote l₁ e₁ ys l₂ e₂ → Wrote l i (xs ++ ys) l₂ e₂
 wrote_then_lem {l} {l₁} {l₂} {i} {e₁} {e₂} {xs} {ys} u v = record {

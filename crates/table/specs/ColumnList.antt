@@ -1,15 +1,14 @@
 -- A column list by value: "a struct holding an array of 64 column records and a count".
-use Rattle.std.specs.Prelude.{◌-◌, suc, zero, ℕ, List, [], ◌++◌, ◌∷◌, get_or, length, replicate}
+use Rattle.std.specs.Prelude.{◌-◌, suc, zero, ℕ, List, [], ◌++◌, ◌∷◌, get_or, length, replicate, None}
 use Rattle.table.specs.Cell.{column_of}
 use Rattle.table.specs.declared.Column.{Column}
 use Rattle.table.specs.declared.Columns.{Columns}
 use Rattle.table.specs.declared.Kind.TheVariants.{Boolean}
 use Rattle.table.specs.declared.Len.TheVariants.{Fixed}
-use Rattle.table.specs.declared.Null.TheVariants.{Undeclared}
 
 -- what stands in a column list where no column was declared
 abbrev pub no_column : Column
-no_column = column_of Boolean (Fixed 0) Undeclared
+no_column = column_of Boolean (Fixed 0) None
 
 -- the columns of a list from place k on, n of them
 unfoldable pub columns_from : List Column → ℕ → ℕ → List Column

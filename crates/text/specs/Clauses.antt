@@ -1,10 +1,8 @@
 -- What the functions on bytes answer, as the definitions have it.
-use Rattle.std.specs.Prelude.{◌≤◌, ℕ, cond, List, ◌≡◌, ltb, drop, length}
+use Rattle.std.specs.Prelude.{Option, None, Some, ◌≤◌, ℕ, cond, List, ◌≡◌, ltb, drop, length}
 use Rattle.number.specs.Number.{Fault, Unwritten, digit, hexadigit}
 use Rattle.table.specs.Bytes.{skip_white}
 use Rattle.table.specs.Result.{Result, bad, good}
-use Rattle.text.specs.declared.Tag.{Tag}
-use Rattle.text.specs.declared.Tag.TheVariants.{At, Broken}
 
 -- ---- white space and tags
 
@@ -15,16 +13,16 @@ pub record Skipped (s : List ℕ) (place next : ℕ) : Type 0 where
   pub high : next ≤ length s
 
 -- what follows, or the refusal of that number
-abbrev pub tag_as : ℕ → List ℕ → Tag → Result ℕ (List ℕ)
-tag_as n s (At next) = good (drop next s)
-tag_as n s Broken = bad n
+abbrev pub tag_as : ℕ → List ℕ → Option ℕ → Result ℕ (List ℕ)
+tag_as n s (Some next) = good (drop next s)
+tag_as n s None = bad n
 
-abbrev pub TagWithin : List ℕ → ℕ → Tag → Type 0
-TagWithin s place (At next) = (place ≤ next) × (next ≤ length s)
-TagWithin s place Broken = Unit {0}
+abbrev pub TagWithin : List ℕ → ℕ → Option ℕ → Type 0
+TagWithin s place (Some next) = (place ≤ next) × (next ≤ length s)
+TagWithin s place None = Unit {0}
 
 -- the definition's answer, whichever number it refuses with
-pub record TagIs (definition : ℕ → Result ℕ (List ℕ)) (s : List ℕ) (place : ℕ) (r : Tag) : Type 0 where
+pub record TagIs (definition : ℕ → Result ℕ (List ℕ)) (s : List ℕ) (place : ℕ) (r : Option ℕ) : Type 0 where
   pub found : (n : ℕ) → definition n ≡ tag_as n s r
   pub within : TagWithin s place r
 

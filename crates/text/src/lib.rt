@@ -7,13 +7,6 @@ ghost use Rattle.table.specs.Bytes.{after, ends, is_white, same, tag};
 ghost use Rattle.table.specs.Wrote.{Wrote};
 ghost use Rattle.text.specs.Clauses.{DigitIs, Skipped, TagIs};
 
-// The place after what was looked for; or it is not there as it should be.
-#[derive(Clone, Copy)]
-pub enum Tag {
-    At(usize),
-    Broken,
-}
-
 // "White space is bytes 9, 10, 13, 32."
 pub fn is_white(c: u32) -> bool
     ensures { result ≡ is_white c }
@@ -29,70 +22,47 @@ pub fn skip_white(s: &[u8], at: usize) -> usize
     requires { at ≤ length s.now }
     ensures { Skipped s.now at result }
 {
-    let mut i = at;
-    while i < s.len() {
-        if is_white(s[i] as u32) {
-            i += 1;
-        } else {
+    for i in at..s.len() {
+        if !is_white(s[i] as u32) {
             return i;
         }
     }
-    i
+    s.len()
 }
 
-// The text goes on with the word.
-pub fn goes_on(s: &[u8], at: usize, word: &[u8]) -> Tag
+// The text goes on with the word: the place after it.
+pub fn goes_on(s: &[u8], at: usize, word: &[u8]) -> Option<usize>
     requires { at ≤ length s.now }
     ensures { TagIs (λ n. after n word.now (drop at s.now)) s.now at result }
 {
-    let mut k = 0;
-    while k < word.len() {
-        if s.len() - at <= k {
-            return Tag::Broken;
-        }
-        if word[k] != s[at + k] {
-            return Tag::Broken;
-        }
-        k += 1;
+    if s[at..].starts_with(word) {
+        Some(at + word.len())
+    } else {
+        None
     }
-    Tag::At(at + k)
 }
 
 // White space, then the word.
-pub fn ends(s: &[u8], at: usize, word: &[u8]) -> Tag
+pub fn ends(s: &[u8], at: usize, word: &[u8]) -> Option<usize>
     requires { at ≤ length s.now }
     ensures { TagIs (λ n. ends n word.now (drop at s.now)) s.now at result }
 {
-    let i = skip_white(s, at);
-    goes_on(s, i, word)
+    goes_on(s, skip_white(s, at), word)
 }
 
 // A whole tag: the word, white space, `>`.
-pub fn whole_tag(s: &[u8], at: usize, word: &[u8]) -> Tag
+pub fn whole_tag(s: &[u8], at: usize, word: &[u8]) -> Option<usize>
     requires { at ≤ length s.now }
     ensures { TagIs (λ n. tag n word.now (drop at s.now)) s.now at result }
 {
-    let Tag::At(i) = goes_on(s, at, word) else {
-        return Tag::Broken;
-    };
-    ends(s, i, b">")
+    ends(s, goes_on(s, at, word)?, b">")
 }
 
 // "Names are case-sensitive"
 pub fn same_bytes(a: &[u8], b: &[u8]) -> bool
     ensures { result ≡ same a.now b.now }
 {
-    if a.len() != b.len() {
-        return false;
-    }
-    let mut i = 0;
-    while i < a.len() {
-        if a[i] != b[i] {
-            return false;
-        }
-        i += 1;
-    }
-    true
+    a == b
 }
 
 // The value of a hexadigit, 16 for any other byte.
@@ -112,10 +82,7 @@ pub fn put_bytes(out: &mut [u8], at: usize, word: &[u8]) -> usize
     requires { at + length word.now ≤ length out.old }
     ensures { Wrote out.old at word.now out.new result }
 {
-    let mut k = 0;
-    while k < word.len() {
-        out[at + k] = word[k];
-        k += 1;
-    }
-    at + k
+    let end = at + word.len();
+    out[at..end].copy_from_slice(word);
+    end
 }

@@ -4,7 +4,6 @@ use Rattle.binary_writing.proofs.Writing.{empty-zeros, null-content, null-empty,
 use Rattle.binary.proofs.Laws.{filled-length}
 use Rattle.binary.specs.Binary.{bytes_of, number}
 use Rattle.table.proofs.Wrote.{wrote_as}
-use Rattle.table.specs.Cell.{null_as}
 use Rattle.table.specs.Clauses.{form_bytes}
 use Rattle.table.specs.Result.{Result}
 use Rattle.table.specs.Shape.{shape}
@@ -24,8 +23,8 @@ pub put_content-requires : goal.put_content-requires
 put_content-requires c =
     let a = c.args in
     let p = c.requires in
-    let z = c.in-Declared.z in
-    let q = sym c.null_element-null.ensures ∙ ap null_as c.in-Declared.is in
+    let z = c.in-Some.z in
+    let q = sym c.null_element-null.ensures ∙ c.in-Some.is in
     let k = shape a.column.kind in (
       lit≤ tt,
       lit≤ tt,
@@ -35,7 +34,7 @@ put_content-requires c =
 pub put_null-requires : goal.put_null-requires
 put_null-requires c =
     let a = c.args in
-    let q = sym c.null_element-null.ensures ∙ ap null_as c.in-Undeclared.is in
+    let q = sym c.null_element-null.ensures ∙ c.in-None.is in
     let e = sym c.can_be_empty.ensures ∙ c.if-can_be_empty.true in (
       c.requires.0,
       omega (
@@ -47,14 +46,14 @@ put_null-requires c =
       ),
     )
 
-pub shape_of-out-in-Declared : goal.shape_of-out-in-Declared
-shape_of-out-in-Declared c = c.put_content.auto.out
+pub shape_of-out-in-Some : goal.shape_of-out-in-Some
+shape_of-out-in-Some c = c.put_content.auto.out
 
-pub returns-in-Declared : goal.returns-in-Declared
-returns-in-Declared c =
+pub returns-in-Some : goal.returns-in-Some
+returns-in-Some c =
     let a = c.args in
-    let z = c.in-Declared.z in
-    let q = sym c.null_element-null.ensures ∙ ap null_as c.in-Declared.is in
+    let z = c.in-Some.z in
+    let q = sym c.null_element-null.ensures ∙ c.in-Some.is in
     let e : to_z w64 (of_z w64 z) ≡ z = search rules in
     let k = shape a.column.kind in
     wrote_as (ap (λ (x : ℤ). bytes_of k 1 (map (number k) (x ∷ []))) e ∙ sym (null-content a.column z q)) c.put_content.ensures
@@ -65,12 +64,12 @@ shape_of-out-then-can_be_empty c = c.put_null.auto.out
 pub returns-then-can_be_empty : goal.returns-then-can_be_empty
 returns-then-can_be_empty c =
     let a = c.args in
-    let q = sym c.null_element-null.ensures ∙ ap null_as c.in-Undeclared.is in
+    let q = sym c.null_element-null.ensures ∙ c.in-None.is in
     let e = sym c.can_be_empty.ensures ∙ c.if-can_be_empty.true in
     wrote_as (sym (ap form_bytes (null-empty a.column q e) ∙ empty-zeros a.column e)) c.put_null.ensures
 
 pub returns-else-can_be_empty : goal.returns-else-can_be_empty
 returns-else-can_be_empty c =
     let a = c.args in
-    let q = sym c.null_element-null.ensures ∙ ap null_as c.in-Undeclared.is in
+    let q = sym c.null_element-null.ensures ∙ c.in-None.is in
     wrote_as (sym (ap form_bytes (null-none a.column q (sym c.can_be_empty.ensures ∙ c.if-can_be_empty.false)))) (record { now-is = refl; next-is = sym (add-zero _) })

@@ -1,10 +1,10 @@
 -- The attributes of a tag, one after the other: the code keeps of each name that counts how often it stood and where its value is, the
 -- definition a list of them all. `gathered` goes along the list as the code does, and gives what `tallied` says of the whole.
+use Rattle.std.specs.Prelude.{Option, None, Some}
 use Prim.Native.Nat.{◌+◌, ◌<◌, ◌≤◌, suc, zero, ℕ}
 use native.Mathlib.Omega.{arith}
 use mathlib.Core.Bool.{Bool, ◌&&◌, cond, false, true}
 use mathlib.Core.List.{List, [], ◌∷◌}
-use mathlib.Core.Option.{Option, none, some}
 use mathlib.Core.Path.{◌∙◌, ◌≡◌, ap, refl, sym}
 use lib.ListN.{drop, length, length-drop, length-take}
 use Rattle.declaring.proofs.spans.Scan.{name-at}
@@ -26,8 +26,8 @@ abbrev pub SoFar : Type 0
 SoFar = Result ℕ (Option (List ℕ))
 
 abbrev pub once_more : SoFar → List ℕ → SoFar
-once_more (good none) v = good (some v)
-once_more (good (some w)) v = bad 1
+once_more (good None) v = good (Some v)
+once_more (good (Some w)) v = bad 1
 once_more (bad n) v = bad n
 
 unfoldable pub gather : List ℕ → SoFar → List Attribute → SoFar
@@ -43,23 +43,23 @@ gather-bad name (a ∷ attrs) = go (same name a.name) (gather-bad name attrs)
     go true h = h
     go false h = h
 
-gather-some : (name v : List ℕ) (attrs : List Attribute) → gather name (good (some v)) attrs ≡ at_most_one (v ∷ values_of name attrs)
+gather-some : (name v : List ℕ) (attrs : List Attribute) → gather name (good (Some v)) attrs ≡ at_most_one (v ∷ values_of name attrs)
 unfolding gather values_of at_most_one
 gather-some name v [] = refl
 gather-some name v (a ∷ attrs) = go (same name a.name) (gather-some name v attrs)
   where
-    go : (b : Bool) → gather name (good (some v)) attrs ≡ at_most_one (v ∷ values_of name attrs)
-        → gather name (cond b (bad 1) (good (some v))) attrs ≡ at_most_one (v ∷ cond b (a.value ∷ values_of name attrs) (values_of name attrs))
+    go : (b : Bool) → gather name (good (Some v)) attrs ≡ at_most_one (v ∷ values_of name attrs)
+        → gather name (cond b (bad 1) (good (Some v))) attrs ≡ at_most_one (v ∷ cond b (a.value ∷ values_of name attrs) (values_of name attrs))
     go true h = gather-bad name attrs
     go false h = h
 
-gather-is : (name : List ℕ) (attrs : List Attribute) → gather name (good none) attrs ≡ at_most_one (values_of name attrs)
+gather-is : (name : List ℕ) (attrs : List Attribute) → gather name (good None) attrs ≡ at_most_one (values_of name attrs)
 unfolding gather values_of at_most_one
 gather-is name [] = refl
 gather-is name (a ∷ attrs) = go (same name a.name) (gather-is name attrs)
   where
-    go : (b : Bool) → gather name (good none) attrs ≡ at_most_one (values_of name attrs)
-        → gather name (cond b (good (some a.value)) (good none)) attrs ≡ at_most_one (cond b (a.value ∷ values_of name attrs) (values_of name attrs))
+    go : (b : Bool) → gather name (good None) attrs ≡ at_most_one (values_of name attrs)
+        → gather name (cond b (good (Some a.value)) (good None)) attrs ≡ at_most_one (cond b (a.value ∷ values_of name attrs) (values_of name attrs))
     go true h = gather-some name a.value attrs
     go false h = h
 
@@ -80,7 +80,7 @@ noted t a = record {
 }
 
 abbrev nothing : Tallied
-nothing = record { datatype = good none; arraysize = good none; null = good none }
+nothing = record { datatype = good None; arraysize = good None; null = good None }
 
 gathered-is : (attrs : List Attribute) → gathered nothing attrs ≡ tallied attrs
 unfolding gathered tallied

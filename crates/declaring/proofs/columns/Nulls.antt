@@ -1,10 +1,10 @@
 -- The null value of a scalar: what its one element is. An integer's elements are those of its words, so the words of the definition and the
 -- elements that the code counts say the same; and whatever number refuses a word, the null is 4.
+use Rattle.std.specs.Prelude.{Some, None}
 use Prim.Native.Nat.{suc, ℕ}
 use native.Mathlib.Omega.{arith}
 use mathlib.Core.Bool.{Bool, false, true}
 use mathlib.Core.List.{List, [], ◌∷◌}
-use mathlib.Core.Option.{some}
 use mathlib.Core.Path.{◌∙◌, ◌≡◌, ap, refl, subst, sym}
 use lib.IntN.{ℤ}
 use lib.ListN.{get_or, length}
@@ -17,12 +17,11 @@ use Rattle.number.specs.Number.{Fault, read_integer}
 use Rattle.table.specs.Bytes.{words}
 use Rattle.table.specs.Result.{Result, ◌>>=◌, bad, every, good, refused_as}
 use Rattle.table.specs.Shape.{Bits, Shape, Text, Truths, Whole, Width, last}
-use Rattle.table.specs.declared.Null.TheVariants.{Declared, Undeclared}
 use Rattle.tabledata.specs.TableData.{fault_number, integer_word, text_elements}
 
 -- ---- the words of the definition, as elements
 
-one-null : (r : Result Fault ℤ) → (refused_as {A = ℤ} (λ _. 4) r >>= λ z. good (Declared z)) ≡ one_null (refused_as fault_number r >>= λ z. good (z ∷ []))
+one-null : (r : Result Fault ℤ) → (refused_as {A = ℤ} (λ _. 4) r >>= λ z. good (Some z)) ≡ one_null (refused_as fault_number r >>= λ z. good (z ∷ []))
 unfolding one_null
 one-null (good z) = refl
 one-null (bad f) = refl
@@ -47,13 +46,13 @@ null_is g v t e = rw e (null-words g v (words t))
 
 -- ---- the elements that were counted
 
-one-held : (es scratch : List ℤ) (d : ℤ) → length scratch ≡ 1 → Stored es 1 scratch → one_null (good es) ≡ good (Declared (get_or scratch 0 d))
+one-held : (es scratch : List ℤ) (d : ℤ) → length scratch ≡ 1 → Stored es 1 scratch → one_null (good es) ≡ good (Some (get_or scratch 0 d))
 unfolding one_null
 one-held [] scratch d l p = absurd (omega (arith, p.all))
 one-held (z ∷ y ∷ es) scratch d l p = absurd (omega (arith, p.all))
 one-held (z ∷ []) [] d l p = absurd (omega (arith, l))
 one-held (z ∷ []) (x ∷ y ∷ rest) d l p = absurd (omega (arith, l))
-one-held (z ∷ []) (x ∷ []) d l p = let q : ◌≡◌ {A = List ℤ} (x ∷ []) (z ∷ []) = p.first in ap (λ (l : List ℤ). good (Declared (get_or l 0 d))) (sym q)
+one-held (z ∷ []) (x ∷ []) d l p = let q : ◌≡◌ {A = List ℤ} (x ∷ []) (z ∷ []) = p.first in ap (λ (l : List ℤ). good (Some (get_or l 0 d))) (sym q)
 
 not-one : (es : List ℤ) → (length es ≡ 1 → ⊥) → one_null (good es) ≡ bad 4
 unfolding one_null
@@ -62,7 +61,7 @@ not-one (z ∷ []) n = absurd (n refl)
 not-one (z ∷ y ∷ es) n = refl
 
 module _ {r : Result ℕ (List ℤ)} {count : ℕ} {entry exit : List ℤ} (c : CountsElements r entry exit (All count)) where
-  pub counted-one : (d : ℤ) → length entry ≡ 1 → count ≡ 1 → one_null r ≡ good (Declared (get_or exit 0 d))
+  pub counted-one : (d : ℤ) → length entry ≡ 1 → count ≡ 1 → one_null r ≡ good (Some (get_or exit 0 d))
   counted-one d l e = ap one_null c.found.1 ∙ one-held c.found.0 exit d (c.long ∙ l) (subst (λ (n : ℕ). Stored c.found.0 n exit) e c.found.2)
 
   pub counted-other : (count ≡ 1 → ⊥) → one_null r ≡ bad 4
@@ -74,14 +73,14 @@ counted_none c = rw c.found
 
 -- ---- which columns have a null value
 
-pub scalar-null : (k : Shape) (scalar : Bool) (t : List ℕ) → scalar ≡ true → null_of k scalar (some t) ≡ null_of_scalar k t
+pub scalar-null : (k : Shape) (scalar : Bool) (t : List ℕ) → scalar ≡ true → null_of k scalar (Some t) ≡ null_of_scalar k t
 unfolding null_of null_of_scalar
 scalar-null Truths scalar t h = refl
 scalar-null Bits scalar t h = refl
 scalar-null Text scalar t h = refl
 scalar-null (Whole g v) scalar t h = rw h
 
-pub array-null : (k : Shape) (scalar : Bool) (t : List ℕ) → scalar ≡ false → null_of k scalar (some t) ≡ good Undeclared
+pub array-null : (k : Shape) (scalar : Bool) (t : List ℕ) → scalar ≡ false → null_of k scalar (Some t) ≡ good None
 unfolding null_of
 array-null Truths scalar t h = refl
 array-null Bits scalar t h = refl

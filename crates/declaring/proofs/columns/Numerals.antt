@@ -1,11 +1,11 @@
 -- A length: one to four digits, the first not 0, at most 4096.
+use Rattle.std.specs.Prelude.{None, Some}
 use Prim.Native.Nat.{◌*◌, ◌+◌, ◌-◌, ◌<◌, ◌^◌, ◌≤◌, suc, zero, ℕ}
 use native.Mathlib.Nat.{pow-le-pow_right, pow-succ'}
 use native.Mathlib.Numerals.{add-one}
 use native.Mathlib.Omega.{arith}
 use mathlib.Core.Bool.{Bool, ◌&&◌, cond, false, false≢true, true}
 use mathlib.Core.List.{List, [], ◌∷◌}
-use mathlib.Core.Option.{none, some}
 use mathlib.Core.Path.{◌∙◌, ◌≡◌, ap, refl, sym}
 use lib.Dec.{leb, lit<}
 use lib.ListN.{drop, get_or, length, take}
@@ -87,12 +87,12 @@ digits-grow n i d h k = rw (add-one, pow-succ') (omega arith)
 
 -- ---- "bounded `n*`"
 
-pub star-none : (t : List ℕ) → length t ≡ 0 → before_star t ≡ none
+pub star-none : (t : List ℕ) → length t ≡ 0 → before_star t ≡ None
 unfolding before_star
 star-none [] h = refl
 star-none (b ∷ t) h = absurd (omega arith)
 
-pub star-no : (t : List ℕ) (k : ℕ) → length t ≡ suc k → (get_or t k 0 ≡ 42 → ⊥) → before_star t ≡ none
+pub star-no : (t : List ℕ) (k : ℕ) → length t ≡ suc k → (get_or t k 0 ≡ 42 → ⊥) → before_star t ≡ None
 unfolding before_star
 star-no [] k h n = refl
 star-no (b ∷ []) zero h n = rw (ne_eqb b 42 n)
@@ -100,7 +100,7 @@ star-no (b ∷ []) (suc k) h n = absurd (omega arith)
 star-no (b ∷ c ∷ t) zero h n = absurd (omega arith)
 star-no (b ∷ c ∷ t) (suc k) h n = rw (star-no (c ∷ t) k (omega arith) n)
 
-pub star-yes : (t : List ℕ) (k : ℕ) → length t ≡ suc k → get_or t k 0 ≡ 42 → before_star t ≡ some (take k t)
+pub star-yes : (t : List ℕ) (k : ℕ) → length t ≡ suc k → get_or t k 0 ≡ 42 → before_star t ≡ Some (take k t)
 unfolding before_star
 star-yes [] k h e = absurd (omega arith)
 star-yes (b ∷ []) zero h e = rw (eq-eqb b 42 e)

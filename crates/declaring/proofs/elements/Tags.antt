@@ -1,8 +1,8 @@
 -- A FIELD from its tags: each definition as what follows the part that was read last.
+use Rattle.std.specs.Prelude.{Option, None, Some}
 use Prim.Native.Nat.{◌<◌, ◌≤◌, ℕ}
 use native.Mathlib.Omega.{arith}
 use mathlib.Core.List.{List, [], ◌∷◌}
-use mathlib.Core.Option.{Option, none, some}
 use mathlib.Core.Path.{◌∙◌, ◌≡◌, ap, refl, sym}
 use lib.ListN.{drop, length-drop}
 use Rattle.declaring.specs.Readers.{AttributesIs, BodyIs, EndsIs, FieldIs, MetIn, Tallied, ValueIn, as_written, assembled, element_of}
@@ -88,11 +88,11 @@ values-after s = outer (ends 1 (bytes "<VALUES") s)
 -- ---- what stands in a FIELD
 
 module _ (s : List ℕ) (from : ℕ) where
-  body_is : field_body (drop from s) ≡ (begins (ends 1 (bytes "<VALUES") (drop from s)) (read_values (drop from s)) (good (none, drop from s)) >>= λ r. end_tag r.0 r.1)
+  body_is : field_body (drop from s) ≡ (begins (ends 1 (bytes "<VALUES") (drop from s)) (read_values (drop from s)) (good (None, drop from s)) >>= λ r. end_tag r.0 r.1)
   unfolding field_body end_tag
   body_is = refl
 
-  pub body-none : (r : Body) → EndsIs (bytes "<VALUES") s from Broken → BodyIs s from (end_tag none (drop from s)) r → BodyIs s from (field_body (drop from s)) r
+  pub body-none : (r : Body) → EndsIs (bytes "<VALUES") s from Broken → BodyIs s from (end_tag None (drop from s)) r → BodyIs s from (field_body (drop from s)) r
   unfolding begins
   body-none r h b = body-from s from from _ _ r (omega arith) (body_is ∙ rw (h.found 1)) b
 
@@ -133,8 +133,8 @@ assembled-is d p a q v next e f = sym (ap (λ (x : Met). assembled x a v next) e
 -- ---- a FIELD
 
 abbrev needed : Result ℕ (Option (List ℕ)) → Result ℕ (List ℕ)
-needed (good none) = bad 1
-needed (good (some v)) = good v
+needed (good None) = bad 1
+needed (good (Some v)) = good v
 needed (bad n) = bad n
 
 needed-one : (vs : List (List ℕ)) → exactly_one vs ≡ needed (at_most_one vs)

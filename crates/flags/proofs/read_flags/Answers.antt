@@ -31,12 +31,12 @@ pub nonzero_rem-x : goal.nonzero_rem-x
 unfolding bit_bytes
 nonzero_rem-x c = unit-some _ (omega (arith, c.flag_bytes-n.ensures.0))
 
-pub nonzero_div-result : goal.nonzero_div-result
+pub nonzero_div-flags : goal.nonzero_div-flags
 unfolding bit_bytes
-nonzero_div-result c = unit-some _ (omega (arith, c.flag_bytes-n.ensures.0))
+nonzero_div-flags c = unit-some _ (omega (arith, c.flag_bytes-n.ensures.0))
 
-pub overflow_add-result : goal.overflow_add-result
-overflow_add-result c = omega (arith, c.if-s-at.false)
+pub overflow_add-flags : goal.overflow_add-flags
+overflow_add-flags c = omega (arith, c.if-s-at.false)
 
 pub returns-then-x-unit-eq0 : goal.returns-then-x-unit-eq0
 returns-then-x-unit-eq0 c =

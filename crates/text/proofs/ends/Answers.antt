@@ -3,4 +3,4 @@ use Rattle.text.proofs.Scan.{ends-from}
 use Rattle.text.proofs.ends.Goals as goal
 
 pub returns : goal.returns
-returns c = ends-from _ c.skip_white-i.ensures c.goes_on.ensures
+returns c = ends-from _ c.skip_white.ensures c.goes_on.ensures

@@ -1,9 +1,9 @@
 -- declaring::columns::judge: a FIELD's column: its kind, its length and its null value, the first that is refused first.
+use Rattle.std.specs.Prelude.{None}
 use Rattle.declaring.specs.Readers.{element_of, kind_read, len_read, null_read}
 use Rattle.fields.specs.Fields.{judge}
 use Rattle.table.specs.Cell.{column_of, is_scalar}
 use Rattle.table.specs.Result.{good}
-use Rattle.table.specs.declared.Null.TheVariants.{Undeclared}
 use mathlib.Core.Path.{◌∙◌, ◌≡◌, ap, sym}
 use native.Mathlib.Omega.{arith}
 use Rattle.declaring.proofs.columns.judge.Goals as goal
@@ -30,7 +30,7 @@ read_null-requires c =
 pub returns-in_default-read_null : goal.returns-in_default-read_null
 unfolding judge element_of
 returns-in_default-read_null c =
-    let scalar_is : c.is_scalar-scalar.result ≡ is_scalar (column_of c.in-Carried.kind c.in-Shaped.len Undeclared) = c.is_scalar-scalar.ensures ∙ ap is_scalar c.column_of.ensures in
+    let scalar_is : c.is_scalar-scalar.result ≡ is_scalar (column_of c.in-Carried.kind c.in-Shaped.len None) = c.is_scalar-scalar.ensures ∙ ap is_scalar c.column_of.ensures in
     rw (
       c.kind_of.ensures ∙ ap kind_read c.in-Carried.is,
       c.read_len.ensures ∙ ap len_read c.in-Shaped.is,
@@ -41,7 +41,7 @@ returns-in_default-read_null c =
 pub returns : goal.returns
 unfolding judge element_of
 returns c =
-    let scalar_is : c.is_scalar-scalar.result ≡ is_scalar (column_of c.in-Carried.kind c.in-Shaped.len Undeclared) = c.is_scalar-scalar.ensures ∙ ap is_scalar c.column_of.ensures in
+    let scalar_is : c.is_scalar-scalar.result ≡ is_scalar (column_of c.in-Carried.kind c.in-Shaped.len None) = c.is_scalar-scalar.ensures ∙ ap is_scalar c.column_of.ensures in
     rw (
       c.kind_of.ensures ∙ ap kind_read c.in-Carried.is,
       c.read_len.ensures ∙ ap len_read c.in-Shaped.is,
