@@ -18,7 +18,7 @@ use content_showing::{show_integer, show_truth};
 use integers::{put_eight, put_four};
 use moving::Moved;
 use number::{Elements, Integer, elements_of};
-use table::{Column, Len, Rows, Size, is_char, is_scalar};
+use table::{Column, Len, Rows, is_char, is_scalar};
 
 // What a leaf may store in one go: where the buffer has less room, the cell is for the careful way.
 pub const ROOM: usize = 64;
@@ -74,21 +74,18 @@ fn put_declared(column: Column, next: usize, row: &mut [u8], o: usize) -> Option
     requires { (bound column.len ≤ most_elements) × (o ≤ length row.old) }
     ensures { PutsCell Binary column null next row.old o row.new result }
 {
-    let size = null_size(column);
-    match size {
-        Size::NoForm(_n) => None,
-        Size::Bytes(b) => {
-            if row.len() - o < b {
-                return None;
-            }
-            let e = put_binary_null(column, row, o);
-            Some(Moved {
-                next,
-                end: e,
-                null: true,
-            })
-        }
+    let Ok(size) = null_size(column) else {
+        return None;
+    };
+    if row.len() - o < size {
+        return None;
     }
+    let end = put_binary_null(column, row, o);
+    Some(Moved {
+        next,
+        end,
+        null: true,
+    })
 }
 
 // A null that ends at a place of the input.

@@ -84,17 +84,17 @@ returns-then-s-end-eq60 c =
 pub letter_at-requires : goal.letter_at-requires
 letter_at-requires c = let p = c.plain_end-end.ensures in omega (arith, p.0, p.1.inside)
 
-pub shape_of-row-in_default : goal.shape_of-row-in_default
-shape_of-row-in_default c =
+pub shape_of-row-in_err-c : goal.shape_of-row-in_err-c
+shape_of-row-in_err-c c =
     let copied : let a = c.args in TextTo a.s.now a.from c.plain_end-end.result a.row.now a.first c.copy_wide-o.new.row c.copy_wide-o.result =
     text-run c.loop-from.invariant c.plain_end-end.ensures.0 c.plain_end-end.ensures.1 c.copy_wide-o.ensures in
     copied.puts.long
 
-pub returns-in_default : goal.returns-in_default
-returns-in_default c =
+pub returns-in_err-c : goal.returns-in_err-c
+returns-in_err-c c =
     let copied : let a = c.args in TextTo a.s.now a.from c.plain_end-end.result a.row.now a.first c.copy_wide-o.new.row c.copy_wide-o.result =
     text-run c.loop-from.invariant c.plain_end-end.ensures.0 c.plain_end-end.ensures.1 c.copy_wide-o.ensures in
-    puts-before copied.puts
+    rw c.from_residual.ensures (puts-before copied.puts)
 
 pub bounds-row-o : goal.bounds-row-o
 bounds-row-o c =
@@ -110,7 +110,7 @@ overflow_add-o c =
 
 pub loop-from-smaller : goal.loop-from-smaller
 loop-from-smaller c =
-    let letter : LetterIs c.args.s.now c.plain_end-end.result (Some (record { byte = c.in-Is.c; next = c.in-Is.next })) = subst (LetterIs _ _) c.in-Is.is c.letter_at.ensures in
+    let letter : LetterIs c.args.s.now c.plain_end-end.result (Some c.in_ok-c.field-0) = c.in_ok-c.ensures in
     let l = letter in let p = c.plain_end-end.ensures in
     omega (arith, p.0, l.2, l.0.inside)
 
@@ -118,7 +118,7 @@ pub loop-from-preserved : goal.loop-from-preserved
 loop-from-preserved c =
     let copied : let a = c.args in TextTo a.s.now a.from c.plain_end-end.result a.row.now a.first c.copy_wide-o.new.row c.copy_wide-o.result =
     text-run c.loop-from.invariant c.plain_end-end.ensures.0 c.plain_end-end.ensures.1 c.copy_wide-o.ensures in
-    let letter : LetterIs c.args.s.now c.plain_end-end.result (Some (record { byte = c.in-Is.c; next = c.in-Is.next })) = subst (LetterIs _ _) c.in-Is.is c.letter_at.ensures in
+    let letter : LetterIs c.args.s.now c.plain_end-end.result (Some c.in_ok-c.field-0) = c.in_ok-c.ensures in
     let room : c.copy_wide-o.result < length c.copy_wide-o.new.row = (let q = c.copy_wide-o.ensures in
     omega (arith, passes-length c.plain_end-end.ensures.1, q.next-is, q.long)) in
     text-letter copied letter room
