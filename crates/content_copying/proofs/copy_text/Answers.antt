@@ -7,7 +7,6 @@ use lib.ListN.{length}
 use Rattle.content_copying.proofs.Runs.{pass-copied}
 use Rattle.content_copying.proofs.Texts.{TextTo, text-letter, text-moved, text-run, text-start}
 use Rattle.content_reading.specs.Letters.{LetterIs}
-use Rattle.content_reading.specs.declared.Letter.{Letter}
 use Rattle.moving.proofs.Puts.{puts-before, puts_then}
 use borrow.Author.Rules.{rules}
 use Rattle.content_copying.proofs.copy_text.Goals as goal
@@ -84,17 +83,17 @@ returns-then-s-end-eq60 c =
 pub other_letter-requires : goal.other_letter-requires
 other_letter-requires c = let p = c.itself_end-end.ensures in omega (arith, p.high)
 
-pub shape_of-row-in_default : goal.shape_of-row-in_default
-shape_of-row-in_default c =
+pub shape_of-row-in_err-c : goal.shape_of-row-in_err-c
+shape_of-row-in_err-c c =
     let copied : let a = c.args in TextTo a.s.now a.from c.itself_end-end.result a.row.now a.first c.copy_wide-e.new.row c.copy_wide-e.result
     (c.loop-from.count + (c.itself_end-end.result - c.loop-from.at)) = text-run c.loop-from.invariant c.itself_end-end.ensures c.copy_wide-e.ensures in
     copied.puts.long
 
-pub returns-in_default : goal.returns-in_default
-returns-in_default c =
+pub returns-in_err-c : goal.returns-in_err-c
+returns-in_err-c c =
     let copied : let a = c.args in TextTo a.s.now a.from c.itself_end-end.result a.row.now a.first c.copy_wide-e.new.row c.copy_wide-e.result
     (c.loop-from.count + (c.itself_end-end.result - c.loop-from.at)) = text-run c.loop-from.invariant c.itself_end-end.ensures c.copy_wide-e.ensures in
-    puts-before copied.puts
+    rw c.from_residual.ensures (puts-before copied.puts)
 
 pub put_reference-o-requires : goal.put_reference-o-requires
 put_reference-o-requires c =
@@ -117,14 +116,14 @@ pub overflow_add-count-in-loop-from : goal.overflow_add-count-in-loop-from
 overflow_add-count-in-loop-from c =
     let copied : let a = c.args in TextTo a.s.now a.from c.itself_end-end.result a.row.now a.first c.copy_wide-e.new.row c.copy_wide-e.result
     (c.loop-from.count + (c.itself_end-end.result - c.loop-from.at)) = text-run c.loop-from.invariant c.itself_end-end.ensures c.copy_wide-e.ensures in
-    let letter : LetterIs c.args.s.now c.itself_end-end.result (Some (record { byte = c.in-Is.c; next = c.in-Is.next })) = c.in-Is.ensures in
+    let letter : LetterIs c.args.s.now c.itself_end-end.result (Some c.in_ok-c.field-0) = c.in_ok-c.ensures in
     let r = copied in
     let l = letter in
     let h = r.few in let k = l.0.inside in let m = l.2 in search rules
 
 pub loop-from-smaller : goal.loop-from-smaller
 loop-from-smaller c =
-    let letter : LetterIs c.args.s.now c.itself_end-end.result (Some (record { byte = c.in-Is.c; next = c.in-Is.next })) = c.in-Is.ensures in
+    let letter : LetterIs c.args.s.now c.itself_end-end.result (Some c.in_ok-c.field-0) = c.in_ok-c.ensures in
     let l = letter in
     let p = c.itself_end-end.ensures in omega (arith, p.low, l.2, l.0.inside)
 
@@ -132,5 +131,5 @@ pub loop-from-preserved : goal.loop-from-preserved
 loop-from-preserved c =
     let copied : let a = c.args in TextTo a.s.now a.from c.itself_end-end.result a.row.now a.first c.copy_wide-e.new.row c.copy_wide-e.result
     (c.loop-from.count + (c.itself_end-end.result - c.loop-from.at)) = text-run c.loop-from.invariant c.itself_end-end.ensures c.copy_wide-e.ensures in
-    let letter : LetterIs c.args.s.now c.itself_end-end.result (Some (record { byte = c.in-Is.c; next = c.in-Is.next })) = c.in-Is.ensures in
+    let letter : LetterIs c.args.s.now c.itself_end-end.result (Some c.in_ok-c.field-0) = c.in_ok-c.ensures in
     text-letter copied letter c.if-o-e.false c.put_reference-o.ensures
