@@ -6,8 +6,6 @@ use Rattle.binary.proofs.Loops.{length-integers}
 use Rattle.binary.specs.Binary.{all_zero, before_nul, bit_bytes, bits_of, content, content_bytes, count_in, element, first_bytes, numbers, numbers_in, read_binary, read_binary2, shows, unpack}
 use Rattle.binary_reading.specs.Clauses.{Fills}
 use Rattle.binary.specs.Reading.{integers, read_counted}
-use Rattle.binary_reading.specs.declared.Content.{Content}
-use Rattle.binary_reading.specs.declared.Content.TheVariants.{Broken, Filled}
 use Rattle.number.specs.Clauses.{size}
 use Rattle.number.specs.Number.{of_digits}
 use Rattle.table.specs.Cell.{Cell, empty_is_null, is_null_list, null, show, shown, stands_for_null}
@@ -17,7 +15,8 @@ use Rattle.table.specs.Result.{Result, ◌>>=◌, bad, every, good}
 use Rattle.table.specs.Shape.{Bits, Shape, Text, Truths, Whole, Width, last, shape}
 use Rattle.table.specs.declared.Column.{Column}
 use Rattle.table.specs.declared.Found.{Found}
-use Rattle.table.specs.declared.Found.TheVariants.{Refused, Shown}
+use Rattle.table.specs.declared.Reason.{Reason}
+use Rattle.std.specs.Prelude.{Result as Returned, Ok, Err}
 use borrow.Author.Tests.{le-ltb, lt-ltb}
 use lib.IntN.{ℤ}
 use lib.ListN.{drop, length, length-drop, take}
@@ -30,9 +29,9 @@ use native.Mathlib.Omega.{arith}
 
 -- ---- what is read
 
-pub fills-as : {a b : Result ℕ (List ℤ)} {m n : ℕ} {entry exit : List ℤ} {r : Content} → a ≡ b → m ≡ n → Fills b m entry exit r → Fills a n entry exit r
-fills-as {r = Filled k} p q f = record { found = p ∙ f.found; within = rw (← q) f.within; long = f.long }
-fills-as {r = Broken k} p q f = record { found = p ∙ f.found; within = tt; long = f.long }
+pub fills-as : {a b : Result ℕ (List ℤ)} {m n : ℕ} {entry exit : List ℤ} {r : Returned ℕ Reason} → a ≡ b → m ≡ n → Fills b m entry exit r → Fills a n entry exit r
+fills-as {r = Ok k} p q f = record { found = p ∙ f.found; within = rw (← q) f.within; long = f.long }
+fills-as {r = Err e} p q f = record { found = p ∙ f.found; within = tt; long = f.long }
 
 numbers-bytes : (s : List ℕ) → numbers 1 (length s) s ≡ s
 unfolding numbers of_digits
@@ -49,7 +48,7 @@ none_in Text [] h = refl
 none_in Text (b ∷ s) h = absurd (omega arith)
 
 -- no elements take no bytes, and are none
-pub content-none : (k : Shape) (n : ℕ) (s : List ℕ) (entry : List ℤ) → n ≡ 0 → length s ≡ content_bytes k n → Fills (content k n s) n entry entry (Filled 0)
+pub content-none : (k : Shape) (n : ℕ) (s : List ℕ) (entry : List ℤ) → n ≡ 0 → length s ≡ content_bytes k n → Fills (content k n s) n entry entry (Ok 0)
 content-none k n s entry e h =
     rw e (record { found = none_in k s (rw (← e) h); within = le_refl 0; long = refl })
 
@@ -71,7 +70,7 @@ unfolding content numbers_in
 content-whole g v n s = whole_numbers g v n s
 
 pub whole-filled : (g : Bool) (v : Width) (n : ℕ) (s : List ℕ) (entry exit : List ℤ) → n ≤ length entry → length exit ≡ length entry
-    → exit ≡ sets entry 0 (integers g (suc (last v)) n s) → Fills (content (Whole g v) n s) n entry exit (Filled n)
+    → exit ≡ sets entry 0 (integers g (suc (last v)) n s) → Fills (content (Whole g v) n s) n entry exit (Ok n)
 whole-filled g v n s entry exit h l q =
     let m : length (integers g (suc (last v)) n s) ≡ n = length-integers g (suc (last v)) n s in record {
       found = content-whole g v n s ∙ ap good (sym (ap (take n) q ∙ take-of-sets n (integers g (suc (last v)) n s) entry (omega arith) (omega arith)
@@ -121,12 +120,11 @@ module _ (c : Column) (flagged : Bool) (t : List ℕ) where
   unfolding read_binary2 read_counted
   binary2-counted n u e = rw e
 
-within-from : (s : List ℕ) (place next : ℕ) (scratch : List ℤ) (r : Found) → place ≤ next → FoundWithin s next scratch r → FoundWithin s place scratch r
-within-from s place next scratch (Found.Null k) h w = (omega (arith, w.0), w.1)
-within-from s place next scratch (Shown n k) h w = (omega (arith, w.0), w.1, w.2)
-within-from s place next scratch (Refused n) h w = tt
+within-from : (s : List ℕ) (place next : ℕ) (scratch : List ℤ) (r : Returned Found Reason) → place ≤ next → FoundWithin s next scratch r → FoundWithin s place scratch r
+within-from s place next scratch (Ok f) h w = (omega (arith, w.0), w.1, w.2)
+within-from s place next scratch (Err e) h w = tt
 
-pub reads-from : {a b : Result ℕ (Cell × List ℕ)} {s : List ℕ} {place next : ℕ} {entry exit : List ℤ} {r : Found}
+pub reads-from : {a b : Result ℕ (Cell × List ℕ)} {s : List ℕ} {place next : ℕ} {entry exit : List ℤ} {r : Returned Found Reason}
     → a ≡ b → place ≤ next → Reads b s next entry exit r → Reads a s place entry exit r
 reads-from {s = s} {place = place} {next = next} {exit = exit} {r = r} p h x =
     record { found = p ∙ x.found; within = within-from s place next exit r h x.within; long = x.long }

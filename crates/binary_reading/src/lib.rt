@@ -14,44 +14,43 @@ ghost use Rattle.binary_reading.specs.Clauses.{Counts, Fills, truth_as};
 ghost use Rattle.binary.specs.Reading.{read_counted};
 
 use number::{Elements, Integer, elements_of};
-use table::{Column, Found, Kind, Len};
+use table::{Column, Found, Kind, Len, Reason};
 
-// A count of elements and the place after it, or the number of its refusal.
+// A count of elements, and the place after it.
 #[derive(Clone, Copy)]
-pub enum Count {
-    Elements(usize, usize),
-    Uncounted(u64),
-}
-
-// How many elements stand in the scratch, or the number of the content's refusal.
-#[derive(Clone, Copy)]
-pub enum Content {
-    Filled(usize),
-    Broken(u64),
+pub struct Count {
+    pub elements: usize,
+    pub next: usize,
 }
 
 // ---- "a binary cell 8 for its count, 9"
 
-fn count_up_to(s: &[u8], at: usize, most: usize) -> Count
+fn count_up_to(s: &[u8], at: usize, most: usize) -> Result<Count, Reason>
     requires { at ≤ length s.now }
     ensures { Counts (counted most (drop at s.now)) s.now at most result }
 {
     if s.len() - at < 4 {
-        return Count::Uncounted(8);
+        return Err(Reason::Cut);
     }
     let n = integers::four_bytes(s, at) as usize;
     if most < n {
-        return Count::Uncounted(9);
+        return Err(Reason::CountOverBound);
     }
-    Count::Elements(n, at + 4)
+    Ok(Count {
+        elements: n,
+        next: at + 4,
+    })
 }
 
-pub fn read_count(s: &[u8], at: usize, len: Len) -> Count
+pub fn read_count(s: &[u8], at: usize, len: Len) -> Result<Count, Reason>
     requires { at ≤ length s.now }
     ensures { Counts (count_in len (drop at s.now)) s.now at (bound len) result }
 {
     match len {
-        Len::Fixed(n) => Count::Elements(n, at),
+        Len::Fixed(n) => Ok(Count {
+            elements: n,
+            next: at,
+        }),
         Len::Bounded(n) => count_up_to(s, at, n),
         Len::Free => count_up_to(s, at, table::MOST_ELEMENTS),
     }
@@ -71,55 +70,48 @@ fn truth_of(b: u8) -> u8
     }
 }
 
-fn read_truths(part: &[u8], scratch: &mut [i64]) -> Content
+fn read_truths(part: &[u8], scratch: &mut [i64]) -> Result<usize, Reason>
     requires { length part.now ≤ length scratch.old }
     ensures { Fills (every (element Truths) part.now) (length part.now) scratch.old scratch.new result }
 {
-    let mut k: usize = 0;
-    while k < part.len() {
+    for k in 0..part.len() {
         let t = truth_of(part[k]);
         if 3 <= t {
-            return Content::Broken(11);
+            return Err(Reason::NoElement);
         }
         scratch[k] = t as i64;
-        k += 1;
     }
-    Content::Filled(k)
+    Ok(part.len())
 }
 
 // "A char cell shows the characters before the first NUL": nothing after it is looked at.
-fn read_characters(part: &[u8], scratch: &mut [i64]) -> Content
+fn read_characters(part: &[u8], scratch: &mut [i64]) -> Result<usize, Reason>
     requires { length part.now ≤ length scratch.old }
     ensures { Fills (every (element Text) (before_nul part.now)) (length part.now) scratch.old scratch.new result }
 {
-    let mut k: usize = 0;
-    while k < part.len() {
+    for k in 0..part.len() {
         let b = part[k];
         if b == 0 {
-            return Content::Filled(k);
+            return Ok(k);
         }
         if 128 <= b {
-            return Content::Broken(11);
+            return Err(Reason::NoElement);
         }
         scratch[k] = b as i64;
-        k += 1;
     }
-    Content::Filled(k)
+    Ok(part.len())
 }
 
 // One loop for every width: the compiler makes a loop for each kind of it.
-fn read_integers(part: &[u8], n: usize, kind: Integer, scratch: &mut [i64]) -> Content
+fn read_integers(part: &[u8], n: usize, kind: Integer, scratch: &mut [i64]) -> Result<usize, Reason>
     requires { (n * size kind ≤ length part.now) × (n ≤ length scratch.old) }
     ensures { Fills (content (Whole (is_signed kind) (width_of kind)) n part.now) n scratch.old scratch.new result }
 {
     let w = number::integer_bytes(kind);
-    let mut k: usize = 0;
-    while k < n {
-        let z = integers::read_integer(part, k * w, kind);
-        scratch[k] = z;
-        k += 1;
+    for k in 0..n {
+        scratch[k] = integers::read_integer(part, k * w, kind);
     }
-    Content::Filled(n)
+    Ok(n)
 }
 
 // The bits of a byte, "first bit highest".
@@ -137,7 +129,7 @@ fn eight_bits(b: u8, scratch: &mut [i64], at: usize)
     }
 }
 
-fn read_bits(part: &[u8], n: usize, scratch: &mut [i64]) -> Content
+fn read_bits(part: &[u8], n: usize, scratch: &mut [i64]) -> Result<usize, Reason>
     requires { (n ≤ 8 * length part.now) × (8 * length part.now < n + 8) × (8 * length part.now ≤ length scratch.old) }
     ensures { Fills (content Bits n part.now) n scratch.old scratch.new result }
 {
@@ -148,24 +140,24 @@ fn read_bits(part: &[u8], n: usize, scratch: &mut [i64]) -> Content
     }
     let spare = 8 * k - n;
     if spare == 0 {
-        return Content::Filled(n);
+        return Ok(n);
     }
     let last = part[k - 1] as u64;
     let unit = 1u64 << spare;
     if last % unit == 0 {
-        Content::Filled(n)
+        Ok(n)
     } else {
-        Content::Broken(13)
+        Err(Reason::Padding)
     }
 }
 
 // No elements are told here, once, and not by the loop of each kind.
-fn read_content(part: &[u8], n: usize, kind: Kind, scratch: &mut [i64]) -> Content
+fn read_content(part: &[u8], n: usize, kind: Kind, scratch: &mut [i64]) -> Result<usize, Reason>
     requires { (length part.now ≡ content_bytes (shape kind) n) × (n ≤ most_elements) × (most_elements ≤ length scratch.old) }
     ensures { Fills (content (shape kind) n part.now) n scratch.old scratch.new result }
 {
     if n == 0 {
-        return Content::Filled(0);
+        return Ok(0);
     }
     match elements_of(kind) {
         Elements::Truths => read_truths(part, scratch),
@@ -185,29 +177,27 @@ fn read_counted(
     column: Column,
     flagged: bool,
     scratch: &mut [i64],
-) -> Found
+) -> Result<Found, Reason>
     requires { (at ≤ length s.now) × (n ≤ most_elements) × (most_elements ≤ length scratch.old) }
     ensures { Reads (read_counted column flagged n (drop at s.now)) s.now at scratch.old scratch.new result }
 {
     let kind = column.kind;
     let size = binary::content_bytes(kind, n);
     if s.len() - at < size {
-        return Found::Refused(8);
+        return Err(Reason::Cut);
     }
     let next = at + size;
     if flagged {
-        return Found::Null(next);
+        return Ok(Found { shown: None, next });
     }
-    let content = read_content(&s[at..next], n, kind, scratch);
-    match content {
-        Content::Broken(k) => Found::Refused(k),
-        Content::Filled(m) => {
-            if table::is_null(column, m, scratch) {
-                Found::Null(next)
-            } else {
-                Found::Shown(m, next)
-            }
-        }
+    let m = read_content(&s[at..next], n, kind, scratch)?;
+    if table::is_null(column, m, scratch) {
+        Ok(Found { shown: None, next })
+    } else {
+        Ok(Found {
+            shown: Some(m),
+            next,
+        })
     }
 }
 
@@ -217,33 +207,33 @@ pub fn read_binary2(
     column: Column,
     flagged: bool,
     scratch: &mut [i64],
-) -> Found
+) -> Result<Found, Reason>
     requires { (at ≤ length s.now) × (bound column.len ≤ most_elements) × (most_elements ≤ length scratch.old) }
     ensures { Reads (read_binary2 column flagged (drop at s.now)) s.now at scratch.old scratch.new result }
 {
     let len = column.len;
-    let counted = read_count(s, at, len);
-    match counted {
-        Count::Uncounted(k) => Found::Refused(k),
-        Count::Elements(n, next) => read_counted(s, next, n, column, flagged, scratch),
-    }
+    let count = read_count(s, at, len)?;
+    read_counted(s, count.next, count.elements, column, flagged, scratch)
 }
 
 // "In TABLEDATA and BINARY an empty cell is null".
-pub fn read_binary(s: &[u8], at: usize, column: Column, scratch: &mut [i64]) -> Found
+pub fn read_binary(
+    s: &[u8],
+    at: usize,
+    column: Column,
+    scratch: &mut [i64],
+) -> Result<Found, Reason>
     requires { (at ≤ length s.now) × (bound column.len ≤ most_elements) × (most_elements ≤ length scratch.old) }
     ensures { Reads (read_binary column (drop at s.now)) s.now at scratch.old scratch.new result }
 {
-    let found = read_binary2(s, at, column, false, scratch);
-    match found {
-        Found::Null(next) => Found::Null(next),
-        Found::Shown(count, next) => {
-            if count == 0 {
-                Found::Null(next)
-            } else {
-                Found::Shown(count, next)
-            }
-        }
-        Found::Refused(k) => Found::Refused(k),
+    let found = read_binary2(s, at, column, false, scratch)?;
+    let next = found.next;
+    let Some(count) = found.shown else {
+        return Ok(found);
+    };
+    if count == 0 {
+        Ok(Found { shown: None, next })
+    } else {
+        Ok(found)
     }
 }

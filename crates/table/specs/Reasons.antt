@@ -1,6 +1,8 @@
 -- Why something is refused, by name, and its number.
 use Rattle.std.specs.Prelude.{ℕ}
+use Rattle.table.specs.Outcome.{Refusal}
 use Rattle.table.specs.declared.Reason.{Reason}
+use Rattle.table.specs.declared.Refused.{Refused}
 use Rattle.table.specs.declared.Reason.TheVariants.{Arraysize, Base64, ColumnCount, CountOverBound, Cut, Datatype, ElementCount, Empty, Field, Markup, NoCharacter, NoElement, NoRoom, NoSuchRow, NullHasNoForm, NullValue, OutOfRange, Padding, TooLarge}
 
 -- "No. | Given when"
@@ -43,3 +45,7 @@ number_of NoRoom = 17
 number_of OutOfRange = 18
 -- 02, #101: "20"
 number_of NoSuchRow = 20
+
+-- a refusal of the code as the definitions have it
+abbrev pub refusal_of : Refused → Refusal
+refusal_of f = record { number = number_of f.reason; column = f.column }

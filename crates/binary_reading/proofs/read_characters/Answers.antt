@@ -5,10 +5,11 @@ use Rattle.binary.specs.Binary.{before_nul, element}
 use Rattle.table.specs.Result.{good}
 use Rattle.table.specs.Shape.{Text}
 use borrow.Author.Rules.{sfits_of}
-use lib.ListN.{get_or, length-set}
-use mathlib.Core.Path.{◌∙◌, ap, refl, sym}
+use lib.ListN.{get_or, length, length-set}
+use mathlib.Core.Path.{◌∙◌, ◌≡◌, ap, refl, sym}
 use mir.Facts.{to_z_pos}
 use mir.Syntax.{w64}
+use native.Mathlib.Nat.{le_refl}
 use native.Mathlib.Omega.{arith}
 use Rattle.binary_reading.proofs.read_characters.Goals as goal
 
@@ -67,8 +68,9 @@ pub returns : goal.returns
 returns c =
     let l = c.loop-k in
     let a = c.args in
+    let end : length a.part.now ≡ l.k = omega arith in
     record {
-      found = l.invariant.2 ∙ read-end (element Text) before_nul a.part.now l.scratch l.k (no-letter a.part.now l.k (omega arith));
-      within = l.invariant.0;
+      found = l.invariant.2 ∙ read-end (element Text) before_nul a.part.now l.scratch l.k (no-letter a.part.now l.k (omega arith)) ∙ rw end;
+      within = le_refl _;
       long = l.invariant.1;
     }

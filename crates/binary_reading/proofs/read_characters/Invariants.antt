@@ -1,5 +1,5 @@
 -- `binary::read_characters` meets its contract. The loop's invariant is that of `read_truths`, over the bytes before the first NUL.
-use Prim.Native.Nat.{◌-◌, ◌≤◌}
+use Prim.Native.Nat.{◌≤◌}
 use Rattle.binary.proofs.Loops.{onto}
 use Rattle.binary.specs.Binary.{before_nul, element}
 use Rattle.table.specs.Result.{every}
@@ -12,7 +12,3 @@ abbrev pub invariant-loop-k : goal.invariant-loop-k
 invariant-loop-k l =
     (l.k ≤ length l.part) × (length l.scratch ≡ length l.initial.scratch)
     × (every (element Text) (before_nul l.part) ≡ onto (take l.k l.scratch) (every (element Text) (before_nul (drop l.k l.part))))
-
-abbrev pub decreases-loop-k : goal.decreases-loop-k
-decreases-loop-k l =
-    length l.part - l.k

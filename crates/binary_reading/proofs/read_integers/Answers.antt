@@ -22,8 +22,8 @@ overflow_mul-k c =
     let h : a.n * w ≤ length a.part.now = rw c.integer_bytes-w.ensures.0 c.requires.0 in
     omega (arith, place-fits c.loop-k.k a.n w _ c.loop-k-test.true h)
 
-pub read_integer-z-requires : goal.read_integer-z-requires
-read_integer-z-requires c =
+pub read_integer-requires : goal.read_integer-requires
+read_integer-requires c =
     let a = c.args in
     rw c.integer_bytes-w.ensures.0 (place-fits c.loop-k.k a.n (size a.kind) _ c.loop-k-test.true c.requires.0)
 
@@ -38,7 +38,7 @@ loop-k-preserved c =
       omega arith,
       simp length-set l.invariant.1,
       sym (integers-more (is_signed a.kind) (size a.kind) a.n l.k a.part.now l.scratch _ c.loop-k-test.true
-          (to_z-of_z {w = w64} (record { sfits = c.read_integer-z.type_inv }) ∙ c.read_integer-z.ensures
+          (to_z-of_z {w = w64} (record { sfits = c.read_integer.type_inv }) ∙ c.read_integer.ensures
           ∙ ap (λ (w : ℕ). of_pattern (is_signed a.kind) (size a.kind) (of_digits 256 0 (take (size a.kind) (drop (l.k * w) a.part.now)))) e)) ∙ l.invariant.2,
     )
 

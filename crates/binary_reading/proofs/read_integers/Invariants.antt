@@ -11,7 +11,3 @@ abbrev pub invariant-loop-k : goal.invariant-loop-k
 invariant-loop-k l =
     (l.k ≤ l.n) × (length l.scratch ≡ length l.initial.scratch)
     × (sets l.scratch l.k (integers (is_signed l.kind) (size l.kind) (l.n - l.k) (drop (l.k * size l.kind) l.part)) ≡ sets l.initial.scratch 0 (integers (is_signed l.kind) (size l.kind) l.n l.part))
-
-abbrev pub decreases-loop-k : goal.decreases-loop-k
-decreases-loop-k l =
-    l.n - l.k

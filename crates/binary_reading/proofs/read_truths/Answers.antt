@@ -7,11 +7,12 @@ use Rattle.table.specs.Result.{good}
 use Rattle.table.specs.Shape.{Truths}
 use borrow.Author.Rules.{sfits_of}
 use borrow.Author.Tests.{le-ltb, lt-ltb}
-use lib.ListN.{length-set}
+use lib.ListN.{length, length-set}
 use mathlib.Core.List.{List}
-use mathlib.Core.Path.{◌∙◌, ap, refl, sym}
+use mathlib.Core.Path.{◌∙◌, ◌≡◌, ap, refl, sym}
 use mir.Facts.{to_z_pos}
 use mir.Syntax.{w64}
+use native.Mathlib.Nat.{le_refl}
 use native.Mathlib.Omega.{arith}
 use Rattle.binary_reading.proofs.read_truths.Goals as goal
 
@@ -56,8 +57,9 @@ pub returns : goal.returns
 returns c =
     let l = c.loop-k in
     let a = c.args in
+    let end : length a.part.now ≡ l.k = omega arith in
     record {
-      found = l.invariant.2 ∙ read-end (element Truths) (λ (s : List ℕ). s) a.part.now l.scratch l.k (no_byte a.part.now l.k (omega arith));
-      within = l.invariant.0;
+      found = l.invariant.2 ∙ read-end (element Truths) (λ (s : List ℕ). s) a.part.now l.scratch l.k (no_byte a.part.now l.k (omega arith)) ∙ rw end;
+      within = le_refl _;
       long = l.invariant.1;
     }

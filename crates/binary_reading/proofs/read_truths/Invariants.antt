@@ -1,6 +1,6 @@
 -- `binary::read_truths` meets its contract. The loop's invariant: the elements of the whole part are those in the scratch, and behind
 -- them what the bytes from k on give.
-use Prim.Native.Nat.{◌-◌, ◌≤◌}
+use Prim.Native.Nat.{◌≤◌}
 use Rattle.binary.proofs.Loops.{onto}
 use Rattle.binary.specs.Binary.{element}
 use Rattle.table.specs.Result.{every}
@@ -13,7 +13,3 @@ abbrev pub invariant-loop-k : goal.invariant-loop-k
 invariant-loop-k l =
     (l.k ≤ length l.part) × (length l.scratch ≡ length l.initial.scratch)
     × (every (element Truths) l.part ≡ onto (take l.k l.scratch) (every (element Truths) (drop l.k l.part)))
-
-abbrev pub decreases-loop-k : goal.decreases-loop-k
-decreases-loop-k l =
-    length l.part - l.k
