@@ -34,12 +34,12 @@ copy_word-requires c = (c.loop-row.invariant.so_far.spells.inside, omega (arith,
 
 pub shape_of-row-in_err-next : goal.shape_of-row-in_err-next
 shape_of-row-in_err-next c =
-    let declined : Puts c.loop-row.row c.loop-row.o [] c.copy_word.new.row c.loop-row.o = subst (CopiesWord _ _ _ _ _ _) c.in_err-next.is c.copy_word.ensures in
+    let declined : Puts c.loop-row.row c.loop-row.o [] c.copy_word.new.row c.loop-row.o = subst (CopiesWord _ _ _ _ _ _) c.in_err-next.was c.copy_word.ensures in
     declined.long ∙ c.loop-row.invariant.so_far.puts.long
 
 pub returns-in_err-next : goal.returns-in_err-next
 returns-in_err-next c =
-    let declined : Puts c.loop-row.row c.loop-row.o [] c.copy_word.new.row c.loop-row.o = subst (CopiesWord _ _ _ _ _ _) c.in_err-next.is c.copy_word.ensures in
+    let declined : Puts c.loop-row.row c.loop-row.o [] c.copy_word.new.row c.loop-row.o = subst (CopiesWord _ _ _ _ _ _) c.in_err-next.was c.copy_word.ensures in
     rw c.from_residual.ensures (puts-before (puts_then c.loop-row.invariant.so_far.puts declined))
 
 pub overflow_add-count : goal.overflow_add-count
