@@ -1,18 +1,15 @@
 -- Words of integers that are written as they were read.
-use Rattle.std.specs.Prelude.{◌-◌, ◌<◌, ◌^◌, ◌≤◌, suc, ℕ, Bool, List, [], ◌++◌, ◌∷◌, ◌≡◌, ℤ, drop, get_or, take, Option, Some, None}
-use Rattle.content_copying.specs.Passing.{PassTo}
+use Rattle.std.specs.Prelude.{◌-◌, ◌<◌, ◌^◌, ◌≤◌, suc, ℕ, List, [], ◌++◌, ◌∷◌, ◌≡◌, ℤ, drop, get_or, take, Option, Some, None}
+use Rattle.content_reading.specs.Passing.{PassTo}
 use Rattle.content_copying.specs.declared.Word.{Word}
+use Rattle.integer_reading.specs.Figures.{is_digit}
 use Rattle.moving.specs.Contents.{InText}
 use Rattle.moving.specs.Puts.{Puts}
 use Rattle.number.specs.Clauses.{is_signed, width_of}
 use Rattle.number.specs.Number.{shortest}
 use Rattle.number.specs.declared.Integer.{Integer}
-use Rattle.table.specs.Bytes.{between, byte}
 use Rattle.table.specs.Shape.{Whole}
 use Rattle.words.specs.Clauses.{top}
-
-unfoldable pub is_digit : ℕ → Bool
-is_digit c = between (byte "0") (byte "9") c
 
 -- the numbers of so many digits are integers of the kind
 pub record InRange (k : Integer) (n : ℕ) : Type 0 where

@@ -2,45 +2,60 @@
 // to the careful way.
 #![tactic(auto)]
 
-ghost use Rattle.std.specs.Prelude.{◌+◌, ◌<◌, ◌≤◌, drop, length, take, true, [], ◌++◌, ◌∷◌, ◌≡◌};
-ghost use Rattle.content_copying.specs.Passing.{PassTo};
-ghost use Rattle.content_copying.specs.Wording.{CopiesWord, InRange, NumeralTo, OwnTo, is_digit};
-ghost use Rattle.integer_reading.specs.Figures.{is_bit};
+ghost use Rattle.std.specs.Prelude.{◌+◌, ◌<◌, ◌≤◌, length, true, [], ◌++◌, ◌∷◌, ◌≡◌};
+ghost use Rattle.content_copying.specs.Wording.{CopiesWord, InRange, NumeralTo, OwnTo};
+ghost use Rattle.integer_reading.specs.Figures.{is_bit, is_digit};
 ghost use Rattle.content_reading.specs.Letters.{LetterIs};
 ghost use Rattle.content_showing.specs.Showing.{is_itself};
-ghost use Rattle.eights.specs.Marks.{Marks, run};
 ghost use Rattle.moving.specs.Contents.{AsText, InText, MovesContent};
 ghost use Rattle.moving.specs.Puts.{Puts};
 ghost use Rattle.number.specs.Clauses.{is_signed, width_of};
 ghost use Rattle.table.specs.Shape.{Bits, Text, Truths, Whole, shape};
 ghost use Rattle.tabledata.specs.TableData.{truth_text};
 
-use content_reading::{Letter, letter_at, no_bits, text_truth};
+use content_reading::{Letter, Test, letter_at, no_bits, run_end, text_truth};
 use content_showing::{put_reference, put_word, show_truth, text_ahead};
 use eights::{copy_wide, first_of};
-use integer_reading::text_integer;
+use integer_reading::{no_digits, text_integer};
 use integers::eight_bytes;
 use moving::{Content, One};
 use number::{Elements, Integer, elements_of};
 use table::Kind;
 
-// ---- characters. The loops over eight bytes go on by eight and not by what was found, so that a turn need not wait for the one before.
+// ---- which bytes go as they stand
 
-// The end of the run of bytes that are read and written as themselves, or a place in the last eight bytes.
-fn itself_end(s: &[u8], from: usize) -> usize
-    requires { from ≤ length s.now }
-    ensures { PassTo is_itself s.now from result }
-{
-    let mut at = from;
-    while 8 <= s.len() - at {
-        let n = text_ahead(s, at);
-        if n < 8 {
-            return at + n;
-        }
-        at += 8;
+// The bytes that are read and written as themselves.
+struct Itself;
+
+impl Test for Itself {
+    ghost passes = { is_itself };
+
+    fn ahead(s: &[u8], at: usize) -> usize {
+        text_ahead(s, at)
     }
-    at
 }
+
+struct Bit;
+
+impl Test for Bit {
+    ghost passes = { is_bit };
+
+    fn ahead(s: &[u8], at: usize) -> usize {
+        first_of(no_bits(eight_bytes(s, at)))
+    }
+}
+
+struct Digit;
+
+impl Test for Digit {
+    ghost passes = { is_digit };
+
+    fn ahead(s: &[u8], at: usize) -> usize {
+        first_of(no_digits(eight_bytes(s, at)))
+    }
+}
+
+// ---- characters
 
 // What stands between runs: a reference, a tab, a line's end, or a `>`, which is itself in a cell and is written as a reference.
 fn other_letter(s: &[u8], at: usize) -> Option<Letter>
@@ -65,7 +80,7 @@ fn copy_text(s: &[u8], from: usize, row: &mut [u8], first: usize) -> Option<Cont
     let mut o = first;
     let mut count: usize = 0;
     loop {
-        let end = itself_end(s, at);
+        let end = run_end::<Itself>(s, at);
         let n = end - at;
         if s.len() - end < 8 {
             return None;
@@ -97,36 +112,12 @@ fn copy_text(s: &[u8], from: usize, row: &mut [u8], first: usize) -> Option<Cont
 
 // ---- bits
 
-// How many of the next eight bytes are bits, up to the first that is none.
-fn bits_ahead(s: &[u8], at: usize) -> usize
-    requires { at + 8 ≤ length s.now }
-    ensures { result ≡ run is_bit (take 8 (drop at s.now)) }
-{
-    first_of(no_bits(eight_bytes(s, at)))
-}
-
-// The end of the run of bits, or a place in the last eight bytes.
-fn bits_end(s: &[u8], from: usize) -> usize
-    requires { from ≤ length s.now }
-    ensures { PassTo is_bit s.now from result }
-{
-    let mut at = from;
-    while 8 <= s.len() - at {
-        let n = bits_ahead(s, at);
-        if n < 8 {
-            return at + n;
-        }
-        at += 8;
-    }
-    at
-}
-
 // A bit is written as the letter it was read from.
 fn copy_bits(s: &[u8], from: usize, row: &mut [u8], first: usize) -> Option<Content>
     requires { (from ≤ length s.now) × (first ≤ length row.old) }
     ensures { MovesContent (InText Bits s.now from) (AsText Bits) row.old first row.new result }
 {
-    let end = bits_end(s, from);
+    let end = run_end::<Bit>(s, from);
     let n = end - from;
     if n == 0 {
         return None;
@@ -146,38 +137,6 @@ fn copy_bits(s: &[u8], from: usize, row: &mut [u8], first: usize) -> Option<Cont
 }
 
 // ---- integers: a word of digits that is the shortest of its integer goes as it stands, without its integer
-
-// The high bit of each byte that is no digit.
-fn no_digits(x: u64) -> u64
-    ensures { Marks is_digit x result }
-{
-    let t = x ^ 0x3030303030303030;
-    (((t & 0x7f7f7f7f7f7f7f7f) + 0x7676767676767676) | t) & 0x8080808080808080
-}
-
-// How many of the next eight bytes are digits, up to the first that is none.
-fn digits_ahead(s: &[u8], at: usize) -> usize
-    requires { at + 8 ≤ length s.now }
-    ensures { result ≡ run is_digit (take 8 (drop at s.now)) }
-{
-    first_of(no_digits(eight_bytes(s, at)))
-}
-
-// The end of the run of digits, or a place in the last eight bytes.
-fn digits_end(s: &[u8], from: usize) -> usize
-    requires { from ≤ length s.now }
-    ensures { PassTo is_digit s.now from result }
-{
-    let mut at = from;
-    while 8 <= s.len() - at {
-        let n = digits_ahead(s, at);
-        if n < 8 {
-            return at + n;
-        }
-        at += 8;
-    }
-    at
-}
 
 // So many digits are in the range of the kind, whichever they are.
 fn most_digits(integer: Integer) -> usize
@@ -208,7 +167,7 @@ fn numeral_end(s: &[u8], from: usize, most: usize) -> usize
     requires { from < length s.now }
     ensures { NumeralTo s.now from most result }
 {
-    let end = digits_end(s, from);
+    let end = run_end::<Digit>(s, from);
     let n = end - from;
     if most < n {
         return from;

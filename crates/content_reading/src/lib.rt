@@ -2,11 +2,11 @@
 // left to the careful way.
 #![tactic(auto)]
 
-ghost use Rattle.std.specs.Prelude.{false, ◌≡◌, ◌+◌, ◌-◌, ◌<◌, ◌≤◌, pos, length};
+ghost use Rattle.std.specs.Prelude.{Bool, ℕ, drop, false, take, ◌≡◌, ◌+◌, ◌<◌, ◌≤◌, pos, length};
 ghost use Rattle.content_reading.specs.Letters.{LetterIs, truth_number};
-ghost use Rattle.eights.specs.Marks.{Marks};
+ghost use Rattle.content_reading.specs.Passing.{PassTo};
+ghost use Rattle.eights.specs.Marks.{Marks, run};
 ghost use Rattle.integer_reading.specs.Figures.{BitByte, ReadIn, is_bit};
-ghost use Rattle.integer_reading.specs.Runs.{Passes};
 ghost use Rattle.moving.specs.Contents.{AsBinary, FindsOne, InText, MovesContent};
 ghost use Rattle.number.specs.Clauses.{is_signed, width_of};
 ghost use Rattle.table.specs.Cell.{truth_byte};
@@ -21,6 +21,35 @@ use integers::{eight_bytes, four_bytes, write_integer};
 use moving::{Content, One};
 use number::{Elements, Integer, elements_of};
 use table::Kind;
+
+// ---- runs of bytes that pass a test
+
+// A test of bytes, eight at once.
+pub trait Test {
+    ghost passes: { ℕ → Bool };
+
+    // How many of the next eight bytes pass, up to the first that does not.
+    fn ahead(s: &[u8], at: usize) -> usize
+        requires { at + 8 ≤ length s.now }
+        ensures { result ≡ run passes (take 8 (drop at s.now)) };
+}
+
+// The end of the run of bytes that pass, or a place in the last eight bytes. The loop goes on by eight and not by what was found, so that a turn need
+// not wait for the one before.
+pub fn run_end<T: Test>(s: &[u8], from: usize) -> usize
+    requires { from ≤ length s.now }
+    ensures { PassTo T.passes s.now from result }
+{
+    let mut at = from;
+    while 8 <= s.len() - at {
+        let n = T::ahead(s, at);
+        if n < 8 {
+            return at + n;
+        }
+        at += 8;
+    }
+    at
+}
 
 // ---- one boolean by its value
 
@@ -65,28 +94,15 @@ fn no_plain(x: u64) -> u64
     ((fine ^ 0x8080808080808080) | x) & 0x8080808080808080
 }
 
-// How many of the next eight bytes stand for themselves, up to the first that does not.
-fn plain_ahead(s: &[u8], at: usize) -> usize
-    requires { at + 8 ≤ length s.now }
-    ensures { Passes is_plain s.now at result × (result ≤ 8) }
-{
-    first_of(no_plain(eight_bytes(s, at)))
-}
+// The bytes that stand for themselves.
+struct Plain;
 
-// The end of the run of bytes that stand for themselves, or a place in the last eight bytes.
-fn plain_end(s: &[u8], from: usize) -> usize
-    requires { from ≤ length s.now }
-    ensures { (from ≤ result) × Passes is_plain s.now from (result - from) }
-{
-    let mut at = from;
-    while 8 <= s.len() - at {
-        let n = plain_ahead(s, at);
-        if n < 8 {
-            return at + n;
-        }
-        at += 8;
+impl Test for Plain {
+    ghost passes = { is_plain };
+
+    fn ahead(s: &[u8], at: usize) -> usize {
+        first_of(no_plain(eight_bytes(s, at)))
     }
-    at
 }
 
 // A character and the place after it.
@@ -155,7 +171,7 @@ fn read_text(s: &[u8], from: usize, row: &mut [u8], first: usize) -> Option<Cont
     let mut at = from;
     let mut o = first;
     loop {
-        let end = plain_end(s, at);
+        let end = run_end::<Plain>(s, at);
         let n = end - at;
         if s.len() - end < 8 {
             return None;

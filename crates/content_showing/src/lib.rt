@@ -1,8 +1,8 @@
 // The contents of cells of BINARY and BINARY2 as the text of a cell of TABLEDATA, in a row's buffer.
 #![tactic(auto)]
 
-ghost use Rattle.std.specs.Prelude.{◌*◌, ◌+◌, ◌-◌, ◌<◌, ◌≤◌, nat_abs, drop, length, replicate, take, false, [], ◌++◌, ◌∷◌, ◌≡◌};
-ghost use Rattle.binary.specs.Binary.{all_zero, bit_bytes, bits_of, content_bytes};
+ghost use Rattle.std.specs.Prelude.{◌*◌, ◌+◌, ◌-◌, ◌<◌, ◌≤◌, drop, length, replicate, take, false, [], ◌++◌, ◌∷◌, ◌≡◌};
+ghost use Rattle.binary.specs.Binary.{bit_bytes, content_bytes};
 ghost use Rattle.content_showing.specs.Showing.{TruthsPut, bit_letters, byte_word, filled, first_part, is_itself, middle_part, reference, sign, truth_shown};
 ghost use Rattle.decimals.specs.Clauses.{numerals};
 ghost use Rattle.eights.specs.Marks.{Marks, run};

@@ -37,7 +37,7 @@ fn few_figures(x: u64, n: usize) -> u64
 }
 
 // The high bit of each byte that is no digit.
-fn no_digits(x: u64) -> u64
+pub fn no_digits(x: u64) -> u64
     ensures { Marks is_digit x result }
 {
     let t = x ^ 0x3030303030303030;
