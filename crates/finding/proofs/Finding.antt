@@ -11,6 +11,8 @@ use borrow.Author.Tests.{le-ltb, lt-ltb, ltb-false, ltb-true}
 use Rattle.index.specs.Fetch.{behind_the, fetch_indexed, fetch_row, is_indexed}
 use Rattle.finding.specs.Clauses.{Finds}
 use Rattle.finding.specs.declared.Wanted.{Wanted}
+use Rattle.std.specs.Prelude.{Err, Ok, Result as Returned}
+use Rattle.table.specs.declared.Refused.{Refused}
 use Rattle.rows.specs.Stream.{read_row, run}
 use Rattle.table.proofs.Laws.{cond_cases}
 use Rattle.table.specs.Cell.{Cell}
@@ -60,7 +62,7 @@ module _ (from : Rows) (cols : List Column) (s : List ℕ) (start before : ℕ) 
       find-stop n k e room = itself room ∙ rw e
 
       pub find-there : (xs : List Cell) (next : ℕ) → read_row from cols (drop place s) ≡ good (xs, drop next s) → place < next → next ≤ length s
-          → Finds from cols s (λ room. fetch_row from cols room before (drop start s)) (Wanted.Row place next)
+          → Finds from cols s (λ room. fetch_row from cols room before (drop start s)) (Ok (record { start = place; next = next }))
       unfolding behind_the
       find-there xs next e lo hi =
           let took : length (drop place s) - length (drop next s) ≡ next - place = omega (arith, length-drop place s, length-drop next s, inv.inside) in
@@ -79,10 +81,10 @@ module _ (from : Rows) (cols : List Column) (s index : List ℕ) (rows row : ℕ
 
   -- from the start that its place holds; one past the end leaves what the end leaves
   pub by-entry : row < rows → row / 64 < length index → (start : ℕ) → drop start s ≡ drop (get_or index (row / 64) 0) s
-      → (w : Wanted) → Finds from cols s (λ room. fetch_row from cols room (row % 64) (drop start s)) w → Finds from cols s (λ room. fetch_indexed from cols room s index rows row) w
+      → (w : Returned Wanted Refused) → Finds from cols s (λ room. fetch_row from cols room (row % 64) (drop start s)) w → Finds from cols s (λ room. fetch_indexed from cols room s index rows row) w
   unfolding fetch_indexed is_indexed
-  by-entry l h start e (Wanted.Row place next) f = ((λ room. rw (lt-ltb row rows l, lt-ltb (row / 64) (length index) h, ← e) (f.0 room)), f.1, f.2)
-  by-entry l h start e (Wanted.Refused n k) f = λ room. rw (lt-ltb row rows l, lt-ltb (row / 64) (length index) h, ← e) (f room)
+  by-entry l h start e (Ok w) f = ((λ room. rw (lt-ltb row rows l, lt-ltb (row / 64) (length index) h, ← e) (f.0 room)), f.1, f.2)
+  by-entry l h start e (Err r) f = λ room. rw (lt-ltb row rows l, lt-ltb (row / 64) (length index) h, ← e) (f room)
 
 -- a start past the end leaves nothing, as the end does
 pub within_end : (s : List ℕ) (entry : ℕ) → drop (cond (ltb entry (length s)) entry (length s)) s ≡ drop entry s

@@ -8,20 +8,20 @@ ghost use Rattle.rows.specs.Bounds.{Within};
 ghost use Rattle.index.specs.Fetch.{fetch_indexed, fetch_row};
 ghost use Rattle.finding.specs.Clauses.{Finds};
 
-use row_reading::{Passed, pass_row};
-use table::{Columns, Rows};
+use row_reading::pass_row;
+use table::{Columns, Reason, Refused, Rows};
 
 // One row in so many has an entry.
 const SPACING: u64 = 64;
 
-// The row that is asked for: where it starts and where it ends; or the number and column of a row that does not read, itself or one before it.
+// The row that is asked for: where it starts, and the place after it.
 #[derive(Clone, Copy)]
-pub enum Wanted {
-    Row(usize, usize),
-    Refused(u64, usize),
+pub struct Wanted {
+    pub start: usize,
+    pub next: usize,
 }
 
-// The row behind so many others from a place on.
+// The row behind so many others from a place on; or the refusal of a row that does not read, itself or one before it.
 fn find_from(
     cols: Columns,
     from: Rows,
@@ -29,27 +29,16 @@ fn find_from(
     start: usize,
     before: u64,
     scratch: &mut [i64],
-) -> Wanted
+) -> Result<Wanted, Refused>
     requires { Within (listed cols) × (start ≤ length s.now) × (most_elements ≤ length scratch.old) }
     ensures { Finds from (listed cols) s.now (λ room. fetch_row from (listed cols) room before (drop start s.now)) result }
 {
     let mut at = start;
-    let mut left = before;
-    while 0 < left {
-        let p = pass_row(cols, from, s, at, scratch);
-        match p {
-            Passed::Refused(number, column) => return Wanted::Refused(number, column),
-            Passed::At(next) => {
-                at = next;
-            }
-        }
-        left -= 1;
+    for _ in 0..before {
+        at = pass_row(cols, from, s, at, scratch)?;
     }
-    let p = pass_row(cols, from, s, at, scratch);
-    match p {
-        Passed::Refused(number, column) => Wanted::Refused(number, column),
-        Passed::At(next) => Wanted::Row(at, next),
-    }
+    let next = pass_row(cols, from, s, at, scratch)?;
+    Ok(Wanted { start: at, next })
 }
 
 // A start past the end is the end.
@@ -60,16 +49,29 @@ fn within(start: usize, end: usize) -> usize
 }
 
 // The row by the index: from the start that its place holds.
-pub fn find_row(cols: Columns, from: Rows, s: &[u8], index: &[u32], rows: u64, row: u64) -> Wanted
+pub fn find_row(
+    cols: Columns,
+    from: Rows,
+    s: &[u8],
+    index: &[u32],
+    rows: u64,
+    row: u64,
+) -> Result<Wanted, Refused>
     requires { Within (listed cols) }
     ensures { Finds from (listed cols) s.now (λ room. fetch_indexed from (listed cols) room s.now index.now rows row) result }
 {
     if rows <= row {
-        return Wanted::Refused(20, 0);
+        return Err(Refused {
+            reason: Reason::NoSuchRow,
+            column: 0,
+        });
     }
     let place = (row / SPACING) as usize;
     if index.len() <= place {
-        return Wanted::Refused(20, 0);
+        return Err(Refused {
+            reason: Reason::NoSuchRow,
+            column: 0,
+        });
     }
     let entry = index[place] as usize;
     let start = within(entry, s.len());

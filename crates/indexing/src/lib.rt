@@ -5,13 +5,14 @@ ghost use Rattle.std.specs.Prelude.{◌≡◌, ◌<◌, ◌^◌, ◌≤◌, leng
 ghost use Rattle.table.specs.Cell.{most_elements};
 ghost use Rattle.table.specs.ColumnList.{listed};
 ghost use Rattle.table.specs.Outcome.{answer_of, buffer_of};
+ghost use Rattle.table.specs.Reasons.{number_of};
 ghost use Rattle.rows.specs.Bounds.{Within};
 ghost use Rattle.index.specs.Index.{Indexes, enter, starts_of, without_bytes};
 ghost use Rattle.indexing.specs.Clauses.{entered_at, has_place};
 
 use declaring::front;
-use row_reading::{Passed, at_end, pass_row};
-use table::{Answer, Columns, Rows};
+use row_reading::{at_end, pass_row};
+use table::{Answer, Columns, Reason, Refused, Rows};
 
 // One row in so many has an entry.
 const SPACING: u64 = 64;
@@ -33,13 +34,13 @@ fn enter(index: &mut [u32], row: u64, start: u32) -> bool
 }
 
 // A refusal at a row: those before it are counted.
-fn stop(number: u64, row: u64, column: usize) -> Answer
-    ensures { result ≡ record { number = number; row = row; column = column; rows = row; bytes = 0 } }
+fn stop(refused: Refused, row: u64) -> Answer
+    ensures { result ≡ record { number = number_of refused.reason; row = row; column = refused.column; rows = row; bytes = 0 } }
 {
     Answer {
-        number,
+        number: refused.reason.number(),
         row,
-        column: column as u64,
+        column: refused.column as u64,
         rows: row,
         bytes: 0,
     }
@@ -54,12 +55,15 @@ fn enter_rows(cols: Columns, from: Rows, s: &[u8], index: &mut [u32], scratch: &
     let mut at: usize = 0;
     let mut rows: u64 = 0;
     while !at_end(from, s, at) {
-        let p = pass_row(cols, from, s, at, scratch);
-        match p {
-            Passed::Refused(number, column) => return stop(number, rows, column),
-            Passed::At(next) => {
+        match pass_row(cols, from, s, at, scratch) {
+            Err(refused) => return stop(refused, rows),
+            Ok(next) => {
                 if !enter(index, rows, at as u32) {
-                    return stop(17, rows, 0);
+                    let refused = Refused {
+                        reason: Reason::NoRoom,
+                        column: 0,
+                    };
+                    return stop(refused, rows);
                 }
                 rows += 1;
                 at = next;

@@ -12,19 +12,19 @@ use lib.Seq.{drop-cons, get_or-take, length-take-le}
 use Rattle.binary.specs.Binary.{flag_bit}
 use Rattle.compare.specs.Compare.{same_cell, same_elements}
 use Rattle.number.specs.Number.{to_digits}
-use Rattle.row_comparing.specs.Clauses.{EndsRows, HasElements, OneUnread, PairsCell, PairsRow, differing_bits, pair_of, unread-first, unread-second}
+use Rattle.std.specs.Prelude.{None, Ok, Option, Some}
+use Rattle.row_comparing.specs.Clauses.{CellsRead, EndsRows, OneUnread, PairsCell, PairsRow, differing_bits, unread-first, unread-second}
 use Rattle.row_comparing.specs.declared.RowPair.{RowPair}
 use Rattle.row_reading.proofs.Parts.{cells-stopped, row-onward}
 use Rattle.row_reading.specs.Clauses.{cells_end}
 use Rattle.rows.specs.Bounds.{Within}
 use Rattle.rows.specs.Stream.{read_cells, read_row}
 use Rattle.table.specs.Cell.{Cell, null, same_integer, shown}
-use Rattle.table.specs.Clauses.{FoundWithin, Reads}
+use Rattle.table.specs.Clauses.{Reads, shown_as}
 use Rattle.table.specs.Outcome.{at}
 use Rattle.table.specs.Result.{Result, bad, good}
 use Rattle.table.specs.declared.Column.{Column}
 use Rattle.table.specs.declared.Found.{Found}
-use Rattle.table.specs.declared.Found.TheVariants.{Refused, Shown}
 use Rattle.table.specs.declared.Rows.{Rows}
 
 -- ---- elements
@@ -63,32 +63,15 @@ none_left n a b i p q = rw (p, q)
 
 -- ---- a cell of each
 
-elements-within : (s : List ℕ) (place : ℕ) (scratch : List ℤ) (f : Found) → FoundWithin s place scratch f → HasElements scratch f
-elements-within s place scratch (Found.Null next) h = tt
-elements-within s place scratch (Shown count next) h = h.2
-elements-within s place scratch (Refused n) h = tt
-
-pub has-elements : {d : Result ℕ (Cell × List ℕ)} {s : List ℕ} {place : ℕ} {entry exit : List ℤ} {f : Found} → Reads d s place entry exit f → HasElements exit f
-has-elements {s = s} {place = place} {exit = exit} {f = f} h = elements-within s place exit f h.within
-
-module _ (d : Result ℕ (Cell × List ℕ)) (s : List ℕ) (i : ℕ) (a₀ a : List ℤ) (e : Result ℕ (Cell × List ℕ)) (t : List ℕ) (j : ℕ) (b₀ b : List ℤ) where
-  pub paired : (f g : Found) → Reads d s i a₀ a f → Reads e t j b₀ b g → PairsCell d s i e t j (pair_of a f b g)
-  unfolding same_cell
-  paired (Refused n) g h k = unread-first h.found
-  paired (Found.Null next) (Refused n) h k = unread-second k.found
-  paired (Found.Null next) (Found.Null other) h k =
-      record { x = null; y = null; found = h.found; found-other = k.found; shows = refl; within = h.within; within-other = k.within }
-  paired (Found.Null next) (Shown m other) h k =
-      record { x = null; y = shown (take m b); found = h.found; found-other = k.found; shows = refl; within = h.within; within-other = (k.within.0, k.within.1) }
-  paired (Shown n next) (Refused m) h k = unread-second k.found
-  paired (Shown n next) (Found.Null other) h k =
-      record { x = shown (take n a); y = null; found = h.found; found-other = k.found; shows = refl; within = (h.within.0, h.within.1); within-other = k.within }
-  paired (Shown n next) (Shown m other) h k = record {
-    x = shown (take n a);
-    y = shown (take m b);
+module _ {d : Result ℕ (Cell × List ℕ)} {s : List ℕ} {i : ℕ} {a₀ a : List ℤ} {e : Result ℕ (Cell × List ℕ)} {t : List ℕ} {j : ℕ} {b₀ b : List ℤ} where
+  pub paired : {f g : Found} {same : Bool} → Reads d s i a₀ a (Ok f) → Reads e t j b₀ b (Ok g) → same ≡ same_cell (shown_as a f.shown) (shown_as b g.shown)
+      → CellsRead d s i e t j same f.next g.next
+  paired {f} {g} h k q = record {
+    x = shown_as a f.shown;
+    y = shown_as b g.shown;
     found = h.found;
     found-other = k.found;
-    shows = refl;
+    shows = q;
     within = (h.within.0, h.within.1);
     within-other = (k.within.0, k.within.1);
   }
@@ -133,10 +116,10 @@ module _ (from kind : Rows) (cols : List Column) (fs gs : List Bool) (s t : List
   -- all cells are read
   module _ (count : ℕ) (xs ys : List Cell) (place other : ℕ) (h : read_cells from cols fs 0 (drop body s) ≡ good (xs, drop place s))
       (k : read_cells kind cols gs 0 (drop behind t) ≡ good (ys, drop other t)) (onward : body ≤ place) (onward-other : behind ≤ other) where
-    pub cells-paired : (word : ℕ) (r : RowPair) → Differing xs ys count word → EndsRows from s place kind t other word r
+    pub cells-paired : (word : ℕ) (r : Option RowPair) → Differing xs ys count word → EndsRows from s place kind t other word r
         → PairsRow (cells_end from cols fs (drop body s)) s body (cells_end kind cols gs (drop behind t)) t behind count r
     unfolding cells_end
-    cells-paired word (RowPair.Read w next last) d (we, e, f, lo, hi, lo-other, hi-other) = record {
+    cells-paired word (Some p) d (we, e, f, lo, hi, lo-other, hi-other) = record {
       xs = xs;
       ys = ys;
       found = rw (h, e);
@@ -145,22 +128,22 @@ module _ (from kind : Rows) (cols : List Column) (fs gs : List Bool) (s t : List
       within = (omega (arith, onward, lo), hi);
       within-other = (omega (arith, onward-other, lo-other), hi-other);
     }
-    cells-paired word RowPair.Unread d (unread-first {x = n} q) = unread-first {x = at (length cols) n} (rw (h, q))
-    cells-paired word RowPair.Unread d (unread-second {x = n} q) = unread-second {x = at (length cols) n} (rw (k, q))
+    cells-paired word None d (unread-first {x = n} q) = unread-first {x = at (length cols) n} (rw (h, q))
+    cells-paired word None d (unread-second {x = n} q) = unread-second {x = at (length cols) n} (rw (k, q))
 
 -- both rows have begun: their cells, and what ends them
 module _ (from kind : Rows) (cols : List Column) (fs gs : List Bool) (s t : List ℕ) (place other body behind : ℕ) (are : Within cols)
     (e : read_row from cols (drop place s) ≡ cells_end from cols fs (drop body s)) (f : read_row kind cols (drop other t) ≡ cells_end kind cols gs (drop behind t)) (count : ℕ) where
-  pub row-paired : (r : RowPair) → PairsRow (cells_end from cols fs (drop body s)) s body (cells_end kind cols gs (drop behind t)) t behind count r
+  pub row-paired : (r : Option RowPair) → PairsRow (cells_end from cols fs (drop body s)) s body (cells_end kind cols gs (drop behind t)) t behind count r
       → PairsRow (read_row from cols (drop place s)) s (suc place) (read_row kind cols (drop other t)) t (suc other) count r
-  row-paired (RowPair.Read word next last) h = record {
+  row-paired (Some p) h = record {
     xs = h.xs;
     ys = h.ys;
     found = e ∙ h.found;
     found-other = f ∙ h.found-other;
     shows = h.shows;
-    within = (row-onward from cols s place next h.xs are (e ∙ h.found) h.within.1, h.within.1);
-    within-other = (row-onward kind cols t other last h.ys are (f ∙ h.found-other) h.within-other.1, h.within-other.1);
+    within = (row-onward from cols s place p.next h.xs are (e ∙ h.found) h.within.1, h.within.1);
+    within-other = (row-onward kind cols t other p.other h.ys are (f ∙ h.found-other) h.within-other.1, h.within-other.1);
   }
-  row-paired RowPair.Unread (unread-first q) = unread-first (e ∙ q)
-  row-paired RowPair.Unread (unread-second q) = unread-second (f ∙ q)
+  row-paired None (unread-first q) = unread-first (e ∙ q)
+  row-paired None (unread-second q) = unread-second (f ∙ q)

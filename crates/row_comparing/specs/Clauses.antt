@@ -1,5 +1,5 @@
 -- What the functions that compare a row of each of two inputs promise: each case of an answer as the definitions have it.
-use Rattle.std.specs.Prelude.{◌≤◌, ℕ, Bool, false, not, true, List, [], ◌∷◌, ◌≡◌, ℤ, drop, length, take}
+use Rattle.std.specs.Prelude.{Option, None, Some, ◌≤◌, ℕ, Bool, false, not, true, List, [], ◌∷◌, ◌≡◌, ℤ, drop, length, take}
 use Rattle.binary.specs.Binary.{flag_bit}
 use Rattle.compare.specs.Compare.{same_cell, same_elements}
 use Rattle.number.specs.Number.{to_digits}
@@ -9,8 +9,6 @@ use Rattle.rows.specs.Stream.{read_end}
 use Rattle.table.specs.Cell.{Cell}
 use Rattle.table.specs.Outcome.{Refusal}
 use Rattle.table.specs.Result.{Result, bad, good}
-use Rattle.table.specs.declared.Found.{Found}
-use Rattle.table.specs.declared.Found.TheVariants.{Refused, Shown}
 use Rattle.table.specs.declared.Rows.{Rows}
 
 -- one of the two does not read
@@ -19,21 +17,6 @@ pub data OneUnread {E A B : Type 0} (d : Result E A) (e : Result E B) : Type 0 w
   unread-second : {x : E} → e ≡ bad x → OneUnread d e
 
 -- ---- a cell of each
-
--- the elements of what was found stand in the scratch
-abbrev pub HasElements : List ℤ → Found → Type 0
-HasElements scratch (Found.Null next) = Unit {0}
-HasElements scratch (Shown count next) = count ≤ length scratch
-HasElements scratch (Refused n) = Unit {0}
-
-abbrev pub pair_of : List ℤ → Found → List ℤ → Found → CellPair
-pair_of a (Refused n) b g = CellPair.Unread
-pair_of a (Found.Null next) b (Refused n) = CellPair.Unread
-pair_of a (Found.Null next) b (Found.Null other) = CellPair.Read true next other
-pair_of a (Found.Null next) b (Shown m other) = CellPair.Read false next other
-pair_of a (Shown n next) b (Refused k) = CellPair.Unread
-pair_of a (Shown n next) b (Found.Null other) = CellPair.Read false next other
-pair_of a (Shown n next) b (Shown m other) = CellPair.Read (same_elements (take n a) (take m b)) next other
 
 -- a cell of each is read: where they end, and whether they show the same
 pub record CellsRead (d : Result ℕ (Cell × List ℕ)) (s : List ℕ) (i : ℕ) (e : Result ℕ (Cell × List ℕ)) (t : List ℕ) (j : ℕ) (same : Bool) (next other : ℕ) : Type 0 where
@@ -45,9 +28,9 @@ pub record CellsRead (d : Result ℕ (Cell × List ℕ)) (s : List ℕ) (i : ℕ
   pub within : (i ≤ next) × (next ≤ length s)
   pub within-other : (j ≤ other) × (other ≤ length t)
 
-abbrev pub PairsCell : Result ℕ (Cell × List ℕ) → List ℕ → ℕ → Result ℕ (Cell × List ℕ) → List ℕ → ℕ → CellPair → Type 0
-PairsCell d s i e t j (CellPair.Read same next other) = CellsRead d s i e t j same next other
-PairsCell d s i e t j CellPair.Unread = OneUnread d e
+abbrev pub PairsCell : Result ℕ (Cell × List ℕ) → List ℕ → ℕ → Result ℕ (Cell × List ℕ) → List ℕ → ℕ → Option CellPair → Type 0
+PairsCell d s i e t j (Some p) = CellsRead d s i e t j p.same p.next p.other
+PairsCell d s i e t j None = OneUnread d e
 
 -- ---- a row of each
 
@@ -57,10 +40,10 @@ differing_bits [] ys = []
 differing_bits (x ∷ xs) [] = []
 differing_bits (x ∷ xs) (y ∷ ys) = flag_bit (not (same_cell x y)) ∷ differing_bits xs ys
 
-abbrev pub EndsRows : Rows → List ℕ → ℕ → Rows → List ℕ → ℕ → ℕ → RowPair → Type 0
-EndsRows from s i kind t j differing (RowPair.Read word next other) =
-    (word ≡ differing) × (read_end from (drop i s) ≡ good (drop next s)) × (read_end kind (drop j t) ≡ good (drop other t)) × (i ≤ next) × (next ≤ length s) × (j ≤ other) × (other ≤ length t)
-EndsRows from s i kind t j differing RowPair.Unread = OneUnread (read_end from (drop i s)) (read_end kind (drop j t))
+abbrev pub EndsRows : Rows → List ℕ → ℕ → Rows → List ℕ → ℕ → ℕ → Option RowPair → Type 0
+EndsRows from s i kind t j differing (Some p) =
+    (p.differing ≡ differing) × (read_end from (drop i s) ≡ good (drop p.next s)) × (read_end kind (drop j t) ≡ good (drop p.other t)) × (i ≤ p.next) × (p.next ≤ length s) × (j ≤ p.other) × (p.other ≤ length t)
+EndsRows from s i kind t j differing None = OneUnread (read_end from (drop i s)) (read_end kind (drop j t))
 
 -- a row of each is read: where they end, and the columns whose cells differ, as the digits of a word
 pub record RowsRead (d : Result Refusal (List Cell × List ℕ)) (s : List ℕ) (i : ℕ) (e : Result Refusal (List Cell × List ℕ)) (t : List ℕ) (j count word next other : ℕ) : Type 0 where
@@ -72,6 +55,6 @@ pub record RowsRead (d : Result Refusal (List Cell × List ℕ)) (s : List ℕ) 
   pub within : (i ≤ next) × (next ≤ length s)
   pub within-other : (j ≤ other) × (other ≤ length t)
 
-abbrev pub PairsRow : Result Refusal (List Cell × List ℕ) → List ℕ → ℕ → Result Refusal (List Cell × List ℕ) → List ℕ → ℕ → ℕ → RowPair → Type 0
-PairsRow d s i e t j count (RowPair.Read word next other) = RowsRead d s i e t j count word next other
-PairsRow d s i e t j count RowPair.Unread = OneUnread d e
+abbrev pub PairsRow : Result Refusal (List Cell × List ℕ) → List ℕ → ℕ → Result Refusal (List Cell × List ℕ) → List ℕ → ℕ → ℕ → Option RowPair → Type 0
+PairsRow d s i e t j count (Some p) = RowsRead d s i e t j count p.differing p.next p.other
+PairsRow d s i e t j count None = OneUnread d e

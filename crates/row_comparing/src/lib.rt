@@ -2,17 +2,18 @@
 #![tactic(auto)]
 
 ghost use Rattle.std.specs.Prelude.{◌≡◌, ◌≤◌, suc, drop, length, take};
+ghost use Rattle.table.specs.Clauses.{ShownWithin, shown_as};
 ghost use Rattle.table.specs.Cell.{bound, most_elements};
 ghost use Rattle.table.specs.ColumnList.{listed};
 ghost use Rattle.rows.specs.Bounds.{Within};
 ghost use Rattle.rows.specs.Stream.{read_cell, read_row};
 ghost use Rattle.row_reading.specs.Clauses.{cells_end, flags_in};
-ghost use Rattle.compare.specs.Compare.{same_elements};
-ghost use Rattle.row_comparing.specs.Clauses.{EndsRows, HasElements, PairsCell, PairsRow, pair_of};
+ghost use Rattle.compare.specs.Compare.{same_cell, same_elements};
+ghost use Rattle.row_comparing.specs.Clauses.{EndsRows, PairsCell, PairsRow};
 
 use flags::add_flag;
-use row_reading::{Begin, Close, begin_row, end_row, flag_of, read_cell};
-use table::{Column, Columns, Found, Rows};
+use row_reading::{begin_row, end_row, flag_of, read_cell};
+use table::{Column, Columns, Rows};
 
 // A place in an input of a kind.
 #[derive(Clone, Copy)]
@@ -21,18 +22,20 @@ pub struct Cursor {
     pub at: usize,
 }
 
-// A cell of each input: whether they show the same, and the places after them; or one of the two does not read.
+// A cell of each input: whether they show the same, and the places after them.
 #[derive(Clone, Copy)]
-enum CellPair {
-    Read(bool, usize, usize),
-    Unread,
+struct CellPair {
+    same: bool,
+    next: usize,
+    other: usize,
 }
 
-// A row of each input: the columns whose cells show differently, as a word of flags, and the places after the rows; or one of the two does not read.
+// A row of each input: the columns whose cells show differently, as a word of flags, and the places after the rows.
 #[derive(Clone, Copy)]
-pub enum RowPair {
-    Read(u64, usize, usize),
-    Unread,
+pub struct RowPair {
+    pub differing: u64,
+    pub next: usize,
+    pub other: usize,
 }
 
 // Are n elements of the one the m elements of the other?
@@ -53,27 +56,24 @@ fn same_elements(n: usize, a: &[i64], m: usize, b: &[i64]) -> bool
     true
 }
 
-// What was found of each, with its elements in a scratch of its own.
-fn pair_of(f: Found, a: &[i64], g: Found, b: &[i64]) -> CellPair
-    requires { HasElements a.now f × HasElements b.now g }
-    ensures { result ≡ pair_of a.now f b.now g }
+// Does each show what the other does? Its elements stand in a scratch of its own.
+fn shows_same(one: Option<usize>, a: &[i64], other: Option<usize>, b: &[i64]) -> bool
+    requires { ShownWithin a.now one × ShownWithin b.now other }
+    ensures { result ≡ same_cell (shown_as a.now one) (shown_as b.now other) }
 {
-    match f {
-        Found::Refused(_) => CellPair::Unread,
-        Found::Null(next) => match g {
-            Found::Refused(_) => CellPair::Unread,
-            Found::Null(other) => CellPair::Read(true, next, other),
-            Found::Shown(_m, other) => CellPair::Read(false, next, other),
+    match one {
+        None => match other {
+            None => true,
+            Some(_m) => false,
         },
-        Found::Shown(n, next) => match g {
-            Found::Refused(_) => CellPair::Unread,
-            Found::Null(other) => CellPair::Read(false, next, other),
-            Found::Shown(m, other) => CellPair::Read(same_elements(n, a, m, b), next, other),
+        Some(n) => match other {
+            None => false,
+            Some(m) => same_elements(n, a, m, b),
         },
     }
 }
 
-// A column's cell of each, with its flag.
+// A column's cell of each, with its flag; or one of the two does not read.
 fn compare_cell(
     column: Column,
     one: Cursor,
@@ -84,33 +84,47 @@ fn compare_cell(
     other: bool,
     a: &mut [i64],
     b: &mut [i64],
-) -> CellPair
+) -> Option<CellPair>
     requires { (one.at ≤ length first.now) × (two.at ≤ length second.now) × (bound column.len ≤ most_elements) × (most_elements ≤ length a.old) × (most_elements ≤ length b.old) }
     ensures pairs_cell { PairsCell (read_cell one.from column flag (drop one.at first.now)) first.now one.at (read_cell two.from column other (drop two.at second.now)) second.now two.at result }
     ensures a_len_unchanged { length a.new ≡ length a.old }
     ensures b_len_unchanged { length b.new ≡ length b.old }
 {
-    let from = one.from;
-    let f = read_cell(from, first, one.at, column, flag, a);
-    let kind = two.from;
-    let g = read_cell(kind, second, two.at, column, other, b);
-    pair_of(f, a, g, b)
+    let Ok(f) = read_cell(one.from, first, one.at, column, flag, a) else {
+        return None;
+    };
+    let Ok(g) = read_cell(two.from, second, two.at, column, other, b) else {
+        return None;
+    };
+    Some(CellPair {
+        same: shows_same(f.shown, a, g.shown, b),
+        next: f.next,
+        other: g.next,
+    })
 }
 
 // What ends the row of each, behind cells of which so many columns differ.
-fn end_rows(one: Cursor, first: &[u8], two: Cursor, second: &[u8], differing: u64) -> RowPair
+fn end_rows(
+    one: Cursor,
+    first: &[u8],
+    two: Cursor,
+    second: &[u8],
+    differing: u64,
+) -> Option<RowPair>
     requires { (one.at ≤ length first.now) × (two.at ≤ length second.now) }
     ensures { EndsRows one.from first.now one.at two.from second.now two.at differing result }
 {
-    let from = one.from;
-    let Close::Closed(next) = end_row(from, first, one.at) else {
-        return RowPair::Unread;
+    let Ok(next) = end_row(one.from, first, one.at) else {
+        return None;
     };
-    let kind = two.from;
-    let Close::Closed(other) = end_row(kind, second, two.at) else {
-        return RowPair::Unread;
+    let Ok(other) = end_row(two.from, second, two.at) else {
+        return None;
     };
-    RowPair::Read(differing, next, other)
+    Some(RowPair {
+        differing,
+        next,
+        other,
+    })
 }
 
 // The cells of a row of each and what ends it, from where its cells begin.
@@ -124,7 +138,7 @@ fn compare_cells(
     others: u64,
     a: &mut [i64],
     b: &mut [i64],
-) -> RowPair
+) -> Option<RowPair>
     requires { Within (listed cols) × (one.at ≤ length first.now) × (two.at ≤ length second.now) × (most_elements ≤ length a.old) × (most_elements ≤ length b.old) }
     ensures pairs_row { PairsRow (cells_end one.from (listed cols) (flags_in one.from cols.count flags) (drop one.at first.now)) first.now one.at (cells_end two.from (listed cols) (flags_in two.from cols.count others) (drop two.at second.now)) second.now two.at cols.count result }
     ensures a_len_unchanged { length a.new ≡ length a.old }
@@ -136,12 +150,11 @@ fn compare_cells(
     let mut at = one.at;
     let mut place = two.at;
     let mut differing: u64 = 0;
-    let mut i: usize = 0;
-    while i < count {
+    for i in 0..count {
         let c = cols.list[i];
         let flag = flag_of(from, flags, count, i);
         let other = flag_of(kind, others, count, i);
-        let p = compare_cell(
+        let pair = compare_cell(
             c,
             Cursor { from, at },
             first,
@@ -154,16 +167,10 @@ fn compare_cells(
             other,
             a,
             b,
-        );
-        match p {
-            CellPair::Unread => return RowPair::Unread,
-            CellPair::Read(same, next, behind) => {
-                differing = add_flag(differing, i, !same);
-                at = next;
-                place = behind;
-            }
-        }
-        i += 1;
+        )?;
+        differing = add_flag(differing, i, !pair.same);
+        at = pair.next;
+        place = pair.other;
     }
     end_rows(
         Cursor { from, at },
@@ -186,7 +193,7 @@ pub fn compare_row(
     second: &[u8],
     a: &mut [i64],
     b: &mut [i64],
-) -> RowPair
+) -> Option<RowPair>
     requires { Within (listed cols) × (one.at ≤ length first.now) × (two.at ≤ length second.now) × (most_elements ≤ length a.old) × (most_elements ≤ length b.old) }
     ensures pairs_row { PairsRow (read_row one.from (listed cols) (drop one.at first.now)) first.now (suc one.at) (read_row two.from (listed cols) (drop two.at second.now)) second.now (suc two.at) cols.count result }
     ensures a_len_unchanged { length a.new ≡ length a.old }
@@ -194,24 +201,27 @@ pub fn compare_row(
 {
     let count = cols.count;
     let from = one.from;
-    let Begin::Row(flags, body) = begin_row(from, first, one.at, count) else {
-        return RowPair::Unread;
+    let Ok(begin) = begin_row(from, first, one.at, count) else {
+        return None;
     };
     let kind = two.from;
-    let Begin::Row(others, behind) = begin_row(kind, second, two.at, count) else {
-        return RowPair::Unread;
+    let Ok(other) = begin_row(kind, second, two.at, count) else {
+        return None;
     };
     compare_cells(
         cols,
-        Cursor { from, at: body },
+        Cursor {
+            from,
+            at: begin.cells,
+        },
         first,
-        flags,
+        begin.flags,
         Cursor {
             from: kind,
-            at: behind,
+            at: other.cells,
         },
         second,
-        others,
+        other.flags,
         a,
         b,
     )

@@ -12,16 +12,17 @@ use Rattle.table.proofs.ColumnList.{listed_next}
 use Rattle.table.specs.ColumnList.{listed, no_column}
 use Rattle.row_reading.specs.Clauses.{BeginWithin, Begins, CloseWithin, Closes, PassesCell, PassesCells, PassesRow, cells_end, flags_in}
 use Rattle.row_reading.specs.declared.Begin.{Begin}
-use Rattle.row_reading.specs.declared.Close.{Close}
-use Rattle.row_reading.specs.declared.Next.{Next}
-use Rattle.row_reading.specs.declared.Passed.{Passed}
 use Rattle.rows.proofs.Laws.{cell_then, push, within-less}
 use Rattle.rows.specs.Bounds.{Bounded, Within}
 use Rattle.rows.specs.Stream.{flag, flags_left, read_cell, read_cells, read_row}
 use Rattle.table.proofs.Laws.{all_drop, holds_at}
 use Rattle.table.specs.All.{All}
 use Rattle.table.specs.Cell.{Cell, bound, most_elements, null, shown}
-use Rattle.table.specs.Clauses.{FoundWithin, Reads, found_as}
+use Rattle.table.specs.Clauses.{Reads, shown_as}
+use Rattle.table.specs.Reasons.{number_of}
+use Rattle.table.specs.declared.Reason.{Reason}
+use Rattle.table.specs.declared.Refused.{Refused}
+use Rattle.std.specs.Prelude.{Err, Ok, Result as Returned}
 use Rattle.table.specs.Outcome.{Refusal, at}
 use Rattle.table.specs.Result.{Result, ◌>>=◌, bad, good}
 use Rattle.table.specs.declared.Column.{Column}
@@ -38,19 +39,12 @@ listed-bound cols i a h =
 
 -- ---- a cell that was found is passed over
 
-module _ (definition : Result ℕ (Cell × List ℕ)) (s : List ℕ) (place : ℕ) (entry exit : List ℤ) (r : Found) (h : Reads definition s place entry exit r) where
-  pub refused-cell : (n : ℕ) → r ≡ Found.Refused n → PassesCell definition s place (Next.Refused n)
-  refused-cell n e = h.found ∙ ap (found_as s exit) e
+module _ (definition : Result ℕ (Cell × List ℕ)) (s : List ℕ) (place : ℕ) (entry exit : List ℤ) where
+  pub refused-cell : (e : Reason) → Reads definition s place entry exit (Err e) → PassesCell definition s place (Err e)
+  refused-cell e h = h.found
 
-  pub null-cell : (next : ℕ) → r ≡ Found.Null next → PassesCell definition s place (Next.At next)
-  null-cell next e =
-      let w = subst (FoundWithin s place exit) e h.within in
-      (null, h.found ∙ ap (found_as s exit) e, w.0, w.1)
-
-  pub shown-cell : (count next : ℕ) → r ≡ Found.Shown count next → PassesCell definition s place (Next.At next)
-  shown-cell count next e =
-      let w = subst (FoundWithin s place exit) e h.within in
-      (shown (take count exit), h.found ∙ ap (found_as s exit) e, w.0, w.1)
+  pub found-cell : (f : Found) → Reads definition s place entry exit (Ok f) → PassesCell definition s place (Ok f.next)
+  found-cell f h = (shown_as exit f.shown, h.found, h.within.0, h.within.1)
 
 -- ---- flags
 
@@ -127,16 +121,16 @@ module _ (from : Rows) (cols : List Column) (fs : List Bool) (s : List ℕ) (bod
   unfolding cells_end
   cells-stopped x q = rw q
 
-  module _ (xs : List Cell) (last : ℕ) (q : read_cells from cols fs 0 (drop body s) ≡ good (xs, drop last s)) (z : Close) (h : Closes from s last z) where
-    pub cells_open : (n : ℕ) → z ≡ Close.Refused n → cells_end from cols fs (drop body s) ≡ bad (at (length cols) n)
+  module _ (xs : List Cell) (last : ℕ) (q : read_cells from cols fs 0 (drop body s) ≡ good (xs, drop last s)) (z : Returned ℕ Reason) (h : Closes from s last z) where
+    pub cells_open : (e : Reason) → z ≡ Err e → cells_end from cols fs (drop body s) ≡ bad (at (length cols) (number_of e))
     unfolding cells_end
-    cells_open n k = rw (q, h.closed, k)
+    cells_open e k = rw (q, h.closed, k)
 
-    pub cells-closed : (next : ℕ) → z ≡ Close.Closed next → cells_end from cols fs (drop body s) ≡ good (xs, drop next s)
+    pub cells-closed : (next : ℕ) → z ≡ Ok next → cells_end from cols fs (drop body s) ≡ good (xs, drop next s)
     unfolding cells_end
     cells-closed next k = rw (q, h.closed, k)
 
-pub closed-within : (from : Rows) (s : List ℕ) (last : ℕ) (z : Close) → Closes from s last z → (next : ℕ) → z ≡ Close.Closed next → (last ≤ next) × (next ≤ length s)
+pub closed-within : (from : Rows) (s : List ℕ) (last : ℕ) (z : Returned ℕ Reason) → Closes from s last z → (next : ℕ) → z ≡ Ok next → (last ≤ next) × (next ≤ length s)
 closed-within from s last z h next k = subst (CloseWithin s last) k h.within
 
 -- a row moves on
@@ -146,19 +140,19 @@ row-onward from cols s place next xs a e h =
     let k : length (drop next s) < length (drop place s) = holds_at (within-less from cols (drop place s) a) e in
     omega (arith, length-drop next s, length-drop place s)
 
-module _ (from : Rows) (cols : List Column) (count : ℕ) (l : length cols ≡ count) (s : List ℕ) (place : ℕ) (b : Begin) (g : Begins from count s place b) where
-  pub row-unbegun : (n : ℕ) → b ≡ Begin.Refused n → read_row from cols (drop place s) ≡ bad (at 0 n)
+module _ (from : Rows) (cols : List Column) (count : ℕ) (l : length cols ≡ count) (s : List ℕ) (place : ℕ) (b : Returned Begin Reason) (g : Begins from count s place b) where
+  pub row-unbegun : (e : Reason) → b ≡ Err e → read_row from cols (drop place s) ≡ bad (at 0 (number_of e))
   unfolding read_row
-  row-unbegun n e = rw (l, g.begun, e)
+  row-unbegun e h = rw (l, g.begun, h)
 
-  module _ (word body : ℕ) (e : b ≡ Begin.Row word body) where
-    pub row-begun : read_row from cols (drop place s) ≡ cells_end from cols (flags_in from count word) (drop body s)
+  module _ (x : Begin) (e : b ≡ Ok x) where
+    pub row-begun : read_row from cols (drop place s) ≡ cells_end from cols (flags_in from count x.flags) (drop x.cells s)
     unfolding read_row cells_end
     row-begun = rw (l, g.begun, e)
 
-    pub begun-within : (place ≤ body) × (body ≤ length s)
+    pub begun-within : (place ≤ x.cells) × (x.cells ≤ length s)
     begun-within = subst (BeginWithin s place) e g.within
 
-    pub row-passed : Within cols → (r : Passed) → PassesCells (cells_end from cols (flags_in from count word) (drop body s)) s body r → PassesRow (read_row from cols (drop place s)) s place r
-    row-passed a (Passed.At next) h = (h.0, row-begun ∙ h.1, row-onward from cols s place next h.0 a (row-begun ∙ h.1) h.3, h.3)
-    row-passed a (Passed.Refused n k) h = row-begun ∙ h
+    pub row-passed : Within cols → (r : Returned ℕ Refused) → PassesCells (cells_end from cols (flags_in from count x.flags) (drop x.cells s)) s x.cells r → PassesRow (read_row from cols (drop place s)) s place r
+    row-passed a (Ok next) h = (h.0, row-begun ∙ h.1, row-onward from cols s place next h.0 a (row-begun ∙ h.1) h.3, h.3)
+    row-passed a (Err f) h = row-begun ∙ h

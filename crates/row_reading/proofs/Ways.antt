@@ -9,14 +9,16 @@ use lib.Dec.{eqb, lit<}
 use lib.ListN.{drop, get_or, length}
 use borrow.Author.Tests.{eq-eqb, eqb-false, eqb-true, ne_eqb}
 use Rattle.binary.specs.Binary.{read_flags}
-use Rattle.flags.specs.Clauses.{FlagsWithin, ReadsFlags, flags_as}
+use Rattle.flags.specs.Clauses.{ReadsFlags}
+use Rattle.table.specs.declared.Reason.{Reason}
+use Rattle.table.specs.declared.Reason.TheVariants.{Markup}
+use Rattle.std.specs.Prelude.{Err, None, Ok, Option, Some, ok_or}
 use Rattle.flags.specs.declared.Flags.{Flags}
 use Rattle.number.proofs.Laws.{all-to, length_to}
 use Rattle.number.specs.Number.{to_digits}
 use Rattle.row_reading.specs.Clauses.{Begins, Closes, flags_in}
 use Rattle.rows.specs.Stream.{flag, is_empty, is_set, read_end, read_start}
 use Rattle.row_reading.specs.declared.Begin.{Begin}
-use Rattle.row_reading.specs.declared.Close.{Close}
 use Rattle.table.specs.All.{All}
 use Rattle.table.specs.Bytes.{skip_white, tag}
 use Rattle.table.specs.Result.{Result, ◌>>=◌, good}
@@ -24,7 +26,6 @@ use Rattle.table.specs.declared.Rows.{Rows}
 use Rattle.table.specs.declared.Rows.TheVariants.{Binary, Binary2, TableData}
 use Rattle.text.specs.Clauses.{TagIs, TagWithin, tag_as}
 use Rattle.tabledata.specs.TableData.{close-TR, open-TR}
-use Rattle.text.specs.declared.Tag.{Tag}
 
 -- ---- the end of the input
 
@@ -44,30 +45,26 @@ empty-drop (b ∷ s) (suc i) h = suc-eqb i (length s) ∙ empty-drop s i (omega 
 
 -- ---- the end of a row
 
-module _ (s : List ℕ) (place : ℕ) (r : Tag) (t : TagIs (λ n. tag n close-TR (skip_white (drop place s))) s place r) where
-  pub closed-text : (next : ℕ) → r ≡ Tag.At next → Closes TableData s place (Close.Closed next)
-  unfolding read_end
-  closed-text next e = record { closed = t.found 10 ∙ ap (tag_as 10 s) e; within = subst (TagWithin s place) e t.within }
+pub closed-text : (s : List ℕ) (place : ℕ) (r : Option ℕ) → TagIs (λ n. tag n close-TR (skip_white (drop place s))) s place r → Closes TableData s place (ok_or r Markup)
+unfolding read_end
+closed-text s place None t = record { closed = t.found 10; within = tt }
+closed-text s place (Some next) t = record { closed = t.found 10; within = t.within }
 
-  pub open-text : r ≡ Tag.Broken → Closes TableData s place (Close.Refused 10)
-  unfolding read_end
-  open-text e = record { closed = t.found 10 ∙ ap (tag_as 10 s) e; within = tt }
-
-pub closed-here : (from : Rows) (s : List ℕ) (place : ℕ) → read_end from (drop place s) ≡ good (drop place s) → place ≤ length s → Closes from s place (Close.Closed place)
+pub closed-here : (from : Rows) (s : List ℕ) (place : ℕ) → read_end from (drop place s) ≡ good (drop place s) → place ≤ length s → Closes from s place (Ok place)
 closed-here from s place e h = record { closed = e; within = (le_refl place, h) }
 
 -- ---- the start of a row
 
-module _ (s : List ℕ) (place : ℕ) (count : ℕ) (r : Tag) (t : TagIs (λ n. tag n open-TR (skip_white (drop place s))) s place r) where
-  pub begun-text : (next : ℕ) → r ≡ Tag.At next → Begins TableData count s place (Begin.Row 0 next)
+module _ (s : List ℕ) (place : ℕ) (count : ℕ) (r : Option ℕ) (t : TagIs (λ n. tag n open-TR (skip_white (drop place s))) s place r) where
+  pub begun-text : (next : ℕ) → r ≡ Some next → Begins TableData count s place (Ok (record { flags = 0; cells = next }))
   unfolding read_start flags_in
   begun-text next e = record { begun = rw (t.found 10 ∙ ap (tag_as 10 s) e); within = subst (TagWithin s place) e t.within }
 
-  pub unbegun-text : r ≡ Tag.Broken → Begins TableData count s place (Begin.Refused 10)
+  pub unbegun-text : r ≡ None → Begins TableData count s place (Err Markup)
   unfolding read_start
   unbegun-text e = record { begun = rw (t.found 10 ∙ ap (tag_as 10 s) e); within = tt }
 
-pub begun-binary : (s : List ℕ) (place count : ℕ) → place ≤ length s → Begins Binary count s place (Begin.Row 0 place)
+pub begun-binary : (s : List ℕ) (place count : ℕ) → place ≤ length s → Begins Binary count s place (Ok (record { flags = 0; cells = place }))
 unfolding read_start flags_in
 begun-binary s place count h = record { begun = refl; within = (le_refl place, h) }
 
@@ -98,13 +95,12 @@ no_flag (suc k) = refl
 abbrev as_flags : Result ℕ (List ℕ × List ℕ) → Result ℕ (List Bool × List ℕ)
 as_flags r = r >>= λ p. good (map is_set p.0, p.1)
 
-module _ (s : List ℕ) (place count : ℕ) (r : Flags) (h : ReadsFlags (read_flags count (drop place s)) s place count r) where
-  pub begun-binary2 : (word next : ℕ) → r ≡ Flags.Are word next → Begins Binary2 count s place (Begin.Row word next)
+module _ (s : List ℕ) (place count : ℕ) where
+  pub begun-binary2 : (f : Flags) → ReadsFlags (read_flags count (drop place s)) s place count (Ok f)
+      → Begins Binary2 count s place (Ok (record { flags = f.word; cells = f.next }))
   unfolding flags_in read_start
-  begun-binary2 word next e =
-      let w : (place ≤ next) × (next ≤ length s) × (word < 2 ^ count) = subst (FlagsWithin count s place) e h.within in
-      record { begun = ap as_flags (h.found ∙ ap (flags_as count s) e); within = (w.0, w.1) }
+  begun-binary2 f h = record { begun = ap as_flags h.found; within = (h.within.0, h.within.1) }
 
-  pub unbegun-binary2 : (n : ℕ) → r ≡ Flags.Spoiled n → Begins Binary2 count s place (Begin.Refused n)
+  pub unbegun-binary2 : (e : Reason) → ReadsFlags (read_flags count (drop place s)) s place count (Err e) → Begins Binary2 count s place (Err e)
   unfolding read_start
-  unbegun-binary2 n e = record { begun = ap as_flags (h.found ∙ ap (flags_as count s) e); within = tt }
+  unbegun-binary2 e h = record { begun = ap as_flags h.found; within = tt }

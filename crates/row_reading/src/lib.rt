@@ -11,38 +11,17 @@ ghost use Rattle.rows.specs.Stream.{at_end, flag, passed, read, read_cell, read_
 ghost use Rattle.row_reading.specs.Clauses.{Begins, Closes, PassesCell, PassesCells, PassesRow, cells_end, flags_in};
 
 use binary_reading::{read_binary, read_binary2};
-use flags::{Flags, is_flagged, read_flags};
+use flags::{is_flagged, read_flags};
 use row_tags::{row_begins, row_ends};
-use table::{Answer, Column, Columns, Found, Rows};
+use table::{Answer, Column, Columns, Found, Reason, Refused, Rows};
 use tabledata_reading::read_text;
-use text::{Tag, skip_white};
+use text::skip_white;
 
-// What begins a row: its flags, as a word whose digits in base 2 they are, and where its cells begin; or the number of its refusal.
+// What begins a row: its flags, as a word whose digits in base 2 they are, and where its cells begin.
 #[derive(Clone, Copy)]
-pub enum Begin {
-    Row(u64, usize),
-    Refused(u64),
-}
-
-// What ends a row: the place after it, or the number of its refusal.
-#[derive(Clone, Copy)]
-pub enum Close {
-    Closed(usize),
-    Refused(u64),
-}
-
-// A cell that is passed over: the place after it, or the number of its refusal.
-#[derive(Clone, Copy)]
-enum Next {
-    At(usize),
-    Refused(u64),
-}
-
-// A row that is passed over: the place after it, or its refusal's number and column.
-#[derive(Clone, Copy)]
-pub enum Passed {
-    At(usize),
-    Refused(u64, usize),
+pub struct Begin {
+    pub flags: u64,
+    pub cells: usize,
 }
 
 // ---- what each kind of rows does
@@ -53,50 +32,44 @@ pub fn at_end(from: Rows, s: &[u8], at: usize) -> bool
     ensures { result ≡ at_end from (drop at s.now) }
 {
     match from {
-        Rows::TableData => {
-            let i = skip_white(s, at);
-            i == s.len()
-        }
+        Rows::TableData => skip_white(s, at) == s.len(),
         Rows::Binary => at == s.len(),
         Rows::Binary2 => at == s.len(),
     }
 }
 
-pub fn begin_row(from: Rows, s: &[u8], at: usize, count: usize) -> Begin
+pub fn begin_row(from: Rows, s: &[u8], at: usize, count: usize) -> Result<Begin, Reason>
     requires { (at ≤ length s.now) × (1 ≤ count) × (count ≤ 64) }
     ensures { Begins from count s.now at result }
 {
     match from {
-        Rows::TableData => {
-            let Tag::At(next) = row_begins(s, at) else {
-                return Begin::Refused(10);
-            };
-            Begin::Row(0, next)
-        }
-        Rows::Binary => Begin::Row(0, at),
+        Rows::TableData => match row_begins(s, at) {
+            None => Err(Reason::Markup),
+            Some(cells) => Ok(Begin { flags: 0, cells }),
+        },
+        Rows::Binary => Ok(Begin {
+            flags: 0,
+            cells: at,
+        }),
         Rows::Binary2 => {
-            let f = read_flags(s, at, count);
-            match f {
-                Flags::Are(flags, next) => Begin::Row(flags, next),
-                Flags::Spoiled(n) => Begin::Refused(n),
-            }
+            let f = read_flags(s, at, count)?;
+            Ok(Begin {
+                flags: f.word,
+                cells: f.next,
+            })
         }
     }
 }
 
-pub fn end_row(from: Rows, s: &[u8], at: usize) -> Close
+// What ends a row: the place after it.
+pub fn end_row(from: Rows, s: &[u8], at: usize) -> Result<usize, Reason>
     requires { at ≤ length s.now }
     ensures { Closes from s.now at result }
 {
     match from {
-        Rows::TableData => {
-            let Tag::At(next) = row_ends(s, at) else {
-                return Close::Refused(10);
-            };
-            Close::Closed(next)
-        }
-        Rows::Binary => Close::Closed(at),
-        Rows::Binary2 => Close::Closed(at),
+        Rows::TableData => row_ends(s, at).ok_or(Reason::Markup),
+        Rows::Binary => Ok(at),
+        Rows::Binary2 => Ok(at),
     }
 }
 
@@ -119,7 +92,7 @@ pub fn read_cell(
     column: Column,
     flagged: bool,
     scratch: &mut [i64],
-) -> Found
+) -> Result<Found, Reason>
     requires { (at ≤ length s.now) × (bound column.len ≤ most_elements) × (most_elements ≤ length scratch.old) }
     ensures { Reads (read_cell from column flagged (drop at s.now)) s.now at scratch.old scratch.new result }
 {
@@ -132,6 +105,7 @@ pub fn read_cell(
 
 // ---- rows that are passed over
 
+// A cell that is passed over: the place after it.
 fn pass_cell(
     from: Rows,
     s: &[u8],
@@ -139,17 +113,13 @@ fn pass_cell(
     column: Column,
     flagged: bool,
     scratch: &mut [i64],
-) -> Next
+) -> Result<usize, Reason>
     requires { (at ≤ length s.now) × (bound column.len ≤ most_elements) × (most_elements ≤ length scratch.old) }
     ensures passes_cell { PassesCell (read_cell from column flagged (drop at s.now)) s.now at result }
     ensures scratch_len_unchanged { length scratch.new ≡ length scratch.old }
 {
-    let found = read_cell(from, s, at, column, flagged, scratch);
-    match found {
-        Found::Refused(n) => Next::Refused(n),
-        Found::Null(next) => Next::At(next),
-        Found::Shown(_n, next) => Next::At(next),
-    }
+    let found = read_cell(from, s, at, column, flagged, scratch)?;
+    Ok(found.next)
 }
 
 // The cells of a row and what ends it, from where its cells begin.
@@ -160,44 +130,48 @@ fn pass_cells(
     flags: u64,
     body: usize,
     scratch: &mut [i64],
-) -> Passed
+) -> Result<usize, Refused>
     requires { Within (listed cols) × (body ≤ length s.now) × (most_elements ≤ length scratch.old) }
     ensures passes_cells { PassesCells (cells_end from (listed cols) (flags_in from cols.count flags) (drop body s.now)) s.now body result }
     ensures scratch_len_unchanged { length scratch.new ≡ length scratch.old }
 {
     let count = cols.count;
     let mut at = body;
-    let mut i: usize = 0;
-    while i < count {
+    for i in 0..count {
         let c = cols.list[i];
         let flagged = flag_of(from, flags, count, i);
-        let n = pass_cell(from, s, at, c, flagged, scratch);
-        match n {
-            Next::Refused(number) => return Passed::Refused(number, i),
-            Next::At(next) => {
+        match pass_cell(from, s, at, c, flagged, scratch) {
+            Err(reason) => return Err(Refused { reason, column: i }),
+            Ok(next) => {
                 at = next;
             }
         }
-        i += 1;
     }
-    let e = end_row(from, s, at);
-    match e {
-        Close::Refused(number) => Passed::Refused(number, count),
-        Close::Closed(next) => Passed::At(next),
+    match end_row(from, s, at) {
+        Err(reason) => Err(Refused {
+            reason,
+            column: count,
+        }),
+        Ok(next) => Ok(next),
     }
 }
 
 // The row at a place.
-pub fn pass_row(cols: Columns, from: Rows, s: &[u8], at: usize, scratch: &mut [i64]) -> Passed
+pub fn pass_row(
+    cols: Columns,
+    from: Rows,
+    s: &[u8],
+    at: usize,
+    scratch: &mut [i64],
+) -> Result<usize, Refused>
     requires { Within (listed cols) × (at ≤ length s.now) × (most_elements ≤ length scratch.old) }
     ensures passes_row { PassesRow (read_row from (listed cols) (drop at s.now)) s.now at result }
     ensures scratch_len_unchanged { length scratch.new ≡ length scratch.old }
 {
     let count = cols.count;
-    let b = begin_row(from, s, at, count);
-    match b {
-        Begin::Refused(number) => Passed::Refused(number, 0),
-        Begin::Row(flags, body) => pass_cells(cols, from, s, flags, body, scratch),
+    match begin_row(from, s, at, count) {
+        Err(reason) => Err(Refused { reason, column: 0 }),
+        Ok(b) => pass_cells(cols, from, s, b.flags, b.cells, scratch),
     }
 }
 
@@ -217,18 +191,17 @@ pub fn pass_rows(
     let mut at = start;
     let mut rows = before;
     while !at_end(from, s, at) {
-        let p = pass_row(cols, from, s, at, scratch);
-        match p {
-            Passed::Refused(number, column) => {
+        match pass_row(cols, from, s, at, scratch) {
+            Err(refused) => {
                 return Answer {
-                    number,
+                    number: refused.reason.number(),
                     row: rows,
-                    column: column as u64,
+                    column: refused.column as u64,
                     rows,
                     bytes: 0,
                 };
             }
-            Passed::At(next) => {
+            Ok(next) => {
                 at = next;
             }
         }

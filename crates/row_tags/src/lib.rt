@@ -7,10 +7,10 @@ ghost use Rattle.table.specs.Wrote.{Wrote};
 ghost use Rattle.tabledata.specs.TableData.{close-TR, open-TR};
 ghost use Rattle.text.specs.Clauses.{TagIs};
 
-use text::{Tag, put_bytes, skip_white, whole_tag};
+use text::{put_bytes, skip_white, whole_tag};
 
 // `<TR>`, after white space.
-pub fn row_begins(s: &[u8], at: usize) -> Tag
+pub fn row_begins(s: &[u8], at: usize) -> Option<usize>
     requires { at ≤ length s.now }
     ensures { TagIs (λ n. tag n open-TR (skip_white (drop at s.now))) s.now at result }
 {
@@ -19,7 +19,7 @@ pub fn row_begins(s: &[u8], at: usize) -> Tag
 }
 
 // `</TR>`, after white space.
-pub fn row_ends(s: &[u8], at: usize) -> Tag
+pub fn row_ends(s: &[u8], at: usize) -> Option<usize>
     requires { at ≤ length s.now }
     ensures { TagIs (λ n. tag n close-TR (skip_white (drop at s.now))) s.now at result }
 {

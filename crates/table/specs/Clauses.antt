@@ -26,6 +26,11 @@ abbrev pub ShownWithin : List ℤ → Option ℕ → Type 0
 ShownWithin scratch None = Unit {0}
 ShownWithin scratch (Some count) = count ≤ length scratch
 
+-- they are not more than `most`
+abbrev pub ShownUpTo : ℕ → Option ℕ → Type 0
+ShownUpTo most None = Unit {0}
+ShownUpTo most (Some count) = count ≤ most
+
 -- the place after the cell is within the input, and the elements are within the scratch
 abbrev pub FoundWithin : List ℕ → ℕ → List ℤ → Returned Found Reason → Type 0
 FoundWithin s place scratch (Ok f) = (place ≤ f.next) × (f.next ≤ length s) × ShownWithin scratch f.shown

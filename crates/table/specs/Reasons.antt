@@ -1,6 +1,6 @@
 -- Why something is refused, by name, and its number.
 use Rattle.std.specs.Prelude.{ℕ}
-use Rattle.table.specs.Outcome.{Refusal}
+use Rattle.table.specs.Outcome.{Refusal, at}
 use Rattle.table.specs.declared.Reason.{Reason}
 use Rattle.table.specs.declared.Refused.{Refused}
 use Rattle.table.specs.declared.Reason.TheVariants.{Arraysize, Base64, ColumnCount, CountOverBound, Cut, Datatype, ElementCount, Empty, Field, Markup, NoCharacter, NoElement, NoRoom, NoSuchRow, NullHasNoForm, NullValue, OutOfRange, Padding, TooLarge}
@@ -48,4 +48,4 @@ number_of NoSuchRow = 20
 
 -- a refusal of the code as the definitions have it
 abbrev pub refusal_of : Refused → Refusal
-refusal_of f = record { number = number_of f.reason; column = f.column }
+refusal_of f = at f.column (number_of f.reason)

@@ -6,18 +6,22 @@ use mathlib.Core.Bool.{Bool, false, false≢true, true}
 use mathlib.Core.List.{List, [], ◌++◌, ◌∷◌, append-nil, map}
 use mathlib.Core.Path.{◌∙◌, ◌≡◌, ap, refl, sym}
 use lib.IntN.{nat_abs, negsuc, pos, ℤ}
-use lib.ListN.{drop, get_or, length, length-append, length-map, set, take}
-use lib.Seq.{get_or-take, length-take-le}
+use lib.ListN.{drop, get_or, length, length-append, length-map, set}
 use lib.Signed.{le_z, lt_z}
-use borrow.Author.Tests.{eq-eqb, leb-false, leb-true, ltb-true, ne_eqb}
+use borrow.Author.Tests.{leb-false, leb-true, ltb-true, ne_eqb}
 use mir.Syntax.{w64}
 use mir.Val.{of_z, to_z}
+use Rattle.std.specs.Option.{ok_or}
+use Rattle.std.specs.Prelude.{Err, IsErrAnd, None, Ok, Option, Result as Returned, Some}
+use Rattle.table.specs.Reasons.{number_of}
+use Rattle.table.specs.declared.Reason.{Reason}
+use Rattle.table.specs.declared.Reason.TheVariants.{NoCharacter}
 use Rattle.number.specs.Number.{shortest}
 use Rattle.table.proofs.Laws.{bad-good}
 use Rattle.table.proofs.Places.{done, element-at}
 use Rattle.table.specs.Bytes.{between, bytes}
 use Rattle.table.specs.Cell.{Cell, null, shown, truth_byte}
-use Rattle.table.specs.Clauses.{form_bytes, size_of}
+use Rattle.table.specs.Clauses.{form_bytes, size_as, size_of}
 use Rattle.table.specs.Result.{Result, ◌>>=◌, bad, good}
 use Rattle.table.specs.Shape.{Bits, Shape, Text, Truths, Whole, Width, shape}
 use Rattle.table.specs.Wrote.{Wrote}
@@ -25,7 +29,7 @@ use Rattle.table.specs.declared.Column.{Column}
 use Rattle.tabledata.proofs.Laws.{text-bytes, text-lt}
 use Rattle.tabledata.proofs.Characters.{plain-is, plain-low, text-not}
 use Rattle.tabledata.specs.Clauses.{is_plain}
-use Rattle.tabledata_writing.specs.Clauses.{form_size, size_with}
+use Rattle.tabledata_writing.specs.Clauses.{FewBytes, form_size, size_with}
 use Rattle.tabledata.specs.TableData.{bit_text, close-TD, element_bytes, element_text, escaped, form_of, forms, is_text, joined, open-TD, spaced, tagged, text_bytes, truth_text, write_text}
 
 -- ---- elements one after the other
@@ -39,38 +43,19 @@ module _ (f : ℤ → List ℕ) (es : List ℤ) (k : ℕ) where
   unfolding joined
   joined_end h = rw (done es k h)
 
--- the elements of the scratch
-pub taken_at : (l : List ℤ) (n k : ℕ) → k < n → get_or (take n l) k (pos 0) ≡ get_or l k (pos 0)
-taken_at l n k h = get_or-take n l k (pos 0) h
-
-pub taken-long : (l : List ℤ) (n : ℕ) → n ≤ length l → length (take n l) ≡ n
-taken-long l n h = length-take-le n l h
-
-module _ (f : ℤ → List ℕ) (l : List ℤ) (n k : ℕ) (h : n ≤ length l) where
-  pub taken_more : k < n → joined f (drop k (take n l)) ≡ f (get_or l k (pos 0)) ++ joined f (drop (k + 1) (take n l))
-  taken_more i = joined-more f (take n l) k (omega (arith, taken-long l n h)) ∙ ap (λ (z : ℤ). f z ++ joined f (drop (k + 1) (take n l))) (taken_at l n k i)
-
-  pub taken-end : n ≤ k → joined f (drop k (take n l)) ≡ []
-  taken-end i = joined_end f (take n l) k (omega (arith, taken-long l n h))
-
 spaced-tail : (g : ℤ → List ℕ) (e : ℤ) (es : List ℤ) → spaced (map g (e ∷ es)) ≡ g e ++ joined (λ z. 32 ∷ g z) es
 unfolding spaced joined
 spaced-tail g e [] = sym (append-nil (g e))
 spaced-tail g e (d ∷ es) = ap (λ (t : List ℕ). g e ++ (32 ∷ t)) (spaced-tail g d es)
 
 -- words: the first, then each behind a space
-pub spaced-joined : (g : ℤ → List ℕ) (es : List ℤ) → 1 ≤ length es → spaced (map g es) ≡ g (get_or es 0 (pos 0)) ++ joined (λ z. 32 ∷ g z) (drop 1 es)
-spaced-joined g [] h = absurd (omega arith)
-spaced-joined g (e ∷ es) h = spaced-tail g e es
+pub spaced-first : (g : ℤ → List ℕ) (es : List ℤ) (e : ℤ) (rest : List ℤ) → es ≡ e ∷ rest → spaced (map g es) ≡ g e ++ joined (λ z. 32 ∷ g z) rest
+spaced-first g es e rest h = rw h (spaced-tail g e rest)
 
-pub spaced-taken : (g : ℤ → List ℕ) (l : List ℤ) (n : ℕ) → n ≤ length l → (n ≡ 0 → ⊥) → spaced (map g (take n l)) ≡ g (get_or l 0 (pos 0)) ++ joined (λ z. 32 ∷ g z) (drop 1 (take n l))
-spaced-taken g l n h i =
-    spaced-joined g (take n l) (omega (arith, taken-long l n h, i))
-    ∙ ap (λ (z : ℤ). g z ++ joined (λ z. 32 ∷ g z) (drop 1 (take n l))) (taken_at l n 0 (omega (arith, i)))
-
-pub spaced-none : (g : ℤ → List ℕ) (l : List ℤ) (n : ℕ) → n ≡ 0 → spaced (map g (take n l)) ≡ []
+pub spaced-none : (g : ℤ → List ℕ) (es : List ℤ) → length es ≡ 0 → spaced (map g es) ≡ []
 unfolding spaced
-spaced-none g l n e = rw e
+spaced-none g [] h = refl
+spaced-none g (e ∷ es) h = absurd (omega arith)
 
 pub spaced-length : (g : ℤ → List ℕ) (es : List ℤ) → 1 ≤ length es → suc (length (spaced (map g es))) ≡ length (joined (λ z. 32 ∷ g z) es)
 unfolding joined
@@ -81,10 +66,6 @@ pub bits-joined : (es : List ℤ) → element_bytes Bits es ≡ joined (λ z. bi
 unfolding element_bytes joined
 bits-joined [] = refl
 bits-joined (e ∷ es) = ap (λ (t : List ℕ). bit_text e ∷ t) (bits-joined es)
-
-pub bits-long : (l : List ℤ) (n : ℕ) → n ≤ length l → length (element_bytes Bits (take n l)) ≡ n
-unfolding element_bytes
-bits-long l n h = length-map (take n l) bit_text ∙ taken-long l n h
 
 -- ---- char
 
@@ -116,13 +97,20 @@ module _ (n : ℕ) (es : List ℤ) (k : ℕ) where
   unfolding size_with forms
   size-end h = rw (done es k h) (ap good (omega arith))
 
-pub form_size-none : (m : ℕ) → m ≡ 0 → form_size m ≡ bad 16
+-- a char without a form is passed on as the refusal, and one with a form as its bytes
+pub no-form : (f : Option ℕ) (e : Reason) → ok_or f NoCharacter ≡ Err e → (form_size f ≡ bad 16) × (number_of e ≡ 16)
 unfolding form_size
-form_size-none m e = rw (eq-eqb m 0 e)
+no-form None e h = (refl, ap number_of (let k : NoCharacter ≡ e = cc in sym k))
+no-form (Some n) e h = absurd (let k : ◌≡◌ {A = Returned ℕ Reason} (Ok n) (Err e) = h in cc)
 
-pub form_size-some : (m : ℕ) → (m ≡ 0 → ⊥) → form_size m ≡ good m
+pub has-form : (f : Option ℕ) (n : ℕ) → ok_or f NoCharacter ≡ Ok n → (form_size f ≡ good n) × (FewBytes f → n ≤ 5)
 unfolding form_size
-form_size-some m e = rw (ne_eqb m 0 e)
+has-form None n h = absurd (let k : ◌≡◌ {A = Returned ℕ Reason} (Err NoCharacter) (Ok n) = h in cc)
+has-form (Some m) n h = let k : m ≡ n = (let q : ◌≡◌ {A = Returned ℕ Reason} (Ok m) (Ok n) = h in cc) in (ap good k, λ few. omega (arith, k))
+
+pub passed-on : (r : Returned ℕ Reason) (e : Reason) → IsErrAnd r (λ x. x ≡ e) → size_as r ≡ bad (number_of e)
+passed-on (Ok n) e h = absurd h
+passed-on (Err x) e h = ap (λ (y : Reason). bad (number_of y)) h
 
 -- ---- the size of a whole cell
 
@@ -216,11 +204,11 @@ pub escaped-itself : (c : ℕ) → (c ≡ 38 → ⊥) → (c ≡ 60 → ⊥) →
 unfolding escaped
 escaped-itself c x y z w = rw (ne_eqb c 38 x, ne_eqb c 60 y, ne_eqb c 62 z, ne_eqb c 13 w)
 
-pub size-itself : (c : ℕ) → is_text c ≡ true → (c ≡ 38 → ⊥) → (c ≡ 60 → ⊥) → (c ≡ 62 → ⊥) → (c ≡ 13 → ⊥) → size_of (form_of (pos c)) ≡ form_size 1
+pub size-itself : (c : ℕ) → is_text c ≡ true → (c ≡ 38 → ⊥) → (c ≡ 60 → ⊥) → (c ≡ 62 → ⊥) → (c ≡ 13 → ⊥) → size_of (form_of (pos c)) ≡ form_size (Some 1)
 unfolding form_size
 size-itself c t x y z w = ap size_of (form-text c t ∙ ap good (escaped-itself c x y z w))
 
-pub size-no : (c : ℕ) → is_text c ≡ false → size_of (form_of (pos c)) ≡ form_size 0
+pub size-no : (c : ℕ) → is_text c ≡ false → size_of (form_of (pos c)) ≡ form_size None
 unfolding form_size
 size-no c t = ap size_of (form-none c t)
 

@@ -1,23 +1,23 @@
 // A cell of TABLEDATA is measured and written.
 #![tactic(auto)]
 
-ghost use Rattle.std.specs.Prelude.{◌+◌, ◌≤◌, pos, drop, length, take, ◌∷◌, map, ◌≡◌};
+ghost use Rattle.std.specs.Prelude.{◌+◌, ◌≤◌, pos, length, ◌∷◌, map, ◌≡◌};
 ghost use Rattle.number.specs.Number.{shortest};
 ghost use Rattle.table.specs.Cell.{most_elements};
-ghost use Rattle.table.specs.Clauses.{form_bytes, held, size_as, size_of};
+ghost use Rattle.table.specs.Clauses.{ShownUpTo, ShownWithin, form_bytes, shown_as, size_as, size_of};
 ghost use Rattle.table.specs.Shape.{Bits, Text, shape};
 ghost use Rattle.table.specs.Wrote.{Wrote};
 ghost use Rattle.tabledata.specs.TableData.{bit_text, element_bytes, form_of, forms, joined, spaced, text_bytes, truth_text, write_text};
-ghost use Rattle.tabledata_writing.specs.Clauses.{form_size, size_with};
+ghost use Rattle.tabledata_writing.specs.Clauses.{FewBytes, form_size, size_with};
 
 use number::{Elements, elements_of};
-use table::{Column, Kind, Size};
+use table::{Column, Kind, Reason};
 use tabledata::{is_plain, is_text};
 use text::put_bytes;
 
 // ---- a cell is measured
 
-// The code of a char, 128 for what is none.
+// The code of a char, 128 for what is none: one more code without a form, as an `Option` would only be a second way to have none.
 fn code_of(z: i64) -> u32
     ensures { (form_of z ≡ form_of (pos result)) × (result ≤ 128) }
 {
@@ -30,66 +30,58 @@ fn code_of(z: i64) -> u32
     z as u32
 }
 
-// How many bytes a char takes, 0 where it has no form.
-fn form_size(c: u32) -> usize
-    ensures { (size_of (form_of (pos c)) ≡ form_size result) × (result ≤ 5) }
+// How many bytes a char takes, if it has a form.
+fn form_size(c: u32) -> Option<usize>
+    ensures { (size_of (form_of (pos c)) ≡ form_size result) × FewBytes result }
 {
     match c {
-        13 | 38 => 5,
-        60 | 62 => 4,
-        9 | 10 => 1,
-        32..=127 => 1,
-        _ => 0,
+        13 | 38 => Some(5),
+        60 | 62 => Some(4),
+        9 | 10 => Some(1),
+        32..=127 => Some(1),
+        _ => None,
     }
 }
 
-fn chars_size(count: usize, scratch: &[i64]) -> Size
-    requires { (count ≤ length scratch.now) × (count ≤ most_elements) }
-    ensures { size_as result ≡ size_with 9 (forms (take count scratch.now)) }
+fn chars_size(chars: &[i64]) -> Result<usize, Reason>
+    requires { length chars.now ≤ most_elements }
+    ensures { size_as result ≡ size_with 9 (forms chars.now) }
 {
     let mut size = 9;
-    let mut k = 0;
-    while k < count {
-        let n = form_size(code_of(scratch[k]));
-        if n == 0 {
-            return Size::NoForm(16);
-        }
-        size += n;
-        k += 1;
+    for &z in chars {
+        size += form_size(code_of(z)).ok_or(Reason::NoCharacter)?;
     }
-    Size::Bytes(size)
+    Ok(size)
 }
 
-fn integers_size(count: usize, scratch: &[i64]) -> usize
-    requires { (count ≤ length scratch.now) × (count ≤ most_elements) }
-    ensures { result ≡ 8 + length (joined (λ z. 32 ∷ shortest z) (take count scratch.now)) }
+fn integers_size(integers: &[i64]) -> usize
+    requires { length integers.now ≤ most_elements }
+    ensures { result ≡ 8 + length (joined (λ z. 32 ∷ shortest z) integers.now) }
 {
     let mut size = 8;
-    let mut k = 0;
-    while k < count {
-        size += 1 + decimals::shortest_length(scratch[k]);
-        k += 1;
+    for &z in integers {
+        size += 1 + decimals::shortest_length(z);
     }
     size
 }
 
 // What a cell takes when it is written: its length, or 14, 16.
-pub fn size_text(column: Column, null: bool, count: usize, scratch: &[i64]) -> Size
-    requires { (count ≤ length scratch.now) × (count ≤ most_elements) }
-    ensures { size_as result ≡ size_of (write_text column (held null count scratch.now)) }
+pub fn size_text(column: Column, shown: Option<usize>, scratch: &[i64]) -> Result<usize, Reason>
+    requires { ShownWithin scratch.now shown × ShownUpTo most_elements shown }
+    ensures { size_as result ≡ size_of (write_text column (shown_as scratch.now shown)) }
 {
-    if null {
-        return Size::Bytes(5);
-    }
+    let Some(count) = shown else {
+        return Ok(5);
+    };
     if count == 0 {
-        return Size::NoForm(14);
+        return Err(Reason::Empty);
     }
-    let kind = column.kind;
-    match elements_of(kind) {
-        Elements::Truths => Size::Bytes(2 * count + 8),
-        Elements::Bits => Size::Bytes(count + 9),
-        Elements::Text => chars_size(count, scratch),
-        Elements::Whole(_) => Size::Bytes(integers_size(count, scratch)),
+    let elements = &scratch[..count];
+    match elements_of(column.kind) {
+        Elements::Truths => Ok(2 * count + 8),
+        Elements::Bits => Ok(count + 9),
+        Elements::Text => chars_size(elements),
+        Elements::Whole(_) => Ok(integers_size(elements)),
     }
 }
 
@@ -130,15 +122,13 @@ fn put_char(out: &mut [u8], at: usize, c: u32) -> usize
     at + 1
 }
 
-fn put_chars(count: usize, scratch: &[i64], out: &mut [u8], at: usize) -> usize
-    requires { (count ≤ length scratch.now) × (at + length (element_bytes Text (take count scratch.now)) ≤ length out.old) }
-    ensures { Wrote out.old at (element_bytes Text (take count scratch.now)) out.new result }
+fn put_chars(chars: &[i64], out: &mut [u8], at: usize) -> usize
+    requires { at + length (element_bytes Text chars.now) ≤ length out.old }
+    ensures { Wrote out.old at (element_bytes Text chars.now) out.new result }
 {
     let mut i = at;
-    let mut k = 0;
-    while k < count {
-        i = put_char(out, i, code_of(scratch[k]));
-        k += 1;
+    for &z in chars {
+        i = put_char(out, i, code_of(z));
     }
     i
 }
@@ -146,103 +136,97 @@ fn put_chars(count: usize, scratch: &[i64], out: &mut [u8], at: usize) -> usize
 fn bit_byte(z: i64) -> u8
     ensures { result ≡ bit_text z }
 {
-    if z == 1 { 49 } else { 48 }
+    if z == 1 { b'1' } else { b'0' }
 }
 
-fn put_bits(count: usize, scratch: &[i64], out: &mut [u8], at: usize) -> usize
-    requires { (count ≤ length scratch.now) × (at + length (element_bytes Bits (take count scratch.now)) ≤ length out.old) }
-    ensures { Wrote out.old at (element_bytes Bits (take count scratch.now)) out.new result }
+fn put_bits(bits: &[i64], out: &mut [u8], at: usize) -> usize
+    requires { at + length (element_bytes Bits bits.now) ≤ length out.old }
+    ensures { Wrote out.old at (element_bytes Bits bits.now) out.new result }
 {
-    let mut k = 0;
-    while k < count {
-        out[at + k] = bit_byte(scratch[k]);
-        k += 1;
+    let mut i = at;
+    for &z in bits {
+        out[i] = bit_byte(z);
+        i += 1;
     }
-    at + k
+    i
 }
 
 // Each element but the first, behind a space.
-fn more_truths(count: usize, scratch: &[i64], out: &mut [u8], at: usize) -> usize
-    requires { (count ≤ length scratch.now) × (at + length (joined (λ z. 32 ∷ truth_text z) (drop 1 (take count scratch.now))) ≤ length out.old) }
-    ensures { Wrote out.old at (joined (λ z. 32 ∷ truth_text z) (drop 1 (take count scratch.now))) out.new result }
+fn more_truths(truths: &[i64], out: &mut [u8], at: usize) -> usize
+    requires { at + length (joined (λ z. 32 ∷ truth_text z) truths.now) ≤ length out.old }
+    ensures { Wrote out.old at (joined (λ z. 32 ∷ truth_text z) truths.now) out.new result }
 {
     let mut i = at;
-    let mut k = 1;
-    while k < count {
-        out[i] = 32;
-        out[i + 1] = table::truth_byte(scratch[k]);
+    for &z in truths {
+        out[i] = b' ';
+        out[i + 1] = table::truth_byte(z);
         i += 2;
-        k += 1;
     }
     i
 }
 
-fn put_truths(count: usize, scratch: &[i64], out: &mut [u8], at: usize) -> usize
-    requires { (count ≤ length scratch.now) × (at + length (spaced (map truth_text (take count scratch.now))) ≤ length out.old) }
-    ensures { Wrote out.old at (spaced (map truth_text (take count scratch.now))) out.new result }
+fn put_truths(truths: &[i64], out: &mut [u8], at: usize) -> usize
+    requires { at + length (spaced (map truth_text truths.now)) ≤ length out.old }
+    ensures { Wrote out.old at (spaced (map truth_text truths.now)) out.new result }
 {
-    if count == 0 {
+    let Some((&first, rest)) = truths.split_first() else {
         return at;
-    }
-    out[at] = table::truth_byte(scratch[0]);
-    more_truths(count, scratch, out, at + 1)
+    };
+    out[at] = table::truth_byte(first);
+    more_truths(rest, out, at + 1)
 }
 
-fn more_integers(count: usize, scratch: &[i64], out: &mut [u8], at: usize) -> usize
-    requires { (count ≤ length scratch.now) × (at + length (joined (λ z. 32 ∷ shortest z) (drop 1 (take count scratch.now))) ≤ length out.old) }
-    ensures { Wrote out.old at (joined (λ z. 32 ∷ shortest z) (drop 1 (take count scratch.now))) out.new result }
+fn more_integers(integers: &[i64], out: &mut [u8], at: usize) -> usize
+    requires { at + length (joined (λ z. 32 ∷ shortest z) integers.now) ≤ length out.old }
+    ensures { Wrote out.old at (joined (λ z. 32 ∷ shortest z) integers.now) out.new result }
 {
     let mut i = at;
-    let mut k = 1;
-    while k < count {
-        out[i] = 32;
-        i = decimals::write_shortest(out, i + 1, scratch[k]);
-        k += 1;
+    for &z in integers {
+        out[i] = b' ';
+        i = decimals::write_shortest(out, i + 1, z);
     }
     i
 }
 
-fn put_integers(count: usize, scratch: &[i64], out: &mut [u8], at: usize) -> usize
-    requires { (count ≤ length scratch.now) × (at + length (spaced (map shortest (take count scratch.now))) ≤ length out.old) }
-    ensures { Wrote out.old at (spaced (map shortest (take count scratch.now))) out.new result }
+fn put_integers(integers: &[i64], out: &mut [u8], at: usize) -> usize
+    requires { at + length (spaced (map shortest integers.now)) ≤ length out.old }
+    ensures { Wrote out.old at (spaced (map shortest integers.now)) out.new result }
 {
-    if count == 0 {
+    let Some((&first, rest)) = integers.split_first() else {
         return at;
-    }
-    let next = decimals::write_shortest(out, at, scratch[0]);
-    more_integers(count, scratch, out, next)
+    };
+    let next = decimals::write_shortest(out, at, first);
+    more_integers(rest, out, next)
 }
 
 // The text of a cell's elements.
-fn put_elements(kind: Kind, count: usize, scratch: &[i64], out: &mut [u8], at: usize) -> usize
-    requires { (count ≤ length scratch.now) × (at + length (element_bytes (shape kind) (take count scratch.now)) ≤ length out.old) }
-    ensures { Wrote out.old at (element_bytes (shape kind) (take count scratch.now)) out.new result }
+fn put_elements(kind: Kind, elements: &[i64], out: &mut [u8], at: usize) -> usize
+    requires { at + length (element_bytes (shape kind) elements.now) ≤ length out.old }
+    ensures { Wrote out.old at (element_bytes (shape kind) elements.now) out.new result }
 {
     match elements_of(kind) {
-        Elements::Truths => put_truths(count, scratch, out, at),
-        Elements::Bits => put_bits(count, scratch, out, at),
-        Elements::Text => put_chars(count, scratch, out, at),
-        Elements::Whole(_) => put_integers(count, scratch, out, at),
+        Elements::Truths => put_truths(elements, out, at),
+        Elements::Bits => put_bits(elements, out, at),
+        Elements::Text => put_chars(elements, out, at),
+        Elements::Whole(_) => put_integers(elements, out, at),
     }
 }
 
 // A cell, at a place with room for it: "Null is `<TD/>`."
 pub fn write_text(
     column: Column,
-    null: bool,
-    count: usize,
+    shown: Option<usize>,
     scratch: &[i64],
     out: &mut [u8],
     at: usize,
 ) -> usize
-    requires { (count ≤ length scratch.now) × (at + length (text_bytes column (held null count scratch.now)) ≤ length out.old) }
-    ensures { Wrote out.old at (text_bytes column (held null count scratch.now)) out.new result }
+    requires { ShownWithin scratch.now shown × (at + length (text_bytes column (shown_as scratch.now shown)) ≤ length out.old) }
+    ensures { Wrote out.old at (text_bytes column (shown_as scratch.now shown)) out.new result }
 {
-    if null {
+    let Some(count) = shown else {
         return put_bytes(out, at, b"<TD/>");
-    }
-    let kind = column.kind;
+    };
     let from = put_bytes(out, at, b"<TD>");
-    let next = put_elements(kind, count, scratch, out, from);
+    let next = put_elements(column.kind, &scratch[..count], out, from);
     put_bytes(out, next, b"</TD>")
 }

@@ -20,14 +20,14 @@ loop-cols-init c =
 pub at_end-requires : goal.at_end-requires
 at_end-requires c = c.loop-cols.invariant.0.inside
 
-pub pass_row-p-requires : goal.pass_row-p-requires
-pass_row-p-requires c =
+pub pass_row-requires : goal.pass_row-requires
+pass_row-requires c =
     (c.requires.0, c.loop-cols.invariant.0.inside, omega (arith, c.loop-cols.invariant.1, c.requires.2))
 
-pub returns-in-Refused : goal.returns-in-Refused
-returns-in-Refused c =
+pub returns-in-Err : goal.returns-in-Err
+returns-in-Err c =
     let left : at_end c.args.from (drop c.loop-cols.at c.args.s.now) ≡ false = sym c.at_end.ensures ∙ c.loop-cols-test.true in
-    let h = subst (PassesRow _ _ _) c.in-Refused.is c.pass_row-p.ensures.passes_row in
+    let h = subst (PassesRow _ _ _) c.in-Err.is c.pass_row.ensures.passes_row in
     let g = enter-stop c.args.from (listed c.args.cols) c.args.s.now c.args.index.now c.requires.0 c.loop-cols.at c.loop-cols.rows c.loop-cols.index c.loop-cols.invariant.0
     left _ _ h in record { value = c.stop.ensures ∙ g.0; index_after = g.1 }
 
@@ -35,53 +35,32 @@ pub overflow_cast-at : goal.overflow_cast-at
 overflow_cast-at c =
     record { fits = omega (arith, c.loop-cols.invariant.0.inside, c.requires.1) }
 
-pub shape_of-index-in-Refused : goal.shape_of-index-in-Refused
-shape_of-index-in-Refused c = entered-long c.loop-cols.invariant.0.so_far
-
-pub shape_of-scratch-in-Refused : goal.shape_of-scratch-in-Refused
-shape_of-scratch-in-Refused c =
-    c.pass_row-p.ensures.scratch_len_unchanged ∙ c.loop-cols.invariant.1
-
-pub shape_of-index-then-not-enter : goal.shape_of-index-then-not-enter
-shape_of-index-then-not-enter c =
-    ap length c.enter.ensures.index_after ∙ entered-at-long c.loop-cols.rows c.loop-cols.at c.loop-cols.index ∙ entered-long c.loop-cols.invariant.0.so_far
-
-pub shape_of-scratch-then-not-enter : goal.shape_of-scratch-then-not-enter
-shape_of-scratch-then-not-enter c =
-    c.pass_row-p.ensures.scratch_len_unchanged ∙ c.loop-cols.invariant.1
-
 pub returns-then-not-enter : goal.returns-then-not-enter
 returns-then-not-enter c =
     let left : at_end c.args.from (drop c.loop-cols.at c.args.s.now) ≡ false = sym c.at_end.ensures ∙ c.loop-cols-test.true in
-    let h = subst (PassesRow _ _ _) c.in-At.is c.pass_row-p.ensures.passes_row in
+    let h = subst (PassesRow _ _ _) c.in-Ok.is c.pass_row.ensures.passes_row in
     let g = enter-lacks c.args.from (listed c.args.cols) c.args.s.now c.args.index.now c.requires.0 c.loop-cols.at c.loop-cols.rows c.loop-cols.index c.loop-cols.invariant.0
-    left h.0 c.in-At.next h.1 (sym c.enter.ensures.value ∙ c.if-not-enter.true) in record { value = c.stop-then-not-enter.ensures ∙ g.0; index_after = c.enter.ensures.index_after ∙ g.1 }
+    left h.0 c.in-Ok.next h.1 (sym c.enter.ensures.value ∙ c.if-not-enter.true) in record { value = c.stop-then-not-enter.ensures ∙ g.0; index_after = c.enter.ensures.index_after ∙ g.1 }
 
 pub overflow_add-rows : goal.overflow_add-rows
 overflow_add-rows c =
-    let h = subst (PassesRow _ _ _) c.in-At.is c.pass_row-p.ensures.passes_row in
+    let h = subst (PassesRow _ _ _) c.in-Ok.is c.pass_row.ensures.passes_row in
     omega (arith, c.loop-cols.invariant.0.fewer, h.2, h.3, c.requires.1)
 
 pub loop-cols-smaller : goal.loop-cols-smaller
 loop-cols-smaller c =
-    let h = subst (PassesRow _ _ _) c.in-At.is c.pass_row-p.ensures.passes_row in
+    let h = subst (PassesRow _ _ _) c.in-Ok.is c.pass_row.ensures.passes_row in
     omega (arith, h.2, h.3)
 
 pub loop-cols-preserved : goal.loop-cols-preserved
 loop-cols-preserved c =
     let left : at_end c.args.from (drop c.loop-cols.at c.args.s.now) ≡ false = sym c.at_end.ensures ∙ c.loop-cols-test.true in
-    let h = subst (PassesRow _ _ _) c.in-At.is c.pass_row-p.ensures.passes_row in
+    let h = subst (PassesRow _ _ _) c.in-Ok.is c.pass_row.ensures.passes_row in
     let g = enter-more c.args.from (listed c.args.cols) c.args.s.now c.args.index.now c.requires.0 c.loop-cols.at c.loop-cols.rows c.loop-cols.index c.loop-cols.invariant.0
     left h.0 _ h.1 (sym c.enter.ensures.value ∙ c.if-not-enter.false) h.2 h.3 in (
       subst (RowsEntered _ _ _ _ _ _) (sym c.enter.ensures.index_after) g,
-      c.pass_row-p.ensures.scratch_len_unchanged ∙ c.loop-cols.invariant.1,
+      c.pass_row.ensures.scratch_len_unchanged ∙ c.loop-cols.invariant.1,
     )
-
-pub shape_of-index : goal.shape_of-index
-shape_of-index c = entered-long c.loop-cols.invariant.0.so_far
-
-pub shape_of-scratch : goal.shape_of-scratch
-shape_of-scratch c = c.loop-cols.invariant.1
 
 pub returns : goal.returns
 returns c =

@@ -1,21 +1,16 @@
--- row_comparing::compare_cell: what two readers found of a column is one answer (paired).
-use mathlib.Core.Path.{subst, sym}
-use Rattle.row_comparing.proofs.Pairs.{has-elements, paired}
-use Rattle.row_comparing.specs.Clauses.{PairsCell}
+-- row_comparing::compare_cell: what two readers found of a column is one answer (paired), or one of them read nothing.
+use Rattle.row_comparing.proofs.Pairs.{paired}
+use Rattle.row_comparing.specs.Clauses.{unread-first, unread-second}
 use Rattle.row_comparing.proofs.compare_cell.Goals as goal
 
-pub pair_of-requires : goal.pair_of-requires
-pair_of-requires c =
-    let f = c.read_cell-f in
-    let g = c.read_cell-g in
-    (has-elements f.ensures, has-elements g.ensures)
+pub returns-in_default-clause-pairs_cell : goal.returns-in_default-clause-pairs_cell
+returns-in_default-clause-pairs_cell c = unread-first c.in_default.ensures.found
+
+pub returns-in_default-read_cell-clause-pairs_cell : goal.returns-in_default-read_cell-clause-pairs_cell
+returns-in_default-read_cell-clause-pairs_cell c = unread-second c.in_default-read_cell.ensures.found
 
 pub returns : goal.returns
 returns c =
-    let f = c.read_cell-f in
-    let g = c.read_cell-g in
-    record {
-      pairs_cell = subst (PairsCell _ _ _ _ _ _) (sym c.pair_of.ensures) (paired _ _ _ _ _ _ _ _ _ _ _ _ f.ensures g.ensures);
-      a_len_unchanged = f.ensures.long;
-      b_len_unchanged = g.ensures.long;
-    }
+    let f = c.in-Ok.ensures in
+    let g = c.in-Ok-read_cell.ensures in
+    record { pairs_cell = paired f g c.shows_same.ensures; a_len_unchanged = f.long; b_len_unchanged = g.long }

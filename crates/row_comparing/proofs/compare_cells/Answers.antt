@@ -3,10 +3,10 @@
 use Prim.Native.Nat.{◌<◌, ◌≤◌, suc}
 use mathlib.Core.Bool.{Bool}
 use mathlib.Core.List.{List, ◌∷◌}
-use mathlib.Core.Path.{◌∙◌, ◌≡◌, refl, subst}
+use mathlib.Core.Path.{◌∙◌, ◌≡◌, refl, subst, sym}
 use lib.ListN.{drop, get_or, length}
 use Rattle.row_comparing.proofs.Pairs.{cells-paired, differing-more, differing-none, unread-cells}
-use Rattle.row_comparing.specs.Clauses.{OneUnread, PairsCell}
+use Rattle.row_comparing.specs.Clauses.{OneUnread, PairsRow}
 use Rattle.row_reading.proofs.Parts.{listed-bound, read-end, read_more, read-start, read-stop}
 use Rattle.row_reading.specs.Clauses.{cells_end, flags_in}
 use Rattle.rows.specs.Stream.{read_cell}
@@ -54,21 +54,15 @@ flag_of-other-requires c =
     let few : cols-of.count ≤ 64 = omega (arith, c.requires.0.few, listed-length cols-of) in
     (c.loop-i-test.true, few)
 
-pub compare_cell-p-requires : goal.compare_cell-p-requires
-compare_cell-p-requires c =
+pub compare_cell-requires : goal.compare_cell-requires
+compare_cell-requires c =
     let cols-of : Columns = c.args.cols in
     let inv = c.loop-i.invariant in
     let bounded = listed-bound cols-of c.loop-i.i c.requires.0 c.loop-i-test.true in
     (inv.0.inside, inv.1.inside, bounded, omega (arith, inv.3, c.requires.3), omega (arith, inv.4, c.requires.4))
 
-pub shape_of-a-in-Unread : goal.shape_of-a-in-Unread
-shape_of-a-in-Unread c = c.compare_cell-p.ensures.a_len_unchanged ∙ c.loop-i.invariant.3
-
-pub shape_of-b-in-Unread : goal.shape_of-b-in-Unread
-shape_of-b-in-Unread c = c.compare_cell-p.ensures.b_len_unchanged ∙ c.loop-i.invariant.4
-
-pub returns-in-Unread : goal.returns-in-Unread
-returns-in-Unread c =
+pub returns-in_err-pair : goal.returns-in_err-pair
+returns-in_err-pair c =
     let cols-of : Columns = c.args.cols in
     let flags_of : List Bool = flags_in c.args.one.from cols-of.count c.args.flags in
     let others-of : List Bool = flags_in c.args.two.from cols-of.count c.args.others in
@@ -84,9 +78,9 @@ returns-in-Unread c =
     column next-column c.flag_of-flag.result c.flag_of-flag.ensures n e)
     (λ n e. read-stop c.args.two.from (listed cols-of) others-of c.args.second.now c.args.two.at c.loop-i.place c.loop-i.i c.loop-i.invariant.1
     column next-column c.flag_of-other.result c.flag_of-other.ensures n e)) in
-    let p = c.compare_cell-p in
+    let p = c.compare_cell in
     record {
-      pairs_row = unread (subst (PairsCell _ _ _ _ _ _) c.in-Unread.is p.ensures.pairs_cell);
+      pairs_row = subst (PairsRow _ _ _ _ _ _ _) (sym c.from_residual.ensures) (unread c.in_err-pair.ensures.pairs_cell);
       a_len_unchanged = p.ensures.a_len_unchanged ∙ c.loop-i.invariant.3;
       b_len_unchanged = p.ensures.b_len_unchanged ∙ c.loop-i.invariant.4;
     }
@@ -96,16 +90,6 @@ add_flag-differing-requires c =
     let cols-of : Columns = c.args.cols in
     let few : cols-of.count ≤ 64 = omega (arith, c.requires.0.few, listed-length cols-of) in
     omega (arith, few, c.loop-i-test.true)
-
-pub overflow_add-i : goal.overflow_add-i
-overflow_add-i c =
-    let cols-of : Columns = c.args.cols in
-    let few : cols-of.count ≤ 64 = omega (arith, c.requires.0.few, listed-length cols-of) in
-    omega (arith, few, c.loop-i-test.true)
-
-pub loop-i-smaller : goal.loop-i-smaller
-loop-i-smaller c =
-    omega (arith, c.loop-i-test.true)
 
 pub loop-i-preserved : goal.loop-i-preserved
 unfolding read_more
@@ -117,10 +101,10 @@ loop-i-preserved c =
     let more : c.loop-i.i < length (listed cols-of) = omega (arith, listed-length cols-of, c.loop-i-test.true) in
     let next-column : drop c.loop-i.i (listed cols-of) ≡ column ∷ drop (suc c.loop-i.i) (listed cols-of) = listed_next cols-of c.loop-i.i c.loop-i-test.true in
     let inv = c.loop-i.invariant in
-    let p = c.compare_cell-p in
+    let p = c.compare_cell in
     let f = c.flag_of-flag in
     let g = c.flag_of-other in
-    let x = subst (PairsCell _ _ _ _ _ _) c.in-Read.is p.ensures.pairs_cell in (
+    let x = c.in_ok-pair.ensures.pairs_cell in (
       read_more c.args.one.from (listed cols-of) flags_of c.args.first.now c.args.one.at c.loop-i.at c.loop-i.i inv.0 column next-column f.result
           f.ensures x.x _ more x.found x.within.0 x.within.1,
       read_more c.args.two.from (listed cols-of) others-of c.args.second.now c.args.two.at c.loop-i.place c.loop-i.i inv.1 column next-column g.result
@@ -132,12 +116,6 @@ loop-i-preserved c =
 
 pub end_rows-requires : goal.end_rows-requires
 end_rows-requires c = (c.loop-i.invariant.0.inside, c.loop-i.invariant.1.inside)
-
-pub shape_of-a : goal.shape_of-a
-shape_of-a c = c.loop-i.invariant.3
-
-pub shape_of-b : goal.shape_of-b
-shape_of-b c = c.loop-i.invariant.4
 
 -- all columns are read
 pub returns : goal.returns

@@ -16,6 +16,3 @@ invariant-loop-i l =
     × Differing k.acc m.acc l.i l.differing
     × (length l.a ≡ length l.initial.a)
     × (length l.b ≡ length l.initial.b)
-
-abbrev pub decreases-loop-i : goal.decreases-loop-i
-decreases-loop-i l = l.count - l.i

@@ -39,9 +39,9 @@ compare_cells-requires c =
     let g = c.begin_row in
     let h = c.begin_row-2 in
     let n = listed-length c.args.cols in
-    let w = begun-within c.args.one.from (listed c.args.cols) _ n c.args.first.now c.args.one.at g.result g.ensures _ _
-    c.in-Row.is in
-    let v = begun-within c.args.two.from (listed c.args.cols) _ n c.args.second.now c.args.two.at h.result h.ensures _ _ c.in-Row-begin_row.is in
+    let w = begun-within c.args.one.from (listed c.args.cols) _ n c.args.first.now c.args.one.at g.result g.ensures _
+    c.in-Ok.is in
+    let v = begun-within c.args.two.from (listed c.args.cols) _ n c.args.second.now c.args.two.at h.result h.ensures _ c.in-Ok-begin_row.is in
     (c.requires.0, w.1, v.1, c.requires.3, c.requires.4)
 
 pub returns : goal.returns
@@ -53,9 +53,9 @@ returns c =
     record {
       pairs_row =
           row-paired c.args.one.from c.args.two.from (listed c.args.cols) _ _ c.args.first.now c.args.second.now c.args.one.at c.args.two.at
-          c.in-Row.body c.in-Row-begin_row.behind c.requires.0
-          (row-begun c.args.one.from (listed c.args.cols) _ n c.args.first.now c.args.one.at g.result g.ensures _ _ c.in-Row.is)
-          (row-begun c.args.two.from (listed c.args.cols) _ n c.args.second.now c.args.two.at h.result h.ensures _ _ c.in-Row-begin_row.is)
+          c.in-Ok.begin.cells c.in-Ok-begin_row.other.cells c.requires.0
+          (row-begun c.args.one.from (listed c.args.cols) _ n c.args.first.now c.args.one.at g.result g.ensures _ c.in-Ok.is)
+          (row-begun c.args.two.from (listed c.args.cols) _ n c.args.second.now c.args.two.at h.result h.ensures _ c.in-Ok-begin_row.is)
           _ p.result p.ensures.pairs_row;
       a_len_unchanged = p.ensures.a_len_unchanged;
       b_len_unchanged = p.ensures.b_len_unchanged;

@@ -19,8 +19,8 @@ pub returns : goal.returns
 returns c =
     let e = c.end_row in
     let f = c.end_row-2 in
-    let next = c.in-Closed.is in
-    let other = c.in-Closed-end_row.is in
+    let next = c.in-Ok.is in
+    let other = c.in-Ok-end_row.is in
     let w = closed-within _ _ _ _ e.ensures _ next in
     let v = closed-within _ _ _ _ f.ensures _ other in
     (refl, e.ensures.closed ∙ ap (close_as _) next, f.ensures.closed ∙ ap (close_as _) other, w.0, w.1, v.0, v.1)

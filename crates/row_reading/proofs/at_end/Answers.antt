@@ -9,7 +9,7 @@ use Rattle.row_reading.proofs.at_end.Goals as goal
 pub returns-in-TableData : goal.returns-in-TableData
 unfolding at_end
 returns-in-TableData c =
-    let k = c.skip_white-i in
+    let k = c.skip_white in
     empty-drop c.args.s.now k.result k.ensures.high ∙ ap is_empty (sym k.ensures.rest)
     ∙ ap (λ (f : Rows). at_end f (drop c.args.at c.args.s.now)) (sym c.in-TableData.is)
 

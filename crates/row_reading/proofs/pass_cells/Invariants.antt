@@ -11,6 +11,3 @@ use Rattle.row_reading.proofs.pass_cells.Given as goal
 abbrev pub invariant-loop-i : goal.invariant-loop-i
 invariant-loop-i l =
     RowRead l.from (listed l.cols) (flags_in l.from l.count l.flags) l.s l.body l.at l.i × (length l.scratch ≡ length l.initial.scratch)
-
-abbrev pub decreases-loop-i : goal.decreases-loop-i
-decreases-loop-i l = l.count - l.i

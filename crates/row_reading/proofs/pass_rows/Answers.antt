@@ -17,46 +17,40 @@ loop-cols-init c =
 pub at_end-requires : goal.at_end-requires
 at_end-requires c = c.loop-cols.invariant.0.inside
 
-pub pass_row-p-requires : goal.pass_row-p-requires
-pass_row-p-requires c =
+pub pass_row-requires : goal.pass_row-requires
+pass_row-requires c =
     (c.requires.0, c.loop-cols.invariant.0.inside, omega (arith, c.loop-cols.invariant.1, c.requires.3))
 
-pub shape_of-scratch-in-Refused : goal.shape_of-scratch-in-Refused
-shape_of-scratch-in-Refused c = c.pass_row-p.ensures.scratch_len_unchanged ∙ c.loop-cols.invariant.1
-
-pub returns-in-Refused : goal.returns-in-Refused
-returns-in-Refused c =
+pub returns-in-Err : goal.returns-in-Err
+returns-in-Err c =
     let left : at_end c.args.from (drop c.loop-cols.at c.args.s.now) ≡ false = sym c.at_end.ensures ∙ c.loop-cols-test.true in
-    let p = c.pass_row-p in
-    let h = subst (PassesRow _ _ _) c.in-Refused.is p.ensures.passes_row in
+    let p = c.pass_row in
+    let h = subst (PassesRow _ _ _) c.in-Err.is p.ensures.passes_row in
     record {
-      value = pass-stop c.args.from (listed c.args.cols) c.args.s.now c.args.start c.args.before c.requires.0 c.loop-cols.at c.loop-cols.rows c.loop-cols.invariant.0
-          left _ _ h;
+      value = rw c.number.ensures (pass-stop c.args.from (listed c.args.cols) c.args.s.now c.args.start c.args.before c.requires.0 c.loop-cols.at c.loop-cols.rows
+          c.loop-cols.invariant.0 left _ _ h);
       scratch_len_unchanged = p.ensures.scratch_len_unchanged ∙ c.loop-cols.invariant.1;
     }
 
 pub overflow_add-rows : goal.overflow_add-rows
 overflow_add-rows c =
-    let h = subst (PassesRow _ _ _) c.in-At.is c.pass_row-p.ensures.passes_row in
+    let h = subst (PassesRow _ _ _) c.in-Ok.is c.pass_row.ensures.passes_row in
     omega (arith, c.loop-cols.invariant.0.fewer, h.2, h.3, c.well_formed)
 
 pub loop-cols-smaller : goal.loop-cols-smaller
 loop-cols-smaller c =
-    let h = subst (PassesRow _ _ _) c.in-At.is c.pass_row-p.ensures.passes_row in
+    let h = subst (PassesRow _ _ _) c.in-Ok.is c.pass_row.ensures.passes_row in
     omega (arith, h.2, h.3)
 
 pub loop-cols-preserved : goal.loop-cols-preserved
 loop-cols-preserved c =
     let left : at_end c.args.from (drop c.loop-cols.at c.args.s.now) ≡ false = sym c.at_end.ensures ∙ c.loop-cols-test.true in
-    let p = c.pass_row-p in
-    let h = subst (PassesRow _ _ _) c.in-At.is p.ensures.passes_row in (
+    let p = c.pass_row in
+    let h = subst (PassesRow _ _ _) c.in-Ok.is p.ensures.passes_row in (
       pass-more c.args.from (listed c.args.cols) c.args.s.now c.args.start c.args.before c.requires.0 c.loop-cols.at c.loop-cols.rows c.loop-cols.invariant.0
           left h.0 _ h.1 h.2 h.3,
       p.ensures.scratch_len_unchanged ∙ c.loop-cols.invariant.1,
     )
-
-pub shape_of-scratch : goal.shape_of-scratch
-shape_of-scratch c = c.loop-cols.invariant.1
 
 pub returns : goal.returns
 returns c =

@@ -1,50 +1,34 @@
 -- `tabledata_writing::chars_size` meets its contract. The invariant: the whole has the size so far and that of what is left.
-use Prim.Native.Nat.{◌<◌}
 use native.Mathlib.Omega.{arith}
-use mathlib.Core.Path.{◌∙◌, ◌≡◌, ap, refl, sym}
+use Prim.Native.Nat.{◌≤◌}
+use Rattle.table.specs.Result.{bad, good}
+use mathlib.Core.Path.{◌∙◌, ◌≡◌, ap, sym}
 use lib.IntN.{pos, ℤ}
-use lib.ListN.{get_or, length, take}
-use borrow.Author.Rules.{rules, sfits_of}
-use mir.Facts.{to_z-of_z}
+use lib.ListN.{get_or}
+use borrow.Author.Rules.{rules}
 use mir.Syntax.{w64}
+use mir.Val.{of_z, to_z}
 use Rattle.table.specs.Clauses.{size_of}
-use Rattle.tabledata_writing.proofs.Writing.{form_size-none, form_size-some, size-bad, size-end, size-more, taken_at, taken-long}
-use Rattle.tabledata_writing.specs.Clauses.{form_size}
+use Rattle.tabledata_writing.proofs.Writing.{has-form, no-form, passed-on, size-bad, size-end, size-more}
 use Rattle.tabledata.specs.TableData.{form_of}
 use Rattle.tabledata_writing.proofs.chars_size.Goals as goal
 
-pub loop-k-init : goal.loop-k-init
-loop-k-init c = (search rules, search rules, refl)
+pub returns-in_err-size : goal.returns-in_err-size
+returns-in_err-size c =
+    let es = c.args.chars.now in let k = c.loop-z.z-index in let z = get_or es k (pos 0) in
+    let held : to_z w64 (of_z w64 z) ≡ z = search rules in
+    let none = no-form c.form_size.result c.in_err-size.field-0.0 (sym c.ok_or.ensures.value ∙ c.in_err-size.was) in
+    let form : size_of (form_of z) ≡ bad 16 = ap (λ (y : ℤ). size_of (form_of y)) (sym held) ∙ ap size_of c.code_of.ensures.0 ∙ c.form_size.ensures.0 ∙ none.0 in
+    passed-on c.from_residual.result c.in_err-size.field-0.0 c.from_residual.ensures.1 ∙ ap bad none.1 ∙ sym (c.loop-z.invariant.1 ∙ size-bad c.loop-z.size es k c.loop-z-test.true form)
 
-pub returns-then-n-eq0 : goal.returns-then-n-eq0
-returns-then-n-eq0 c =
-    let form : let a = c.args in size_of (form_of (get_or (take a.count a.scratch.now) c.loop-k.k (pos 0))) ≡ form_size c.form_size-n.result = (let a = c.args in
-    ap (λ (z : ℤ). size_of (form_of z))
-    (taken_at a.scratch.now a.count c.loop-k.k c.loop-k-test.true ∙ sym (to_z-of_z {w = w64} (sfits_of c.code_of-arg-1.given)))
-    ∙ ap size_of c.code_of.ensures.0 ∙ c.form_size-n.ensures.0) in
-    let inside : let a = c.args in c.loop-k.k < length (take a.count a.scratch.now) = let a = c.args in omega (arith, taken-long a.scratch.now a.count c.requires.0) in
-    let l = c.loop-k in
-    sym (l.invariant.2 ∙ size-bad l.size _ l.k inside (form ∙ form_size-none _ c.if-n-eq0.true))
-
-pub overflow_add-size : goal.overflow_add-size
-overflow_add-size c =
-    omega (arith, c.form_size-n.ensures.1, c.loop-k.invariant.1, c.requires.1)
-
-pub loop-k-preserved : goal.loop-k-preserved
-loop-k-preserved c =
-    let form : let a = c.args in size_of (form_of (get_or (take a.count a.scratch.now) c.loop-k.k (pos 0))) ≡ form_size c.form_size-n.result = (let a = c.args in
-    ap (λ (z : ℤ). size_of (form_of z))
-    (taken_at a.scratch.now a.count c.loop-k.k c.loop-k-test.true ∙ sym (to_z-of_z {w = w64} (sfits_of c.code_of-arg-1.given)))
-    ∙ ap size_of c.code_of.ensures.0 ∙ c.form_size-n.ensures.0) in
-    let inside : let a = c.args in c.loop-k.k < length (take a.count a.scratch.now) = let a = c.args in omega (arith, taken-long a.scratch.now a.count c.requires.0) in
-    let l = c.loop-k in (
-      search rules,
-      omega (arith, c.form_size-n.ensures.1, l.invariant.1),
-      l.invariant.2 ∙ size-more l.size _ l.k c.form_size-n.result inside (form ∙ form_size-some _ c.if-n-eq0.false),
-    )
+pub loop-z-preserved : goal.loop-z-preserved
+loop-z-preserved c =
+    let es = c.args.chars.now in let k = c.loop-z.z-index in let z = get_or es k (pos 0) in
+    let held : to_z w64 (of_z w64 z) ≡ z = search rules in
+    let some = has-form c.form_size.result c.in_ok-size.field-0 (sym c.ok_or.ensures.value ∙ c.in_ok-size.was) in
+    let form : size_of (form_of z) ≡ good c.in_ok-size.field-0 = ap (λ (y : ℤ). size_of (form_of y)) (sym held) ∙ ap size_of c.code_of.ensures.0 ∙ c.form_size.ensures.0 ∙ some.0 in
+    let few : c.in_ok-size.field-0 ≤ 5 = some.1 c.form_size.ensures.1 in
+    (omega (arith, few, c.loop-z.invariant.0), c.loop-z.invariant.1 ∙ size-more c.loop-z.size es k c.in_ok-size.field-0 c.loop-z-test.true form)
 
 pub returns : goal.returns
-returns c =
-    let a = c.args in
-    let long = taken-long a.scratch.now a.count c.requires.0 in
-    sym (c.loop-k.invariant.2 ∙ size-end c.loop-k.size _ c.loop-k.k (omega (arith, long)))
+returns c = sym (c.loop-z.invariant.1 ∙ size-end c.loop-z.size c.args.chars.now c.loop-z.z-index c.loop-z-test.false)

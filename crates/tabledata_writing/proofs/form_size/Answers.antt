@@ -21,13 +21,13 @@ pub returns-in-9 : goal.returns-in-9
 returns-in-9 c = (size-itself _ (text-low _ (omega arith) (omega arith)) (λ e. omega arith) (λ e. omega arith) (λ e. omega arith) (λ e. omega arith), lit≤ tt)
 
 pub returns-in_default : goal.returns-in_default
-returns-in_default c = (size-no _ (text-not _ (λ e. omega arith) (λ e. omega arith) (grind arith) (λ e. omega arith)), lit≤ tt)
+returns-in_default c = (size-no _ (text-not _ (λ e. omega arith) (λ e. omega arith) (grind arith) (λ e. omega arith)), tt)
 
 pub returns-in_default-2 : goal.returns-in_default-2
-returns-in_default-2 c = (size-no _ (text-not _ (λ e. omega arith) (λ e. omega arith) (grind arith) (λ e. omega arith)), lit≤ tt)
+returns-in_default-2 c = (size-no _ (text-not _ (λ e. omega arith) (λ e. omega arith) (grind arith) (λ e. omega arith)), tt)
 
 pub returns-in_default-3 : goal.returns-in_default-3
-returns-in_default-3 c = (size-no _ (text-not _ (λ e. omega arith) (λ e. omega arith) (grind arith) (λ e. omega arith)), lit≤ tt)
+returns-in_default-3 c = (size-no _ (text-not _ (λ e. omega arith) (λ e. omega arith) (grind arith) (λ e. omega arith)), tt)
 
 pub returns-in-32-to-127 : goal.returns-in-32-to-127
 unfolding form_of is_text between escaped form_size
