@@ -117,7 +117,7 @@ fn move_integer(
     requires { (bound column.len ≤ most_elements) × (at + size integer ≤ length s.now) × (o + most_room ≤ length row.old) }
     ensures { (from : Kinds) → is_scalar column ≡ true → shape column.kind ≡ Whole (is_signed integer) (width_of integer) → MovesRead (InBinary (shape column.kind) 1 s.now at) from to column row.old o row.new result }
 {
-    let One { value: z, next } = binary_integer(s, at, integer)?;
+    let One { value: z, next } = binary_integer(s, at, integer);
     let null = column.null;
     if is_declared(null, z) {
         return put_null(to, column, next, row, o);
@@ -233,7 +233,7 @@ pub fn move_binary(
         return None;
     }
     let len = column.len;
-    let Count::Elements(n, next) = read_count(s, at, len) else {
+    let Ok(Count { elements: n, next }) = read_count(s, at, len) else {
         return None;
     };
     move_counted(from, to, column, flagged, n, s, next, row, o)

@@ -4,7 +4,8 @@ use Prim.Native.Nat.{◌≤◌, ℕ}
 use native.Mathlib.Omega.{arith}
 use mathlib.Core.Bool.{Bool, ◌&&◌, false, true}
 use mathlib.Core.List.{List, [], ◌∷◌}
-use mathlib.Core.Path.{◌≡◌, refl, subst, sym}
+use mathlib.Core.Logic.{◌⊎◌, inl, inr}
+use mathlib.Core.Path.{◌∙◌, ◌≡◌, ap, refl, subst, sym}
 use lib.IntN.{ℤ}
 use lib.ListN.{length}
 use Rattle.binary.specs.Binary.{elements_bytes, write_binary, write_binary2}
@@ -13,6 +14,8 @@ use Rattle.cell_putting.specs.Clauses.{PutsElements, one_form}
 use Rattle.moving.specs.Cells.{MovesRead, NeverNull, PutsCell, shown_as}
 use Rattle.moving.specs.Puts.{Puts}
 use Rattle.moving.specs.declared.Moved.{Moved}
+use Rattle.number.specs.Clauses.{shape_as}
+use Rattle.number.specs.declared.Elements.{Elements}
 use Rattle.rows.specs.Stream.{write_cell}
 use Rattle.table.specs.Cell.{empty_is_null, is_null, is_null_list, is_null_of_kind, is_scalar, null, show, shown, stands_for_null}
 use Rattle.table.specs.Result.{good}
@@ -40,13 +43,17 @@ and-false : (b : Bool) → (b && false) ≡ false
 and-false true = refl
 and-false false = refl
 
-pub bits-never : (c : Column) → shape c.kind ≡ Bits → NeverNull c
+bits-never : (c : Column) → shape c.kind ≡ Bits → NeverNull c
 unfolding stands_for_null
 bits-never c q = none-stands c (λ e. rw q (and-false (is_scalar c)))
 
-pub text-never : (c : Column) → shape c.kind ≡ Text → NeverNull c
+text-never : (c : Column) → shape c.kind ≡ Text → NeverNull c
 unfolding stands_for_null
 text-never c q = none-stands c (λ e. rw q (and-false (is_scalar c)))
+
+pub neither-never : (c : Column) (e : Elements) → (e ≡ Elements.Bits) ⊎ (e ≡ Elements.Text) → shape_as e ≡ shape c.kind → NeverNull c
+neither-never c e (inl h) q = bits-never c (sym q ∙ ap shape_as h)
+neither-never c e (inr h) q = text-never c (sym q ∙ ap shape_as h)
 
 -- ---- what they show
 

@@ -61,10 +61,10 @@ fn put_flagged(column: Column, next: usize, row: &mut [u8], o: usize) -> Option<
     if row.len() - o < room_size(column, 0) {
         return None;
     }
-    let e = binary_writing::put_null(column, row, o);
+    let end = binary_writing::put_null(column, row, o);
     Some(Moved {
         next,
-        end: e,
+        end,
         null: true,
     })
 }
@@ -95,10 +95,10 @@ pub fn put_null(to: Rows, column: Column, next: usize, row: &mut [u8], o: usize)
 {
     match to {
         Rows::TableData => {
-            let e = put_empty(row, o);
+            let end = put_empty(row, o);
             Some(Moved {
                 next,
-                end: e,
+                end,
                 null: true,
             })
         }
@@ -113,11 +113,7 @@ pub fn put_null(to: Rows, column: Column, next: usize, row: &mut [u8], o: usize)
 pub fn is_text(rows: Rows) -> bool
     ensures { result ≡ is_text rows }
 {
-    match rows {
-        Rows::TableData => true,
-        Rows::Binary => false,
-        Rows::Binary2 => false,
-    }
+    matches!(rows, Rows::TableData)
 }
 
 // A number alone is handed back, since an answer with a place more would go by memory.

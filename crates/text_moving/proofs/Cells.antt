@@ -95,7 +95,7 @@ module _ (c : Column) (s : List ℕ) (place : ℕ) where
       → MovesRead (TextRead c s from) TableData to c old o new r → MovesCell TableData to c flagged s place old o new r
   text-moved to flagged old o new (Some r) from p m =
       let t = m.reads in
-      cell-moved TableData to c flagged s place (shown_as TableData c m.es) next old o new (Some (record { next = next; end = e; null = null' })) (unfold read_cell in text-reads from next m.es p t)
+      cell-moved TableData to c flagged s place (shown_as TableData c m.es) r.next old o new (Some r) (unfold read_cell in text-reads from r.next m.es p t)
       (omega (arith, p.1, t.text.spells.onward, t.next-is)) (omega (arith, t.closes.inside, t.next-is)) m.put
   text-moved to flagged old o new None from p m = m
 
