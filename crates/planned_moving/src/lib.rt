@@ -34,7 +34,7 @@ fn move_integer(
     requires { (at + size integer ≤ length s.now) × (o + most_room ≤ length row.old) }
     ensures { (from : Kinds) (c : Declared) → is_scalar c ≡ true → shape c.kind ≡ Whole (is_signed integer) (width_of integer) → c.null ≡ null → MovesRead (InBinary (shape c.kind) 1 s.now at) from to c row.old o row.new result }
 {
-    let One { value: z, next } = binary_integer(s, at, integer)?;
+    let One { value: z, next } = binary_integer(s, at, integer);
     if is_declared(null, z) {
         return None;
     }
