@@ -1,4 +1,6 @@
 -- What is read fits its column, in all kinds of rows: so it has at most as many elements as its column bounds.
+use Rattle.std.specs.Prelude.{None, Option, Some}
+use Rattle.table.specs.Clauses.{ShownUpTo, ShownWithin, shown_as}
 use Prim.Native.Nat.{◌<◌, ◌≤◌, suc, ℕ}
 use native.Mathlib.Omega.{arith}
 use mathlib.Core.Bool.{Bool, false}
@@ -39,3 +41,9 @@ found-few from c flagged s place count scratch rest a h e = few (found-fits from
   where
     few : Fits c (shown (take count scratch)) → count ≤ bound c.len
     few (fits-shown k n) = rw (length-take-le count scratch h) at k.few
+
+-- what is found is within the column's bound
+pub found-up-to : (from : Rows) (c : Column) (flagged : Bool) (s : List ℕ) (place : ℕ) (o : Option ℕ) (scratch : List ℤ) (rest : List ℕ) → AreBytes s → ShownWithin scratch o
+    → read_cell from c flagged (drop place s) ≡ good (shown_as scratch o, rest) → ShownUpTo (bound c.len) o
+found-up-to from c flagged s place None scratch rest a h e = tt
+found-up-to from c flagged s place (Some count) scratch rest a h e = found-few from c flagged s place count scratch rest a h e

@@ -1,5 +1,6 @@
 -- What is held is taken back: the cells that were read, each within its column's bound, and written as they are.
 use Prim.Native.Nat.{◌+◌, ◌-◌, ◌<◌, ◌≤◌, ℕ}
+use native.Mathlib.Nat.{add-zero}
 use native.Mathlib.Omega.{arith}
 use mathlib.Core.Bool.{Bool, false, true}
 use mathlib.Core.List.{List, [], ◌++◌, ◌∷◌, append_assoc, append-nil}
@@ -10,10 +11,12 @@ use lib.ListN.{drop, drop_of_length-le, length, length-append, length-drop, take
 use lib.Seq.{drop-append_seam, drop-drop, take-append_seam, take-length}
 use borrow.Author.Tests.{ltb-false, ltb-true}
 use Rattle.row_writing.proofs.RowForm.{form-bytes, joined, placed}
-use Rattle.row_writing.specs.Clauses.{FewIn, HeldAt, HeldWithin, cell_form, held_cell, held_next, rest_of, row_form}
+use Rattle.row_writing.specs.Clauses.{FewIn, HeldAt, HeldIs, HeldWithin, cell_form, held_cell, held_next, rest_of, row_form}
 use Rattle.rows.specs.Stream.{flag, flags_left, write_cell, write_cells}
 use Rattle.table.specs.Cell.{Cell, bound, null, shown}
+use Rattle.table.specs.Clauses.{ShownUpTo, ShownWithin, shown_as}
 use Rattle.table.specs.Outcome.{at}
+use Rattle.std.specs.Prelude.{None, Option, Some, unwrap_or}
 use Rattle.table.specs.Result.{good, refused_as}
 use Rattle.table.specs.declared.Column.{Column}
 use Rattle.table.specs.declared.Rows.{Rows}
@@ -76,17 +79,20 @@ held-inside c l place h = go (ltb place (length l)) refl
     go true q = ltb-true place (length l) q
     go false q = absurd (subst (HeldAt c) (drop_of_length-le l (ltb-false place (length l) q)) h)
 
-pub next-null : (c : Column) (l : List ℤ) (place k : ℕ) → drop place l ≡ negsuc k ∷ drop (place + 1) l → held_next c false (drop place l) ≡ good (null, drop (place + 1) l)
+pub next-held : (c : Column) (l : List ℤ) (place : ℕ) (o : Option ℕ) → HeldIs l place o
+    → held_next c false (drop place l) ≡ good (shown_as (drop (place + 1) l) o, drop (place + 1 + unwrap_or o 0) l)
 unfolding held_next
-next-null c l place k e = rw e
+next-held c l place None h = rw (h.1, add-zero)
+next-held c l place (Some n) e = rw e (ap (λ (m : List ℤ). good (shown (take n (drop (place + 1) l)), m)) (drop-drop n (place + 1) l))
 
-pub next-shown : (c : Column) (l : List ℤ) (place n : ℕ) → drop place l ≡ pos n ∷ drop (place + 1) l
-    → held_next c false (drop place l) ≡ good (shown (take n (drop (place + 1) l)), drop (place + 1 + n) l)
-unfolding held_next
-next-shown c l place n e = rw e (ap (λ (m : List ℤ). good (shown (take n (drop (place + 1) l)), m)) (drop-drop n (place + 1) l))
+pub shown-within : (c : Column) (l : List ℤ) (place : ℕ) (o : Option ℕ) → HeldIs l place o → HeldAt c (drop place l) → ShownUpTo (bound c.len) o × ShownWithin (drop (place + 1) l) o
+shown-within c l place None e h = (tt, tt)
+shown-within c l place (Some n) e h = subst (HeldAt c) e h
 
-pub shown-within : (c : Column) (l : List ℤ) (place n : ℕ) → drop place l ≡ pos n ∷ drop (place + 1) l → HeldAt c (drop place l) → (n ≤ bound c.len) × (n ≤ length (drop (place + 1) l))
-shown-within c l place n e h = subst (HeldAt c) e h
+-- what is behind the cell is inside
+pub shown-inside : (l : List ℤ) (o : Option ℕ) → ShownWithin l o → unwrap_or o 0 ≤ length l
+shown-inside l None h = omega arith
+shown-inside l (Some n) h = h
 
 -- a part that goes to the end
 pub part-all : (first : ℕ) (l : List ℤ) → take (length l - first) (drop first l) ≡ drop first l

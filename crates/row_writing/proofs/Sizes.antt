@@ -25,8 +25,9 @@ use Rattle.table.specs.Shape.{Bits, Shape, Text, Truths, Whole, shape}
 use Rattle.table.specs.declared.Column.{Column}
 use Rattle.table.specs.declared.Rows.{Rows}
 use Rattle.table.specs.declared.Rows.TheVariants.{Binary, Binary2, TableData}
-use Rattle.table.specs.declared.Size.{Size}
-use Rattle.table.specs.declared.Size.TheVariants.{Bytes, NoForm}
+use Rattle.table.specs.declared.Reason.{Reason}
+use Rattle.table.specs.Reasons.{number_of}
+use Rattle.std.specs.Prelude.{Err, Ok, Result as Returned}
 use Rattle.tabledata_writing.proofs.Writing.{truth-long}
 use Rattle.tabledata.specs.TableData.{bit_text, close-TD, element_bytes, element_text, escaped, form_of, forms, is_text, open-TD, spaced, tagged, truth_text, write_text}
 
@@ -101,11 +102,11 @@ sized-bad : (n : ℕ) (x : Result ℕ (List ℕ)) → bad n ≡ size_of x → x 
 sized-bad n (good b) e = absurd (bad-good e)
 sized-bad n (bad k) e = let q : n ≡ k = cc in rw q
 
-size-within : (to : Rows) (c : Column) (x : Cell) (r : Size) → Holds (λ (b : List ℕ). length b ≤ most_cell_bytes) (write_cell to c x) → size_as r ≡ size_of (write_cell to c x) → SizeWithin r
-size-within to c x (Bytes n) h e = good-within n (write_cell to c x) h e
-size-within to c x (NoForm n) h e = omega (arith, (fails-at (write-cell-fails to c x) (sized-bad n (write_cell to c x) e)).0)
+size-within : (to : Rows) (c : Column) (x : Cell) (r : Returned ℕ Reason) → Holds (λ (b : List ℕ). length b ≤ most_cell_bytes) (write_cell to c x) → size_as r ≡ size_of (write_cell to c x) → SizeWithin r
+size-within to c x (Ok n) h e = good-within n (write_cell to c x) h e
+size-within to c x (Err r) h e = omega (arith, (fails-at (write-cell-fails to c x) (sized-bad (number_of r) (write_cell to c x) e)).0)
 
-pub sized : (to : Rows) (c : Column) (x : Cell) (r : Size) → bound c.len ≤ most_elements → Few c x → size_as r ≡ size_of (write_cell to c x) → (size_as r ≡ size_of (write_cell to c x)) × SizeWithin r
+pub sized : (to : Rows) (c : Column) (x : Cell) (r : Returned ℕ Reason) → bound c.len ≤ most_elements → Few c x → size_as r ≡ size_of (write_cell to c x) → (size_as r ≡ size_of (write_cell to c x)) × SizeWithin r
 sized to c x r b f e = (e, size-within to c x r (cell-small to c x b f) e)
 
 -- ---- what begins a row that is written

@@ -1,24 +1,22 @@
 -- What the functions that write rows promise: the bytes of a cell, of a row, and the cells of a row as the scratch holds them.
-use Rattle.std.specs.Prelude.{◌+◌, ◌<◌, ◌≤◌, ℕ, Bool, false, List, [], ◌++◌, ◌∷◌, ◌≡◌, negsuc, pos, ℤ, drop, length, take}
+use Rattle.std.specs.Prelude.{Result as Returned, Ok, Err, Option, None, Some, ◌+◌, ◌<◌, ◌≤◌, ℕ, Bool, false, List, [], ◌++◌, ◌∷◌, ◌≡◌, negsuc, pos, ℤ, drop, length, take}
 use Rattle.std.proofs.lemmas.List.Edits.{sets}
 use Rattle.binary.specs.Binary.{pack, write_binary, write_binary2}
 use Rattle.table.specs.ColumnList.{listed}
 use Rattle.number.specs.Number.{to_digits}
 use Rattle.row_reading.specs.Clauses.{flags_in}
-use Rattle.row_writing.specs.declared.Held.{Held}
-use Rattle.row_writing.specs.declared.Holding.{Holding}
 use Rattle.row_writing.specs.declared.Writing.{Writing}
 use Rattle.rows.specs.Stream.{flag, flags_left, read_cell, write_end}
 use Rattle.table.specs.Bytes.{bytes}
 use Rattle.table.specs.Cell.{Cell, bound, null, shown}
 use Rattle.table.specs.Clauses.{form_bytes}
+use Rattle.table.specs.Reasons.{number_of}
+use Rattle.table.specs.declared.Reason.{Reason}
 use Rattle.table.specs.Result.{Result, bad, good}
 use Rattle.table.specs.declared.Column.{Column}
 use Rattle.table.specs.declared.Columns.{Columns}
 use Rattle.table.specs.declared.Rows.{Rows}
 use Rattle.table.specs.declared.Rows.TheVariants.{Binary, Binary2, TableData}
-use Rattle.table.specs.declared.Size.{Size}
-use Rattle.table.specs.declared.Size.TheVariants.{Bytes, NoForm}
 use Rattle.tabledata.specs.TableData.{open-TR, text_bytes}
 
 -- what is written before a row's cells, from the word of its null cells
@@ -32,9 +30,9 @@ abbrev pub most_cell_bytes : ℕ
 most_cell_bytes = 100000
 
 -- so much and no more, and no refusal has the number 0
-abbrev pub SizeWithin : Size → Type 0
-SizeWithin (Bytes n) = n ≤ most_cell_bytes
-SizeWithin (NoForm n) = 0 < n
+abbrev pub SizeWithin : Returned ℕ Reason → Type 0
+SizeWithin (Ok n) = n ≤ most_cell_bytes
+SizeWithin (Err e) = 0 < number_of e
 
 -- ---- the cells of a row, held in the scratch
 
@@ -97,9 +95,9 @@ abbrev pub held_form : Rows → Columns → List ℤ → List ℕ
 held_form to cols l = row_form held_next to (listed cols) [] l
 
 -- the cells of a row, from the scratch where that holds them
-abbrev pub put_form : Rows → Rows → Columns → ℕ → List ℕ → List ℤ → Holding → List ℕ
-put_form from to cols flags s l (Holding.Holds n) = held_form to cols l
-put_form from to cols flags s l Holding.Lost = read_form from to cols flags s
+abbrev pub put_form : Rows → Rows → Columns → ℕ → List ℕ → List ℤ → Option ℕ → List ℕ
+put_form from to cols flags s l (Some n) = held_form to cols l
+put_form from to cols flags s l None = read_form from to cols flags s
 
 -- the counts that are held are within the columns' bounds and within the scratch
 abbrev pub HeldAt : Column → List ℤ → Type 0
@@ -111,10 +109,10 @@ abbrev pub HeldWithin : List Column → List ℤ → Type 0
 HeldWithin [] l = Unit {0}
 HeldWithin (c ∷ cs) l = HeldAt c l × HeldWithin cs (rest_of (held_next c false l))
 
-abbrev pub HeldIs : List ℤ → ℕ → Held → Type 0
-HeldIs l place Held.Null = (k : ℕ) × (drop place l ≡ negsuc k ∷ drop (place + 1) l)
-HeldIs l place (Held.Shown n) = drop place l ≡ pos n ∷ drop (place + 1) l
+abbrev pub HeldIs : List ℤ → ℕ → Option ℕ → Type 0
+HeldIs l place None = (k : ℕ) × (drop place l ≡ negsuc k ∷ drop (place + 1) l)
+HeldIs l place (Some n) = drop place l ≡ pos n ∷ drop (place + 1) l
 
-abbrev pub HeldReady : List Column → List ℤ → Holding → Type 0
-HeldReady cs l (Holding.Holds n) = HeldWithin cs l
-HeldReady cs l Holding.Lost = Unit {0}
+abbrev pub HeldReady : List Column → List ℤ → Option ℕ → Type 0
+HeldReady cs l (Some n) = HeldWithin cs l
+HeldReady cs l None = Unit {0}

@@ -4,7 +4,7 @@
 
 ghost use Rattle.std.specs.Prelude.{◌≡◌, false, ℕ, ◌+◌, ◌<◌, ◌≤◌, drop, length};
 ghost use Rattle.table.specs.Cell.{bound, most_elements};
-ghost use Rattle.table.specs.Clauses.{held, size_as, size_of};
+ghost use Rattle.table.specs.Clauses.{ShownUpTo, ShownWithin, shown_as, size_as, size_of};
 ghost use Rattle.table.specs.Wrote.{Wrote};
 ghost use Rattle.table.specs.ColumnList.{listed};
 ghost use Rattle.rows.specs.Bounds.{Within};
@@ -15,22 +15,8 @@ use binary_writing::{size_binary, size_binary2, write_binary, write_binary2};
 use flags::write_flags;
 use row_reading::{flag_of, read_cell};
 use row_tags::{write_row_end, write_row_start};
-use table::{Column, Columns, Found, Rows, Size};
+use table::{Column, Columns, Reason, Rows};
 use tabledata_writing::{size_text, write_text};
-
-// The cells of a row in the scratch, each with its count before it: so much of the scratch holds them, or they are not held.
-#[derive(Clone, Copy)]
-pub enum Holding {
-    Holds(usize),
-    Lost,
-}
-
-// A cell that the scratch holds.
-#[derive(Clone, Copy)]
-enum Held {
-    Null,
-    Shown(usize),
-}
 
 // A row while it is written: the next cell's place in the input, or in the scratch that holds it, and in the output.
 #[derive(Clone, Copy)]
@@ -41,14 +27,19 @@ struct Writing {
 
 // ---- what each kind of rows does
 
-pub fn size_cell(to: Rows, column: Column, null: bool, count: usize, scratch: &[i64]) -> Size
-    requires { (bound column.len ≤ most_elements) × (count ≤ bound column.len) × (count ≤ length scratch.now) }
-    ensures { (size_as result ≡ size_of (write_cell to column (held null count scratch.now))) × SizeWithin result }
+pub fn size_cell(
+    to: Rows,
+    column: Column,
+    shown: Option<usize>,
+    scratch: &[i64],
+) -> Result<usize, Reason>
+    requires { (bound column.len ≤ most_elements) × ShownUpTo (bound column.len) shown × ShownWithin scratch.now shown }
+    ensures { (size_as result ≡ size_of (write_cell to column (shown_as scratch.now shown))) × SizeWithin result }
 {
     match to {
-        Rows::TableData => size_text(column, null, count, scratch),
-        Rows::Binary => size_binary(column, null, count, scratch),
-        Rows::Binary2 => Size::Bytes(size_binary2(column, null, count, scratch)),
+        Rows::TableData => size_text(column, shown, scratch),
+        Rows::Binary => size_binary(column, shown, scratch),
+        Rows::Binary2 => Ok(size_binary2(column, shown, scratch)),
     }
 }
 
@@ -56,20 +47,19 @@ pub fn size_cell(to: Rows, column: Column, null: bool, count: usize, scratch: &[
 pub fn write_cell(
     to: Rows,
     column: Column,
-    null: bool,
-    count: usize,
+    shown: Option<usize>,
     scratch: &[i64],
     out: &mut [u8],
     at: usize,
 ) -> usize
-    requires len_bound { (bound column.len ≤ most_elements) × (count ≤ bound column.len) × (count ≤ length scratch.now) }
-    requires scratch_in_bounds { at + length (cell_bytes to column (held null count scratch.now)) ≤ length out.old }
-    ensures { Wrote out.old at (cell_bytes to column (held null count scratch.now)) out.new result }
+    requires len_bound { (bound column.len ≤ most_elements) × ShownUpTo (bound column.len) shown × ShownWithin scratch.now shown }
+    requires scratch_in_bounds { at + length (cell_bytes to column (shown_as scratch.now shown)) ≤ length out.old }
+    ensures { Wrote out.old at (cell_bytes to column (shown_as scratch.now shown)) out.new result }
 {
     match to {
-        Rows::TableData => write_text(column, null, count, scratch, out, at),
-        Rows::Binary => write_binary(column, null, count, scratch, out, at),
-        Rows::Binary2 => write_binary2(column, null, count, scratch, out, at),
+        Rows::TableData => write_text(column, shown, scratch, out, at),
+        Rows::Binary => write_binary(column, shown, scratch, out, at),
+        Rows::Binary2 => write_binary2(column, shown, scratch, out, at),
     }
 }
 
@@ -144,18 +134,17 @@ fn rewrite(
     ensures rewritten { Rewritten (read_cell from) to column flagged s.now w out.old out.new result }
     ensures scratch_len_unchanged { length scratch.new ≡ length scratch.old }
 {
-    let at = w.at;
-    let o = w.to;
-    let found = read_cell(from, s, at, column, flagged, scratch);
-    match found {
-        Found::Refused(_n) => Writing { at: s.len(), to: o },
-        Found::Null(next) => {
-            let e = write_cell(to, column, true, 0, scratch, out, o);
-            Writing { at: next, to: e }
-        }
-        Found::Shown(n, next) => {
-            let e = write_cell(to, column, false, n, scratch, out, o);
-            Writing { at: next, to: e }
+    match read_cell(from, s, w.at, column, flagged, scratch) {
+        Err(_reason) => Writing {
+            at: s.len(),
+            to: w.to,
+        },
+        Ok(found) => {
+            let e = write_cell(to, column, found.shown, scratch, out, w.to);
+            Writing {
+                at: found.next,
+                to: e,
+            }
         }
     }
 }
@@ -184,12 +173,10 @@ fn write_row(
         at: body,
         to: first,
     };
-    let mut j: usize = 0;
-    while j < count {
+    for j in 0..count {
         let c = cols.list[j];
         let flagged = flag_of(from, flags, count, j);
         w = rewrite(w, from, to, c, flagged, s, scratch, out);
-        j += 1;
     }
     let last = w.to;
     write_end(to, out, last)
@@ -197,16 +184,16 @@ fn write_row(
 
 // ---- a row from the scratch
 
-// What the scratch holds at a place: null, or so many elements behind it.
-fn held_at(scratch: &[i64], at: usize) -> Held
+// What the scratch holds at a place: so many elements behind it, or null.
+fn held_at(scratch: &[i64], at: usize) -> Option<usize>
     requires { at < length scratch.now }
     ensures { HeldIs scratch.now at result }
 {
     let n = scratch[at];
     if 0 <= n {
-        return Held::Shown(n as usize);
+        return Some(n as usize);
     }
-    Held::Null
+    None
 }
 
 // Writes a cell that the scratch holds.
@@ -215,22 +202,12 @@ fn write_held_cell(w: Writing, to: Rows, column: Column, scratch: &[i64], out: &
     requires scratch_in_bounds { w.to + length (cell_form to column (held_next column false (drop w.at scratch.now))) ≤ length out.old }
     ensures { Rewritten held_next to column false scratch.now w out.old out.new result }
 {
-    let at = w.at;
-    let o = w.to;
-    let held = held_at(scratch, at);
-    let first = at + 1;
-    match held {
-        Held::Null => {
-            let e = write_cell(to, column, true, 0, scratch, out, o);
-            Writing { at: first, to: e }
-        }
-        Held::Shown(n) => {
-            let e = write_cell(to, column, false, n, &scratch[first..], out, o);
-            Writing {
-                at: first + n,
-                to: e,
-            }
-        }
+    let shown = held_at(scratch, w.at);
+    let first = w.at + 1;
+    let e = write_cell(to, column, shown, &scratch[first..], out, w.to);
+    Writing {
+        at: first + shown.unwrap_or(0),
+        to: e,
     }
 }
 
@@ -250,17 +227,15 @@ fn write_held_row(
     let count = cols.count;
     let first = write_start(to, count, nulls, out, at);
     let mut w = Writing { at: 0, to: first };
-    let mut j: usize = 0;
-    while j < count {
+    for j in 0..count {
         let c = cols.list[j];
         w = write_held_cell(w, to, c, scratch, out);
-        j += 1;
     }
     let last = w.to;
     write_end(to, out, last)
 }
 
-// Writes a row that fits, from the scratch where that holds its cells; else they are read once more. The place after it.
+// Writes a row that fits, from the scratch where that holds its cells, in so much of it; else they are read once more. The place after it.
 pub fn put_row(
     cols: Columns,
     from: Rows,
@@ -269,7 +244,7 @@ pub fn put_row(
     flags: u64,
     body: usize,
     nulls: u64,
-    holding: Holding,
+    holding: Option<usize>,
     out: &mut [u8],
     at: usize,
     scratch: &mut [i64],
@@ -280,7 +255,7 @@ pub fn put_row(
     ensures scratch_len_unchanged { length scratch.new ≡ length scratch.old }
 {
     match holding {
-        Holding::Holds(_n) => write_held_row(cols, to, nulls, scratch, out, at),
-        Holding::Lost => write_row(cols, from, to, s, flags, body, nulls, out, at, scratch),
+        Some(_n) => write_held_row(cols, to, nulls, scratch, out, at),
+        None => write_row(cols, from, to, s, flags, body, nulls, out, at, scratch),
     }
 }

@@ -6,37 +6,37 @@ use lib.ListN.{drop, length}
 use Rattle.table.specs.ColumnList.{listed}
 use Rattle.table.proofs.Wrote.{wrote_as}
 use Rattle.row_writing.specs.Clauses.{HeldReady, put_form, row_bytes}
-use Rattle.row_writing.specs.declared.Holding.{Holding}
+use Rattle.std.specs.Prelude.{Option}
 use Rattle.row_writing.proofs.put_row.Goals as goal
 
 pub write_held_row-requires : goal.write_held_row-requires
 write_held_row-requires c =
-    let form : Holding → List ℕ = λ h. (row_bytes c.args.to c.args.cols.count c.args.nulls
+    let form : Option ℕ → List ℕ = λ h. (row_bytes c.args.to c.args.cols.count c.args.nulls
     (put_form c.args.from c.args.to c.args.cols c.args.flags (drop c.args.body c.args.s.now) c.args.scratch.now h)) in
-    let e = c.in-Holds.is in
+    let e = c.in-Some.is in
     record {
       within = (c.requires.within.0, subst (HeldReady (listed c.args.cols) c.args.scratch.now) e c.requires.within.3);
-      scratch_in_bounds = subst (λ (h : Holding). c.args.at + length (form h) ≤ length c.args.out.now) e c.requires.holding_in_bounds;
+      scratch_in_bounds = subst (λ (h : Option ℕ). c.args.at + length (form h) ≤ length c.args.out.now) e c.requires.holding_in_bounds;
     }
 
 pub write_row-requires : goal.write_row-requires
 write_row-requires c =
-    let form : Holding → List ℕ = λ h. (row_bytes c.args.to c.args.cols.count c.args.nulls
+    let form : Option ℕ → List ℕ = λ h. (row_bytes c.args.to c.args.cols.count c.args.nulls
     (put_form c.args.from c.args.to c.args.cols c.args.flags (drop c.args.body c.args.s.now) c.args.scratch.now h)) in
-    let e = c.in-Lost.is in
+    let e = c.in-None.is in
     record {
       within = (c.requires.within.0, c.requires.within.1, c.requires.within.2);
-      s_in_bounds = subst (λ (h : Holding). c.args.at + length (form h) ≤ length c.args.out.now) e c.requires.holding_in_bounds;
+      s_in_bounds = subst (λ (h : Option ℕ). c.args.at + length (form h) ≤ length c.args.out.now) e c.requires.holding_in_bounds;
     }
 
-pub returns-in-Holds : goal.returns-in-Holds
-returns-in-Holds c =
-    let form : Holding → List ℕ = λ h. (row_bytes c.args.to c.args.cols.count c.args.nulls
+pub returns-in-Some : goal.returns-in-Some
+returns-in-Some c =
+    let form : Option ℕ → List ℕ = λ h. (row_bytes c.args.to c.args.cols.count c.args.nulls
     (put_form c.args.from c.args.to c.args.cols c.args.flags (drop c.args.body c.args.s.now) c.args.scratch.now h)) in
-    let e = c.in-Holds.is in record { wrote = wrote_as (ap form (sym e)) c.write_held_row.ensures; scratch_len_unchanged = refl }
+    let e = c.in-Some.is in record { wrote = wrote_as (ap form (sym e)) c.write_held_row.ensures; scratch_len_unchanged = refl }
 
-pub returns-in-Lost : goal.returns-in-Lost
-returns-in-Lost c =
-    let form : Holding → List ℕ = λ h. (row_bytes c.args.to c.args.cols.count c.args.nulls
+pub returns-in-None : goal.returns-in-None
+returns-in-None c =
+    let form : Option ℕ → List ℕ = λ h. (row_bytes c.args.to c.args.cols.count c.args.nulls
     (put_form c.args.from c.args.to c.args.cols c.args.flags (drop c.args.body c.args.s.now) c.args.scratch.now h)) in
-    let e = c.in-Lost.is in record { wrote = wrote_as (ap form (sym e)) c.write_row.ensures.wrote; scratch_len_unchanged = c.write_row.ensures.scratch_len_unchanged }
+    let e = c.in-None.is in record { wrote = wrote_as (ap form (sym e)) c.write_row.ensures.wrote; scratch_len_unchanged = c.write_row.ensures.scratch_len_unchanged }

@@ -3,7 +3,7 @@ use Prim.Native.Nat.{◌+◌, ◌≤◌}
 use mathlib.Core.Path.{subst}
 use lib.ListN.{length}
 use Rattle.table.specs.declared.Rows.{Rows}
-use Rattle.table.specs.Clauses.{held}
+use Rattle.table.specs.Clauses.{shown_as}
 use Rattle.row_writing.specs.Clauses.{cell_bytes}
 use Rattle.row_writing.proofs.write_cell.Goals as goal
 
@@ -11,7 +11,7 @@ pub write_text-requires : goal.write_text-requires
 unfolding cell_bytes
 write_text-requires c = (
   c.requires.len_bound.2,
-  subst (λ (r : Rows). c.args.at + length (cell_bytes r c.args.column (held c.args.null c.args.count c.args.scratch.now)) ≤ length
+  subst (λ (r : Rows). c.args.at + length (cell_bytes r c.args.column (shown_as c.args.scratch.now c.args.shown)) ≤ length
       c.args.out.now) c.in-TableData.is c.requires.scratch_in_bounds,
 )
 
@@ -20,7 +20,7 @@ unfolding cell_bytes
 write_binary-requires c =
     record {
       len_bound = c.requires.len_bound;
-      scratch_in_bounds = subst (λ (r : Rows). c.args.at + length (cell_bytes r c.args.column (held c.args.null c.args.count c.args.scratch.now)) ≤ length
+      scratch_in_bounds = subst (λ (r : Rows). c.args.at + length (cell_bytes r c.args.column (shown_as c.args.scratch.now c.args.shown)) ≤ length
           c.args.out.now) c.in-Binary.is c.requires.scratch_in_bounds;
     }
 
@@ -29,7 +29,7 @@ unfolding cell_bytes
 write_binary2-requires c =
     record {
       len_bound = c.requires.len_bound;
-      scratch_in_bounds = subst (λ (r : Rows). c.args.at + length (cell_bytes r c.args.column (held c.args.null c.args.count c.args.scratch.now)) ≤ length
+      scratch_in_bounds = subst (λ (r : Rows). c.args.at + length (cell_bytes r c.args.column (shown_as c.args.scratch.now c.args.shown)) ≤ length
           c.args.out.now) c.in-Binary2.is c.requires.scratch_in_bounds;
     }
 

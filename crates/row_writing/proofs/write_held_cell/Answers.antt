@@ -1,93 +1,51 @@
--- row_writing::write_held_cell: a cell that is held is written: by what stands at its place, each way is one law of HeldForm.
-use Prim.Native.Nat.{◌+◌, ◌<◌, ◌≤◌, ℕ}
+-- row_writing::write_held_cell: a cell that is held is written: what stands at its place is one law of HeldForm.
+use Prim.Native.Nat.{◌+◌, ◌≤◌}
 use mathlib.Core.Bool.{false}
-use mathlib.Core.List.{List, ◌∷◌}
-use mathlib.Core.Path.{◌≡◌, subst, sym}
-use lib.IntN.{pos, ℤ}
-use lib.ListN.{drop, length, length-drop, take}
+use mathlib.Core.List.{List}
+use mathlib.Core.Path.{subst, sym}
+use lib.IntN.{ℤ}
+use lib.ListN.{drop, length, length-drop}
 use Rattle.row_writing.proofs.RowForm.{form-found, rewritten}
-use Rattle.row_writing.proofs.HeldForm.{held-inside, next-null, next-shown, part-all, shown-within}
-use Rattle.row_writing.specs.Clauses.{HeldIs, cell_bytes, held_next}
-use Rattle.table.specs.Cell.{bound, null, shown}
+use Rattle.row_writing.proofs.HeldForm.{held-inside, next-held, part-all, shown-inside, shown-within}
+use Rattle.row_writing.specs.Clauses.{cell_bytes, held_next}
+use Rattle.table.specs.Clauses.{ShownWithin, shown_as}
 use Rattle.table.specs.Wrote.{Wrote}
 use native.Mathlib.Omega.{arith}
 use Rattle.row_writing.proofs.write_held_cell.Goals as goal
 
-pub held_at-held-requires : goal.held_at-held-requires
-held_at-held-requires c =
-    let inside : c.args.w.at < length c.args.scratch.now = held-inside c.args.column c.args.scratch.now c.args.w.at c.requires.len_bound.1 in
-    inside
+pub held_at-shown-requires : goal.held_at-shown-requires
+held_at-shown-requires c = held-inside c.args.column c.args.scratch.now c.args.w.at c.requires.len_bound.1
 
 pub overflow_add-first : goal.overflow_add-first
-overflow_add-first c =
-    let inside : c.args.w.at < length c.args.scratch.now = held-inside c.args.column c.args.scratch.now c.args.w.at c.requires.len_bound.1 in
-    omega (arith, inside, c.well_formed)
+overflow_add-first c = omega (arith, held-inside c.args.column c.args.scratch.now c.args.w.at c.requires.len_bound.1, c.well_formed)
 
-pub write_cell-e-requires : goal.write_cell-e-requires
-write_cell-e-requires c =
+pub write_cell-e-requires-clause-len_bound : goal.write_cell-e-requires-clause-len_bound
+write_cell-e-requires-clause-len_bound c =
     let l = c.args.scratch.now in
-    let h = subst (HeldIs l c.args.w.at) c.in-Null.is c.held_at-held.ensures in
-    let e = next-null c.args.column l c.args.w.at h.0 h.1 in
-    record {
-      len_bound = (c.requires.len_bound.0, omega arith, omega arith);
-      scratch_in_bounds = rw (← form-found c.args.to c.args.column _ null _ e) c.requires.scratch_in_bounds;
-    }
+    let w = shown-within c.args.column l c.args.w.at _ c.held_at-shown.ensures c.requires.len_bound.1 in
+    (c.requires.len_bound.0, w.0, subst (λ (m : List ℤ). ShownWithin m c.held_at-shown.result) (sym (part-all (c.args.w.at + 1) l)) w.1)
 
-pub offset_bounds-scratch-first : goal.offset_bounds-scratch-first
-offset_bounds-scratch-first c =
-    let inside : c.args.w.at < length c.args.scratch.now = held-inside c.args.column c.args.scratch.now c.args.w.at c.requires.len_bound.1 in
-    omega (arith, inside, c.well_formed)
-
-pub slice_bounds-write_cell-count : goal.slice_bounds-write_cell-count
-slice_bounds-write_cell-count c =
-    let inside : c.args.w.at < length c.args.scratch.now = held-inside c.args.column c.args.scratch.now c.args.w.at c.requires.len_bound.1 in
-    omega (arith, inside)
-
-pub write_cell-e-requires-in-Shown : goal.write_cell-e-requires-in-Shown
-write_cell-e-requires-in-Shown c =
-    let count : ℕ = c.in-Shown.n in
-    let place : ℕ = c.args.w.at in
-    let scratch : List ℤ = c.args.scratch.now in
-    let counted : drop place scratch ≡ pos count ∷ drop (place + 1) scratch = subst (HeldIs scratch place) c.in-Shown.is c.held_at-held.ensures in
-    let within : (count ≤ bound c.args.column.len) × (count ≤ length (drop (place + 1) scratch)) = shown-within c.args.column scratch place count counted c.requires.len_bound.1 in
-    let e = next-shown c.args.column scratch place count counted in
-    let p = sym (part-all (place + 1) scratch) in
-    record {
-      len_bound = (c.requires.len_bound.0, within.0, subst (λ (m : List ℤ). count ≤ length m) p within.1);
-      scratch_in_bounds = subst (λ (m : List ℤ). c.args.w.to + length (cell_bytes c.args.to c.args.column (shown (take count m))) ≤ length c.args.out.now) p
-          (rw (← form-found c.args.to c.args.column _ (shown _) _ e) c.requires.scratch_in_bounds);
-    }
+pub write_cell-e-requires-clause-scratch_in_bounds : goal.write_cell-e-requires-clause-scratch_in_bounds
+write_cell-e-requires-clause-scratch_in_bounds c =
+    let l = c.args.scratch.now in
+    let e = next-held c.args.column l c.args.w.at _ c.held_at-shown.ensures in
+    subst (λ (m : List ℤ). c.args.w.to + length (cell_bytes c.args.to c.args.column (shown_as m c.held_at-shown.result)) ≤ length c.args.out.now)
+    (sym (part-all (c.args.w.at + 1) l)) (rw (← form-found c.args.to c.args.column _ _ _ e) c.requires.scratch_in_bounds)
 
 pub overflow_add-result : goal.overflow_add-result
 overflow_add-result c =
-    let inside : c.args.w.at < length c.args.scratch.now = held-inside c.args.column c.args.scratch.now c.args.w.at c.requires.len_bound.1 in
-    let count : ℕ = c.in-Shown.n in
-    let place : ℕ = c.args.w.at in
-    let scratch : List ℤ = c.args.scratch.now in
-    let counted : drop place scratch ≡ pos count ∷ drop (place + 1) scratch = subst (HeldIs scratch place) c.in-Shown.is c.held_at-held.ensures in
-    let within : (count ≤ bound c.args.column.len) × (count ≤ length (drop (place + 1) scratch)) = shown-within c.args.column scratch place count counted c.requires.len_bound.1 in
-    let behind : place + 1 + count ≤ length scratch = omega (arith, within.1, length-drop (place + 1) scratch, inside) in
-    omega (arith, behind, c.well_formed)
-
-pub returns-in-Null : goal.returns-in-Null
-returns-in-Null c =
-    let inside : c.args.w.at < length c.args.scratch.now = held-inside c.args.column c.args.scratch.now c.args.w.at c.requires.len_bound.1 in
     let l = c.args.scratch.now in
-    let h = subst (HeldIs l c.args.w.at) c.in-Null.is c.held_at-held.ensures in
-    rewritten held_next c.args.to c.args.column false l c.args.w _ _ _ _ null (next-null c.args.column l c.args.w.at h.0 h.1) (omega (arith, inside))
-    c.write_cell-e.ensures
+    let inside = held-inside c.args.column l c.args.w.at c.requires.len_bound.1 in
+    let w = shown-inside _ _ (shown-within c.args.column l c.args.w.at _ c.held_at-shown.ensures c.requires.len_bound.1).1 in
+    omega (arith, w, c.unwrap_or.ensures, length-drop (c.args.w.at + 1) l, inside, c.well_formed)
 
-pub returns-in-Shown : goal.returns-in-Shown
-returns-in-Shown c =
-    let inside : c.args.w.at < length c.args.scratch.now = held-inside c.args.column c.args.scratch.now c.args.w.at c.requires.len_bound.1 in
-    let count : ℕ = c.in-Shown.n in
-    let place : ℕ = c.args.w.at in
-    let scratch : List ℤ = c.args.scratch.now in
-    let counted : drop place scratch ≡ pos count ∷ drop (place + 1) scratch = subst (HeldIs scratch place) c.in-Shown.is c.held_at-held.ensures in
-    let within : (count ≤ bound c.args.column.len) × (count ≤ length (drop (place + 1) scratch)) = shown-within c.args.column scratch place count counted c.requires.len_bound.1 in
-    let behind : place + 1 + count ≤ length scratch = omega (arith, within.1, length-drop (place + 1) scratch, inside) in
-    rewritten held_next c.args.to c.args.column false scratch c.args.w _ _ _ _ (shown (take count (drop (place + 1) scratch)))
-    (next-shown c.args.column scratch place count counted) behind
-    (subst (λ (m : List ℤ). Wrote c.args.out.now c.args.w.to (cell_bytes c.args.to c.args.column (shown (take count m)))
-    c.write_cell-e-in-Shown.new.out c.write_cell-e-in-Shown.result)
-    (part-all (place + 1) scratch) c.write_cell-e-in-Shown.ensures)
+pub returns : goal.returns
+returns c =
+    let l = c.args.scratch.now in
+    let inside = held-inside c.args.column l c.args.w.at c.requires.len_bound.1 in
+    let w = shown-inside _ _ (shown-within c.args.column l c.args.w.at _ c.held_at-shown.ensures c.requires.len_bound.1).1 in
+    rw c.unwrap_or.ensures
+    (rewritten held_next c.args.to c.args.column false l c.args.w _ _ _ _ (shown_as (drop (c.args.w.at + 1) l) c.held_at-shown.result)
+    (next-held c.args.column l c.args.w.at _ c.held_at-shown.ensures) (omega (arith, w, length-drop (c.args.w.at + 1) l, inside))
+    (subst (λ (m : List ℤ). Wrote c.args.out.now c.args.w.to (cell_bytes c.args.to c.args.column (shown_as m c.held_at-shown.result)) c.write_cell-e.new.out c.write_cell-e.result)
+    (part-all (c.args.w.at + 1) l) c.write_cell-e.ensures))

@@ -59,14 +59,6 @@ write_held_cell-w-requires c =
           (get_or cols.list c.loop-j.j no_column) more (listed_next cols c.loop-j.j t) false (no_flag c.loop-j.j) (omega (arith, room-left));
     }
 
-pub overflow_add-j : goal.overflow_add-j
-overflow_add-j c =
-    let few : c.args.cols.count ≤ 64 = omega (arith, c.requires.within.0.few, listed-length c.args.cols) in
-    omega (arith, few, c.loop-j-test.true)
-
-pub loop-j-smaller : goal.loop-j-smaller
-loop-j-smaller c = omega (arith, c.loop-j-test.true)
-
 pub loop-j-preserved : goal.loop-j-preserved
 loop-j-preserved c =
     let headed : List ℕ = c.write_start-first.new.out in

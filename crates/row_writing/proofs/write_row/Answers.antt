@@ -75,14 +75,6 @@ rewrite-w-requires c =
           (get_or cols.list c.loop-j.j no_column) more (listed_next cols c.loop-j.j t) f.result f.ensures (omega (arith, room-left));
     }
 
-pub overflow_add-j : goal.overflow_add-j
-overflow_add-j c =
-    let few : c.args.cols.count ≤ 64 = omega (arith, c.requires.within.0.few, listed-length c.args.cols) in
-    omega (arith, few, c.loop-j-test.true)
-
-pub loop-j-smaller : goal.loop-j-smaller
-loop-j-smaller c = omega (arith, c.loop-j-test.true)
-
 pub loop-j-preserved : goal.loop-j-preserved
 loop-j-preserved c =
     let headed : List ℕ = c.write_start-first.new.out in
@@ -127,9 +119,6 @@ shape_of-out c =
     let same-room : length headed ≡ length c.args.out.now = (ap length c.write_start-first.ensures.now-is ∙ length-sets c.args.out.now c.args.at
     (start_bytes c.args.to c.args.cols.count c.args.nulls)) in
     wrote-long c.write_end.ensures ∙ c.loop-j.invariant.0.long ∙ same-room
-
-pub shape_of-scratch : goal.shape_of-scratch
-shape_of-scratch c = c.loop-j.invariant.1
 
 pub returns : goal.returns
 returns c =

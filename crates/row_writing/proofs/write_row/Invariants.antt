@@ -11,6 +11,3 @@ use Rattle.row_writing.proofs.write_row.Given as goal
 abbrev pub invariant-loop-j : goal.invariant-loop-j
 invariant-loop-j l =
     WriteInv (read_cell l.from) l.to (listed l.cols) (flags_in l.from l.count l.flags) l.s l.initial.out l.initial.w l.out l.w l.j × (length l.scratch ≡ length l.initial.scratch)
-
-abbrev pub decreases-loop-j : goal.decreases-loop-j
-decreases-loop-j l = l.count - l.j
