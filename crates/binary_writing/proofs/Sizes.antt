@@ -6,9 +6,10 @@ use Rattle.binary.specs.Binary.{bit_bytes, bytes_of, can_be_empty, content_bytes
 use Rattle.binary.specs.Clauses.{filled_bytes}
 use Rattle.binary_writing.specs.Clauses.{elements_size, room_size}
 use Rattle.number.proofs.Laws.{length_to}
+use Rattle.number.specs.Number.{to_digits}
 use Rattle.table.proofs.Laws.{cond_cases, last-le}
 use Rattle.table.specs.Cell.{Cell, Fits, bound, fits-shown, is_char, most_elements, null, null_element, null_of_kind, room_in, shown}
-use Rattle.table.specs.Clauses.{form_bytes, held}
+use Rattle.table.specs.Clauses.{ShownUpTo, form_bytes, shown_as}
 use Rattle.table.specs.Result.{Result, bad, good}
 use Rattle.table.specs.Shape.{Bits, Shape, Text, Truths, Whole, shape}
 use Rattle.table.specs.declared.Column.{Column}
@@ -18,7 +19,8 @@ use lib.Dec.{lit≤}
 use lib.IntN.{ℤ}
 use lib.ListN.{length, length-append, length-map, length-replicate, length-take, take}
 use lib.Seq.{length-take-le}
-use mathlib.Core.Bool.{Bool, cond, false, false≢true, true}
+use mathlib.Core.Bool.{cond, false, false≢true, true}
+use mathlib.Core.Logic.{◌⊎◌, ⊎_elim}
 use mathlib.Core.List.{List, [], ◌∷◌, map}
 use mathlib.Core.Path.{◌∙◌, ◌≡◌, ap, refl}
 use native.Mathlib.Nat.{le_of_eq, le_refl, le_trans, mul-le-mul, zero-add}
@@ -41,18 +43,31 @@ filled-self : (k : Shape) (m : ℕ) → filled_bytes k m m ≡ content_bytes k m
 unfolding filled_bytes
 filled-self k m = ap (content_bytes k) (cond_cases (λ (n : ℕ). n ≡ m) (is_char k) m m (λ _. refl) (λ _. refl))
 
-module _ (c : Column) (n m : ℕ) where
-  pub elements-fixed : c.len ≡ Fixed n → elements_size c m ≡ filled_bytes (shape c.kind) n m
-  unfolding elements_size count_bytes
-  elements-fixed e = rw e (zero-add _)
-
-  pub elements-bounded : c.len ≡ Bounded n → elements_size c m ≡ 4 + content_bytes (shape c.kind) m
-  unfolding elements_size count_bytes
-  elements-bounded e = rw (e, length_to 256 4 m, filled-self (shape c.kind) m)
-
-pub elements-free : (c : Column) (m : ℕ) → c.len ≡ Free → elements_size c m ≡ 4 + content_bytes (shape c.kind) m
+pub elements-fixed : (c : Column) (n m : ℕ) → c.len ≡ Fixed n → elements_size c m ≡ filled_bytes (shape c.kind) n m
 unfolding elements_size count_bytes
-elements-free c m e = rw (e, length_to 256 4 m, filled-self (shape c.kind) m)
+elements-fixed c n m e = rw e (zero-add _)
+
+-- a column of any other length begins with a count
+abbrev pub Counted : Len → Type 0
+Counted l = ((n : ℕ) × (l ≡ Bounded n)) ⊎ (l ≡ Free)
+
+pub count-long : (l : Len) (m : ℕ) → Counted l → count_bytes l m ≡ to_digits 256 4 m
+unfolding count_bytes
+count-long l m e = ⊎_elim (λ b. rw b.1) (λ f. rw f) e
+
+pub four-long : (l : Len) (m : ℕ) → Counted l → length (count_bytes l m) ≡ 4
+four-long l m e = ap length (count-long l m e) ∙ length_to 256 4 m
+
+pub room-shown : (l : Len) (m : ℕ) → Counted l → room_in l m ≡ m
+room-shown l m e = ⊎_elim (λ b. rw b.1) (λ f. rw f) e
+
+pub elements-counted : (c : Column) (m : ℕ) → Counted c.len → elements_size c m ≡ 4 + content_bytes (shape c.kind) m
+unfolding elements_size
+elements-counted c m e = rw (four-long c.len m e, room-shown c.len m e, filled-self (shape c.kind) m)
+
+pub empty-counted : (k : Shape) (l : Len) → Counted l → true ≡ can_be_empty k l
+unfolding can_be_empty
+empty-counted k l e = ⊎_elim (λ b. rw b.1) (λ f. rw f) e
 
 pub room_bound : (l : Len) (m : ℕ) → m ≤ bound l → room_in l m ≤ bound l
 room_bound (Fixed n) m h = le_refl n
@@ -81,18 +96,13 @@ held-length c count scratch few h =
 
 -- ---- room, and zero bytes
 
-module _ (c : Column) (n m : ℕ) where
-  pub room-fixed : c.len ≡ Fixed n → room_size c m ≡ content_bytes (shape c.kind) n
-  unfolding room_size count_bytes
-  room-fixed e = rw e (zero-add _)
-
-  pub room-bounded : c.len ≡ Bounded n → room_size c m ≡ 4 + content_bytes (shape c.kind) m
-  unfolding room_size count_bytes
-  room-bounded e = rw (e, length_to 256 4 m)
-
-pub room-free : (c : Column) (m : ℕ) → c.len ≡ Free → room_size c m ≡ 4 + content_bytes (shape c.kind) m
+pub room-fixed : (c : Column) (n m : ℕ) → c.len ≡ Fixed n → room_size c m ≡ content_bytes (shape c.kind) n
 unfolding room_size count_bytes
-room-free c m e = rw (e, length_to 256 4 m)
+room-fixed c n m e = rw e (zero-add _)
+
+pub room-counted : (c : Column) (m : ℕ) → Counted c.len → room_size c m ≡ 4 + content_bytes (shape c.kind) m
+unfolding room_size
+room-counted c m e = rw (four-long c.len m e, room-shown c.len m e)
 
 pub zeros-length : (c : Column) → length (zeros c) ≡ room_size c 0
 unfolding zeros room_size
@@ -105,9 +115,9 @@ abbrev pub Few : Column → Cell → Type 0
 Few c null = Unit {0}
 Few c (shown es) = length es ≤ bound c.len
 
-pub held-few : (c : Column) (flag : Bool) (count : ℕ) (scratch : List ℤ) → count ≤ bound c.len → Few c (held flag count scratch)
-held-few c true count scratch h = tt
-held-few c false count scratch h = rw length-take (omega arith)
+pub shown-few : (c : Column) (cell : Option ℕ) (scratch : List ℤ) → ShownUpTo (bound c.len) cell → Few c (shown_as scratch cell)
+shown-few c None scratch h = tt
+shown-few c (Some count) scratch h = rw length-take (omega arith)
 
 -- what was read has no more than its column's bound
 pub fits_count : (c : Column) (count : ℕ) (scratch : List ℤ) → Fits c (shown (take count scratch)) → count ≤ length scratch → count ≤ bound c.len

@@ -1,65 +1,45 @@
 -- What is written: the forms of a cell, a turn of each loop that writes, and the bytes of elements by their shape.
 use Rattle.std.specs.Prelude.{Option, None, Some}
 use Prim.Native.Nat.{◌%◌, ◌*◌, ◌+◌, ◌-◌, ◌/◌, ◌<◌, ◌^◌, ◌≤◌, suc, zero, ℕ}
-use Rattle.binary.proofs.Digits.{drop-map, sets_then, take-map}
+use Rattle.binary.proofs.Digits.{drop-map, take-map}
 use Rattle.binary.proofs.Laws.{length-groups, length-pack, scalar-room}
 use Rattle.binary.proofs.Loops.{no_byte}
-use Rattle.binary.specs.Binary.{bit_bytes, bit_of, bytes_of, can_be_empty, content_bytes, count_bytes, elements_bytes, groups, null_form, number, pack, packed, write_binary, write_binary2, zeros}
-use Rattle.number.proofs.Laws.{length_to, low-pattern, of-append, pattern_lt, pow_pos}
+use Rattle.binary.specs.Binary.{bit_bytes, bit_of, bytes_of, can_be_empty, content_bytes, count_bytes, elements_bytes, groups, null_form, number, pack, packed, write_binary, zeros}
+use Rattle.number.proofs.Laws.{low-pattern, of-append, pattern_lt, pow_pos}
 use Rattle.number.specs.Number.{of_digits, pattern, to_digits}
+use Rattle.std.specs.Simd.{first_chunks}
 use Rattle.table.proofs.Laws.{last-le}
+use Rattle.table.proofs.Places.{done, element-at}
 use Rattle.table.specs.Cell.{bound, is_one, null_element, null_of_kind, room_in, shown, truth_byte}
-use Rattle.table.specs.Clauses.{form_bytes, held}
+use Rattle.table.specs.Clauses.{form_bytes}
 use Rattle.table.specs.Result.{bad, good}
 use Rattle.table.specs.Shape.{Bits, Shape, Text, Truths, Whole, Width, last, shape}
-use Rattle.table.specs.Wrote.{Wrote}
 use Rattle.table.specs.declared.Column.{Column}
 use Rattle.table.specs.declared.Len.{Len}
 use Rattle.table.specs.declared.Len.TheVariants.{Bounded, Fixed, Free}
 use borrow.Author.Tests.{eqb-true}
 use lib.Dec.{eqb, lit<, lit≤}
 use lib.IntN.{negsuc, pos, ℤ}
-use lib.ListN.{drop, get_or, length, length-append, length-drop, length-map, length-replicate, replicate, set, take}
+use lib.ListN.{drop, get_or, length, length-append, length-drop, length-map, length-replicate, replicate, take}
 use lib.Pow.{pow-add, pow_mono, shl_exact}
-use lib.Seq.{drop-append-le, drop-cons, drop-drop, length-take-le, sets, take_all, take-append-le, take-take}
+use lib.Seq.{drop-append-le, drop-drop, length-take-le, take_all, take-append-le}
 use mathlib.Core.Bool.{Bool, cond, false, false≢true, true}
 use mathlib.Core.List.{List, [], ◌++◌, ◌∷◌, map}
 use mathlib.Core.Path.{◌∙◌, ◌≡◌, ap, ap₂, refl, sym}
 use native.Mathlib.Nat.{mul-le-mul_right, mul-one, pow-succ', sub-zero, suc-mul, zero-mul}
-use native.Mathlib.Numerals.{add-one}
 use native.Mathlib.Omega.{arith}
 
--- ---- a cell that the code holds
+-- ---- a cell of elements
 
-module _ (c : Column) (flag : Bool) (count : ℕ) (scratch : List ℤ) where
-  pub write2-null : flag ≡ true → write_binary2 c (held flag count scratch) ≡ zeros c
-  unfolding write_binary2
-  write2-null e = rw e
-
-  pub write2-shown : flag ≡ false → write_binary2 c (held flag count scratch) ≡ elements_bytes c (take count scratch)
-  unfolding write_binary2
-  write2-shown e = rw e
-
-  pub write-null : flag ≡ true → write_binary c (held flag count scratch) ≡ null_form c (null_element c)
-  unfolding write_binary
-  write-null e = rw e
-
-  write-held : flag ≡ false → write_binary c (held flag count scratch) ≡ write_binary c (shown (take count scratch))
-  write-held e = rw e
-
-  pub write-empty : flag ≡ false → count ≡ 0 → write_binary c (held flag count scratch) ≡ bad 14
-  unfolding write_binary
-  write-empty e h = write-held e ∙ rw h
-
-write-some : (c : Column) (es : List ℤ) → (length es ≡ 0 → ⊥) → write_binary c (shown es) ≡ good (elements_bytes c es)
+pub write-some : (c : Column) (es : List ℤ) → (length es ≡ 0 → ⊥) → write_binary c (shown es) ≡ good (elements_bytes c es)
 unfolding write_binary
 write-some c [] h = absurd (h refl)
 write-some c (e ∷ es) h = refl
 
-pub write-shown : (c : Column) (flag : Bool) (count : ℕ) (scratch : List ℤ) → flag ≡ false → (count ≡ 0 → ⊥) → count ≤ length scratch
-    → write_binary c (held flag count scratch) ≡ good (elements_bytes c (take count scratch))
-write-shown c flag count scratch e n h =
-    write-held c flag count scratch e ∙ write-some c (take count scratch) (λ q. n (sym (length-take-le count scratch h) ∙ q))
+pub write-none : (c : Column) (es : List ℤ) → length es ≡ 0 → write_binary c (shown es) ≡ bad 14
+unfolding write_binary
+write-none c [] h = refl
+write-none c (e ∷ es) h = absurd (omega arith)
 
 -- ---- null in BINARY
 
@@ -119,38 +99,22 @@ empty-zeros c h = ap (λ (b : List ℕ). count_bytes c.len 0 ++ b) (empty-room-b
 
 -- ---- a turn of each loop that writes
 
-pub zero-next : (out : List ℕ) (o end : ℕ) → o < end → sets out o (replicate (end - o) 0) ≡ sets (set out o 0) (o + 1) (replicate (end - (o + 1)) 0)
-zero-next out o end h =
-    let e : end - o ≡ suc (end - (o + 1)) = omega arith in
-    ap (λ (n : ℕ). sets out o (replicate n 0)) e ∙ rw add-one
-
 -- the elements from k on are the k-th and those after it
-pub from_next : (f : ℤ → ℕ) (scratch : List ℤ) (i m : ℕ) (d : ℤ) → 0 < m → i < length scratch
-    → map f (take m (drop i scratch)) ≡ f (get_or scratch i d) ∷ map f (take (m - 1) (drop (i + 1) scratch))
-from_next f scratch i m d p h =
-    let e : m ≡ suc (m - 1) = omega arith in
-    ap (λ (j : ℕ). map f (take j (drop i scratch))) e
-    ∙ ap (λ (l : List ℤ). map f (take (suc (m - 1)) l)) (drop-cons scratch i d h ∙ ap (λ (j : ℕ). get_or scratch i d ∷ drop j scratch) (sym (add-one i)))
+module _ (f : ℤ → ℕ) (es : List ℤ) (k : ℕ) where
+  pub map-next : k < length es → map f (drop k es) ≡ f (get_or es k (pos 0)) ∷ map f (drop (k + 1) es)
+  map-next h = ap (map f) (element-at es k (pos 0) h)
 
-pub truth-next : (out : List ℕ) (scratch : List ℤ) (at k count b : ℕ) (d : ℤ) → k < count → count ≤ length scratch → b ≡ truth_byte (get_or scratch k d)
-    → sets out (at + k) (map truth_byte (take (count - k) (drop k scratch))) ≡ sets (set out (at + k) b) (at + (k + 1)) (map truth_byte (take (count - (k + 1)) (drop (k + 1) scratch)))
-truth-next out scratch at k count b d h m q =
-    let e : (count - k) - 1 ≡ count - (k + 1) = omega arith in
-    let o : at + (k + 1) ≡ suc (at + k) = omega arith in
-    ap (sets out (at + k)) (from_next truth_byte scratch k (count - k) d (omega arith) (omega arith)) ∙ rw (← q, e, o)
+  pub map-end : length es ≤ k → map f (drop k es) ≡ []
+  map-end h = ap (map f) (done es k h)
 
-pub integer-next : (w : ℕ) (out : List ℕ) (scratch : List ℤ) (o k count next : ℕ) (new : List ℕ) (d : ℤ) → k < count → count ≤ length scratch
-    → Wrote out o (to_digits 256 w (pattern 8 (get_or scratch k d))) new next
-    → sets out o (groups w (map (pattern 8) (take (count - k) (drop k scratch)))) ≡ sets new next (groups w (map (pattern 8) (take (count - (k + 1)) (drop (k + 1) scratch))))
+pub groups-next : (w : ℕ) (es : List ℤ) (k : ℕ) → k < length es
+    → groups w (map (pattern 8) (drop k es)) ≡ to_digits 256 w (pattern 8 (get_or es k (pos 0))) ++ groups w (map (pattern 8) (drop (k + 1) es))
 unfolding groups
-integer-next w out scratch o k count next new d h m x =
-    let e : (count - k) - 1 ≡ count - (k + 1) = omega arith in
-    let rest : List ℕ = groups w (map (pattern 8) (take (count - (k + 1)) (drop (k + 1) scratch))) in
-    let z : List ℕ = to_digits 256 w (pattern 8 (get_or scratch k d)) in
-    ap (λ (l : List ℕ). sets out o (groups w l)) (from_next (pattern 8) scratch k (count - k) d (omega arith) (omega arith)
-    ∙ ap (λ (j : ℕ). pattern 8 (get_or scratch k d) ∷ map (pattern 8) (take j (drop (k + 1) scratch))) e)
-    ∙ sets_then z rest out o
-    ∙ ap₂ (λ (l : List ℕ) (j : ℕ). sets l j rest) (sym x.now-is) (sym x.next-is)
+groups-next w es k h = ap (groups w) (map-next (pattern 8) es k h)
+
+pub groups-end : (w : ℕ) (es : List ℤ) (k : ℕ) → length es ≤ k → groups w (map (pattern 8) (drop k es)) ≡ []
+unfolding groups
+groups-end w es k h = ap (groups w) (map-end (pattern 8) es k h)
 
 -- ---- the bytes of elements, by their shape
 
@@ -184,32 +148,19 @@ bit-zero (pos (suc zero)) h = absurd (h refl)
 bit-zero (pos (suc (suc n))) h = refl
 bit-zero (negsuc n) h = refl
 
-pub count-bounded : (l : Len) (n m : ℕ) → l ≡ Bounded n → length (count_bytes l m) ≡ 4
-unfolding count_bytes
-count-bounded l n m e = rw (e, length_to 256 4 m)
-
-pub count-free : (l : Len) (m : ℕ) → l ≡ Free → length (count_bytes l m) ≡ 4
-unfolding count_bytes
-count-free l m e = rw (e, length_to 256 4 m)
-
-pub length-integers-written : (w count : ℕ) (scratch : List ℤ) → count ≤ length scratch → length (groups w (map (pattern 8) (take count scratch))) ≡ count * w
-length-integers-written w count scratch h =
-    length-groups w (map (pattern 8) (take count scratch))
-    ∙ ap (λ (k : ℕ). k * w) (length-map (take count scratch) (pattern 8) ∙ length-take-le count scratch h)
-
-pub none_left : (w : ℕ) → groups w [] ≡ []
-unfolding groups
-none_left w = refl
+pub length-integers : (w : ℕ) (es : List ℤ) → length (groups w (map (pattern 8) es)) ≡ length es * w
+length-integers w es = length-groups w (map (pattern 8) es) ∙ ap (λ (k : ℕ). k * w) (length-map es (pattern 8))
 
 -- ---- bits in a byte
 
-pub packed-next : (scratch : List ℤ) (m j at b r : ℕ) (d : ℤ) → j < m → at + m ≤ length scratch → r ≡ bit_of (get_or scratch (at + j) d)
-    → of_digits 2 b (map bit_of (take (m - j) (drop (at + j) scratch))) ≡ of_digits 2 (b * 2 + r) (map bit_of (take (m - (j + 1)) (drop (at + (j + 1)) scratch)))
+pub digits-next : (b : ℕ) (es : List ℤ) (k : ℕ) → k < length es
+    → of_digits 2 b (map bit_of (drop k es)) ≡ of_digits 2 (b * 2 + bit_of (get_or es k (pos 0))) (map bit_of (drop (k + 1) es))
 unfolding of_digits
-packed-next scratch m j at b r d h room q =
-    let e : (m - j) - 1 ≡ m - (j + 1) = omega arith in
-    let o : (at + j) + 1 ≡ at + (j + 1) = omega arith in
-    ap (of_digits 2 b) (from_next bit_of scratch (at + j) (m - j) d (omega arith) (omega arith)) ∙ rw (← q, e, o)
+digits-next b es k h = ap (of_digits 2 b) (map-next bit_of es k h)
+
+pub digits-end : (b : ℕ) (es : List ℤ) (k : ℕ) → length es ≤ k → of_digits 2 b (map bit_of (drop k es)) ≡ b
+unfolding of_digits
+digits-end b es k h = ap (of_digits 2 b) (map-end bit_of es k h)
 
 pub few_bits : (j : ℕ) → j ≤ 8 → 2 ^ j ≤ 256
 few_bits j h = pow_mono h
@@ -228,19 +179,6 @@ module _ (b m : ℕ) (h : b < 2 ^ m) (few : m ≤ 8) where
       omega (arith, e, p, suc-mul b (2 ^ (8 - m)), mul-le-mul_right {m = suc b} {n = 2 ^ m} (2 ^ (8 - m)) (let d : suc b ≤ 2 ^ m = omega arith in d))
 
 -- ---- bits, eight to a byte
-
-window : {A : Type 0} (m i count : ℕ) (l : List A) → i + m ≤ count → take m (drop i (take count l)) ≡ take m (drop i l)
-window m zero count l h = take-take m count l (omega arith)
-window m (suc i) zero l h = absurd (omega arith)
-window m (suc i) (suc count) [] h = refl
-window m (suc i) (suc count) (x ∷ l) h = window m i count l (omega arith)
-
-bits-window : (m i count : ℕ) (scratch : List ℤ) → i + m ≤ count → take m (drop i (map bit_of (take count scratch))) ≡ map bit_of (take m (drop i scratch))
-bits-window m i count scratch h =
-    ap (take m) (drop-map bit_of i (take count scratch)) ∙ take-map bit_of m (drop i (take count scratch)) ∙ ap (map bit_of) (window m i count scratch h)
-
-length-held : (count : ℕ) (scratch : List ℤ) → count ≤ length scratch → length (map bit_of (take count scratch)) ≡ count
-length-held count scratch h = length-map (take count scratch) bit_of ∙ length-take-le count scratch h
 
 pack-more : (bits : List ℕ) → 8 ≤ length bits → pack bits ≡ of_digits 2 0 (take 8 bits) ∷ pack (drop 8 bits)
 unfolding pack bit_bytes packed
@@ -265,39 +203,46 @@ pack-last bits p h =
     let l : length (bits ++ z) ≡ 8 = length-append bits z ∙ simp length-replicate (omega arith) in
     rw (e, take_all 8 (bits ++ z) (omega arith), of-append 2 0 bits z, of-zeros (8 - length bits) (of_digits 2 0 bits))
 
-pub pack-none : (k count : ℕ) (scratch : List ℤ) → count ≤ length scratch → count ≤ k → pack (drop k (map bit_of (take count scratch))) ≡ []
-unfolding pack bit_bytes packed
-pack-none k count scratch h m = rw (no_bits (map bit_of (take count scratch)) k (omega (arith, length-held count scratch h)))
-  where
-    no_bits : (l : List ℕ) (k : ℕ) → length l ≤ k → drop k l ≡ []
-    no_bits l k h = no_byte l k h
+-- the k-th eight of the elements
+pub eight-at : {A : Type 0} (d : List A) (n k : ℕ) (l : List A) → k < n → get_or (first_chunks 8 n l) k d ≡ take 8 (drop (8 * k) l)
+eight-at d zero k l h = absurd (omega arith)
+eight-at d (suc n) zero l h = refl
+eight-at d (suc n) (suc k) l h = eight-at d n k (drop 8 l) (omega arith) ∙ ap (take 8) (drop-drop (8 * k) 8 l ∙ ap (λ (j : ℕ). drop j l) (omega arith))
 
-pub pack-next : (out : List ℕ) (scratch : List ℤ) (at k count b : ℕ) → 8 * k + 8 ≤ count → count ≤ length scratch
-    → b ≡ of_digits 2 0 (map bit_of (take 8 (drop (8 * k) scratch))) * 2 ^ (8 - 8)
-    → sets out (at + k) (pack (drop (8 * k) (map bit_of (take count scratch)))) ≡ sets (set out (at + k) b) (at + (k + 1)) (pack (drop (8 * (k + 1)) (map bit_of (take count scratch))))
-pack-next out scratch at k count b h m q =
-    let bits : List ℕ = map bit_of (take count scratch) in
-    let e : 8 * k + 8 ≡ 8 * (k + 1) = omega arith in
-    let o : suc (at + k) ≡ at + (k + 1) = omega arith in
-    let long : 8 ≤ length (drop (8 * k) bits) = omega (arith, length-drop (8 * k) bits, length-held count scratch m) in
-    let v : of_digits 2 0 (take 8 (drop (8 * k) bits)) ≡ b = ap (of_digits 2 0) (bits-window 8 (8 * k) count scratch h)
-    ∙ sym (q ∙ mul-one (of_digits 2 0 (map bit_of (take 8 (drop (8 * k) scratch))))) in
-    ap (sets out (at + k)) (pack-more (drop (8 * k) bits) long)
-    ∙ ap₂ (λ (x : ℕ) (l : List ℕ). sets (set out (at + k) x) (suc (at + k)) (pack l)) v (drop-drop 8 (8 * k) bits ∙ ap (λ (j : ℕ). drop j bits) e)
-    ∙ ap (λ (j : ℕ). sets (set out (at + k) b) j (pack (drop (8 * (k + 1)) bits))) o
+module _ (es : List ℤ) where
+  pub pack-next : (k : ℕ) → 8 * k + 8 ≤ length es
+      → pack (drop (8 * k) (map bit_of es)) ≡ of_digits 2 0 (map bit_of (take 8 (drop (8 * k) es))) ∷ pack (drop (8 * (k + 1)) (map bit_of es))
+  pack-next k h =
+      let bits : List ℕ = map bit_of es in
+      let o : 8 * k + 8 ≡ 8 * (k + 1) = omega arith in
+      pack-more (drop (8 * k) bits) (omega (arith, length-drop (8 * k) bits, length-map es bit_of))
+      ∙ ap₂ (λ (x y : List ℕ). of_digits 2 0 x ∷ pack y)
+      (ap (take 8) (drop-map bit_of (8 * k) es) ∙ take-map bit_of 8 (drop (8 * k) es))
+      (drop-drop 8 (8 * k) bits ∙ ap (λ (j : ℕ). drop j bits) o)
 
-pub pack-left : (scratch : List ℤ) (k count left b : ℕ) → count ≤ length scratch → 8 * k + left ≡ count → 0 < left → left < 8
-    → b ≡ of_digits 2 0 (map bit_of (take left (drop (8 * k) scratch))) * 2 ^ (8 - left)
-    → pack (drop (8 * k) (map bit_of (take count scratch))) ≡ b ∷ []
-pack-left scratch k count left b h e p s q =
-    let bits : List ℕ = drop (8 * k) (map bit_of (take count scratch)) in
-    let l : length bits ≡ left = length-drop (8 * k) (map bit_of (take count scratch)) ∙ omega (arith, length-held count scratch h) in
-    let w : bits ≡ map bit_of (take left (drop (8 * k) scratch)) = sym (take_all left bits (omega arith)) ∙ bits-window left (8 * k) count scratch (omega arith) in
-    pack-last bits (omega arith) (omega arith)
-    ∙ ap (λ (x : ℕ). x ∷ []) (ap₂ (λ (x : List ℕ) (j : ℕ). of_digits 2 0 x * 2 ^ (8 - j)) w l ∙ sym q)
+  -- a whole byte of bits is the number that they spell
+  pub eight-byte : (k b : ℕ) → 8 * k + 8 ≤ length es → (let eight : List ℤ = take 8 (drop (8 * k) es) in b ≡ of_digits 2 0 (map bit_of eight) * 2 ^ (8 - length eight))
+      → pack (drop (8 * k) (map bit_of es)) ≡ b ∷ pack (drop (8 * (k + 1)) (map bit_of es))
+  eight-byte k b h e =
+      let eight : List ℤ = take 8 (drop (8 * k) es) in
+      let long : length eight ≡ 8 = length-take-le 8 (drop (8 * k) es) (omega (arith, length-drop (8 * k) es)) in
+      let whole : b ≡ of_digits 2 0 (map bit_of eight) = e ∙ ap (λ (n : ℕ). of_digits 2 0 (map bit_of eight) * 2 ^ (8 - n)) long ∙ mul-one (of_digits 2 0 (map bit_of eight)) in
+      pack-next k h ∙ ap (λ (x : ℕ). x ∷ pack (drop (8 * (k + 1)) (map bit_of es))) (sym whole)
 
-pub length-packed-bits : (count : ℕ) (scratch : List ℤ) → count ≤ length scratch → length (pack (map bit_of (take count scratch))) ≡ bit_bytes count
-length-packed-bits count scratch h = length-pack (map bit_of (take count scratch)) ∙ ap bit_bytes (length-held count scratch h)
+  pub pack-end : (k : ℕ) → length es ≤ k → pack (drop k (map bit_of es)) ≡ []
+  unfolding pack bit_bytes packed
+  pack-end k h = rw (no_byte (map bit_of es) k (omega (arith, length-map es bit_of)))
+
+  pub pack-left : (k : ℕ) → let left : List ℤ = drop k es in 0 < length left → length left < 8
+      → pack (drop k (map bit_of es)) ≡ (of_digits 2 0 (map bit_of left) * 2 ^ (8 - length left)) ∷ []
+  pack-left k p s =
+      let left : List ℤ = drop k es in
+      ap pack (drop-map bit_of k es)
+      ∙ pack-last (map bit_of left) (rw length-map p) (rw length-map s)
+      ∙ ap (λ (n : ℕ). (of_digits 2 0 (map bit_of left) * 2 ^ (8 - n)) ∷ []) (length-map left bit_of)
+
+  pub length-packed : length (pack (map bit_of es)) ≡ bit_bytes (length es)
+  length-packed = length-pack (map bit_of es) ∙ ap bit_bytes (length-map es bit_of)
 
 -- ---- a cell of parts
 
@@ -305,14 +250,11 @@ pub zeros-as : (c : Column) (size : ℕ) → size ≡ content_bytes (shape c.kin
 unfolding zeros
 zeros-as c size e = rw e
 
-pub elements-as : (c : Column) (count room : ℕ) (scratch : List ℤ) → count ≤ length scratch → room ≡ room_in c.len count
-    → count_bytes c.len count ++ bytes_of (shape c.kind) room (map (number (shape c.kind)) (take count scratch)) ≡ elements_bytes c (take count scratch)
+pub elements-as : (c : Column) (room : ℕ) (es : List ℤ) → room ≡ room_in c.len (length es)
+    → count_bytes c.len (length es) ++ bytes_of (shape c.kind) room (map (number (shape c.kind)) es) ≡ elements_bytes c es
 unfolding elements_bytes
-elements-as c count room scratch h q = rw (q, length-take-le count scratch h)
+elements-as c room es q = rw q
 
-pub text-filled : (room count : ℕ) (scratch : List ℤ) → count ≤ length scratch
-    → groups 1 (map (pattern 8) (take count scratch)) ++ replicate (room - count) 0 ≡ bytes_of Text room (map (number Text) (take count scratch))
+pub text-filled : (room : ℕ) (es : List ℤ) → groups 1 (map (pattern 8) es) ++ replicate (room - length es) 0 ≡ bytes_of Text room (map (number Text) es)
 unfolding bytes_of
-text-filled room count scratch h =
-    let l : length (map (number Text) (take count scratch)) ≡ count = length-map (take count scratch) (number Text) ∙ length-take-le count scratch h in
-    ap₂ (λ (x : List ℕ) (k : ℕ). x ++ replicate (room - k) 0) (text-bytes (take count scratch)) (sym l)
+text-filled room es = ap₂ (λ (x : List ℕ) (k : ℕ). x ++ replicate (room - k) 0) (text-bytes es) (sym (length-map es (number Text)))

@@ -3,15 +3,22 @@ use Prim.Native.Nat.{◌%◌, ◌+◌, ◌-◌, ◌/◌, ◌<◌, ◌≤◌, suc
 use native.Mathlib.Nat.{add-zero}
 use native.Mathlib.Numerals.{add-one, sub-one}
 use native.Mathlib.Omega.{arith}
+use mathlib.Core.Bool.{false, true}
 use mathlib.Core.List.{List, [], ◌++◌, ◌∷◌, map}
 use mathlib.Core.Path.{◌∙◌, ◌≡◌, ap, refl, sym}
 use lib.Dec.{lit<}
+use lib.IntN.{nat_abs, pos, ℤ}
 use lib.ListN.{length, length-append, length-map, set}
 use lib.Seq.{set_comm, sets}
+use lib.Signed.{le_z}
+use mir.Facts.{to_z-of_z}
+use mir.Syntax.{w64}
+use mir.Val.{SFits, of_z, to_z}
 use Rattle.decimals.specs.Clauses.{numerals}
-use Rattle.number.proofs.Decimal.{more-digits, one-digit, small-or}
+use Rattle.number.proofs.Decimal.{more-digits, one-digit, shortest-down, shortest-up, small-or}
 use Rattle.number.proofs.Laws.{digits_last, length_to}
-use Rattle.number.specs.Number.{digits, to_digits}
+use Rattle.number.proofs.Signed.{down, up}
+use Rattle.number.specs.Number.{digits, shortest, to_digits}
 
 -- ---- which digits
 
@@ -78,3 +85,12 @@ numerals-pair k x l i h =
 
 pub numerals-one : (k x : ℕ) (l : List ℕ) (i : ℕ) → k ≡ 1 → sets l i (numerals k x) ≡ set l i (x % 10 + 48)
 numerals-one k x l i e = rw (e, numerals-last 0 x, numerals-none (x / 10))
+
+-- ---- the digits of an integer without its sign, by the test `0 <= z`
+
+module _ (z : ℤ) (x : ℕ) (f : SFits w64 z) (is : x ≡ nat_abs (to_z w64 (of_z w64 z))) where
+  pub text-up : le_z (pos 0) (to_z w64 (of_z w64 z)) ≡ true → digits 20 x ≡ shortest z
+  text-up e = ap (digits 20) (is ∙ ap nat_abs (to_z-of_z f)) ∙ sym (shortest-up z (up w64 z f e))
+
+  pub text-down : le_z (pos 0) (to_z w64 (of_z w64 z)) ≡ false → 45 ∷ digits 20 x ≡ shortest z
+  text-down e = ap {B = List ℕ} (λ (n : ℕ). 45 ∷ digits 20 n) (is ∙ ap nat_abs (to_z-of_z f)) ∙ sym (shortest-down z (down w64 z f e))

@@ -1,67 +1,30 @@
 // Integers in words: "integers shortest decimal, no `+`".
 #![tactic(auto)]
 
-ghost use Rattle.std.specs.Prelude.{◌≡◌, ◌+◌, ◌<◌, ◌≤◌, nat_abs, length};
+ghost use Rattle.std.specs.Prelude.{◌≡◌, ◌+◌, ◌≤◌, length};
 ghost use Rattle.std.proofs.lemmas.List.Edits.{sets};
 ghost use Rattle.decimals.specs.Clauses.{numerals};
 ghost use Rattle.number.specs.Number.{digits, shortest};
 ghost use Rattle.table.specs.Wrote.{Wrote};
 
-// z without its sign.
-fn magnitude(z: i64) -> u64
-    ensures { result ≡ nat_abs z }
-{
-    if 0 <= z {
-        z as u64
-    } else {
-        ((-1 - z) as u64) + 1
-    }
-}
-
-// How many decimal digits a number below 10,000 has.
-fn few_digits(x: u64) -> usize
-    requires { x < 10000 }
-    ensures { result ≡ length (digits 20 x) }
-{
-    if x < 10 {
-        return 1;
-    }
-    if x < 100 {
-        return 2;
-    }
-    if x < 1000 {
-        return 3;
-    }
-    4
-}
-
 // How many decimal digits x has.
 fn digit_count(x: u64) -> usize
     ensures { result ≡ length (digits 20 x) }
 {
-    if x < 10000 {
-        return few_digits(x);
+    match x.checked_ilog10() {
+        Some(power) => power as usize + 1,
+        None => 1,
     }
-    if x < 100000000 {
-        return 4 + few_digits(x / 10000);
-    }
-    if x < 1000000000000 {
-        return 8 + few_digits(x / 100000000);
-    }
-    if x < 10000000000000000 {
-        return 12 + few_digits(x / 1000000000000);
-    }
-    16 + few_digits(x / 10000000000000000)
 }
 
 pub fn shortest_length(z: i64) -> usize
     ensures { result ≡ length (shortest z) }
 {
-    let count = digit_count(magnitude(z));
+    let count = digit_count(z.unsigned_abs());
     if 0 <= z { count } else { count + 1 }
 }
 
-// The n low decimal digits of x, two at a time, from the last to the first.
+// The n low decimal digits of x, two at a time, from the last to the first. (A `for` would reckon both places from its index: no plainer.)
 fn put_digits(out: &mut [u8], at: usize, n: usize, x: u64)
     requires { at + n ≤ length out.old }
     ensures { out.new ≡ sets out.old at (numerals n x) }
@@ -93,7 +56,7 @@ pub fn write_shortest(out: &mut [u8], at: usize, z: i64) -> usize
     requires { at + length (shortest z) ≤ length out.old }
     ensures { Wrote out.old at (shortest z) out.new result }
 {
-    let x = magnitude(z);
+    let x = z.unsigned_abs();
     if 0 <= z {
         return write_digits(out, at, x);
     }

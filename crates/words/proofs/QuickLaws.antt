@@ -16,13 +16,12 @@ use Rattle.number.proofs.Laws.{IsDigit, digit_lt, numeral-append, plain-read, va
 use Rattle.words.proofs.WordLaws.{after_minus, decimal-parts, down-in, up_in}
 use Rattle.number.specs.Clauses.{is_signed, size}
 use Rattle.words.specs.Clauses.{DigitsAt, IsPlain, QuickAt, leading_digits, quick_number, quick_run, quickly, top}
-use Rattle.words.specs.declared.Quick.{Quick}
-use Rattle.words.specs.declared.Quick.TheVariants.{Careful, Value}
 use Rattle.number.specs.Number.{Fault, decimal, digit, numeral, ranged, read_integer, with_sign}
 use Rattle.table.proofs.Laws.{all-weaken, between_is, between-yes, cond_cases, holds_at}
 use Rattle.table.specs.All.{All}
 use Rattle.table.specs.Bytes.{between}
 use Rattle.table.specs.Result.{Result, bad, good}
+use Rattle.std.specs.Prelude.{None, Option, Some}
 use Rattle.table.specs.Shape.{in_range}
 use Rattle.number.specs.declared.Integer.{Integer}
 
@@ -165,14 +164,14 @@ module _ (s : List ℕ) (place number next : ℕ) (r : DigitsAt s place number n
   unfolding quick_run
   run_is = ap (quick_number k negative place (leading_digits 18 (drop place s))) r.number_is
 
-  pub run_none : next ≡ place → quick_run k negative s place ≡ Careful
+  pub run_none : next ≡ place → quick_run k negative s place ≡ None
   run_none e = run_is ∙ rw (eq-eqb (leading_digits 18 (drop place s)) 0 (omega (arith, r.next-is)))
 
   module _ (some : next ≡ place → ⊥) where
-    pub run-over : top k < number → quick_run k negative s place ≡ Careful
+    pub run-over : top k < number → quick_run k negative s place ≡ None
     run-over h = run_is ∙ rw (ne_eqb (leading_digits 18 (drop place s)) 0 (λ e. some (omega (arith, r.next-is))), lt-ltb (top k) number h)
 
-    pub run_value : number ≤ top k → quick_run k negative s place ≡ Value (with_sign negative number) next
+    pub run_value : number ≤ top k → quick_run k negative s place ≡ Some (with_sign negative number, next)
     run_value h =
         run_is ∙ rw (ne_eqb (leading_digits 18 (drop place s)) 0 (λ e. some (omega (arith, r.next-is))), le-ltb (top k) number h, r.next-is)
 
@@ -183,7 +182,7 @@ module _ (k : Integer) (s : List ℕ) (place : ℕ) where
   quick-plain h = rw (ne_eqb (get_or s place 0) 45 h)
 
   module _ (minus : get_or s place 0 ≡ 45) where
-    pub quick-unsigned : is_signed k ≡ false → quickly k s place ≡ Careful
+    pub quick-unsigned : is_signed k ≡ false → quickly k s place ≡ None
     unfolding quickly
     quick-unsigned g = rw (eq-eqb (get_or s place 0) 45 minus, g)
 
@@ -199,33 +198,34 @@ record RunAt (k : Integer) (negative : Bool) (s : List ℕ) (place : ℕ) (z : �
   small : number ≤ top k
   value : z ≡ with_sign negative number
 
-run_at : (k : Integer) (negative : Bool) (s : List ℕ) (place : ℕ) (z : ℤ) (next : ℕ) → quick_run k negative s place ≡ Value z next → RunAt k negative s place z next
+run_at : (k : Integer) (negative : Bool) (s : List ℕ) (place : ℕ) (z : ℤ) (next : ℕ) → quick_run k negative s place ≡ Some (z, next) → RunAt k negative s place z next
 unfolding quick_run
 run_at k negative s place z next = go (numeral digit 10 0 (take (leading_digits 18 (drop place s)) (drop place s))) refl
   where
     count : ℕ
     count = leading_digits 18 (drop place s)
 
-    Says : Quick → Type 0
-    Says q = q ≡ Value z next → RunAt k negative s place z next
+    Says : Option (ℤ × ℕ) → Type 0
+    Says q = q ≡ Some (z, next) → RunAt k negative s place z next
 
-    declined : Says Careful
+    declined : Says None
     declined e = let no : ◌≡◌ {A = ℕ} 0 1 = cc in absurd (omega arith)
 
     go : (r : Result Fault ℕ) → numeral digit 10 0 (take (leading_digits 18 (drop place s)) (drop place s)) ≡ r → Says (quick_number k negative place (leading_digits 18 (drop place s)) r)
     go (bad f) q = declined
     go (good n) q =
         cond_cases Says (eqb count 0) _ _ (λ _. declined) (λ filled. cond_cases Says (ltb (top k) n) _ _ (λ _. declined) (λ within e.
-        let at-end : next ≡ place + count = cc in record {
+        let both : ◌≡◌ {A = ℤ × ℕ} (with_sign negative n, place + count) (z, next) = cc in
+        let at-end : next ≡ place + count = sym (ap (λ (p : ℤ × ℕ). p.1) both) in record {
           number = n;
           digits = record { next-is = at-end; number_is = q };
           some = λ none. eqb-false count 0 filled (omega arith);
           small = ltb-false (top k) n within;
-          value = cc;
+          value = sym (ap (λ (p : ℤ × ℕ). p.0) both);
         }))
 
 -- where the quick way answers, it answers as the careful way does
-pub quick-at : (k : Integer) (s : List ℕ) (place : ℕ) → place < length s → (z : ℤ) (next : ℕ) → quickly k s place ≡ Value z next → QuickAt k s place z next
+pub quick-at : (k : Integer) (s : List ℕ) (place : ℕ) → place < length s → (z : ℤ) (next : ℕ) → quickly k s place ≡ Some (z, next) → QuickAt k s place z next
 unfolding quickly with_sign
 quick-at k s place inside z next = cond_cases Says (eqb (get_or s place 0) 45) _ _
     (λ minus. cond_cases Says (is_signed k) _ _ (λ signed e. let r = run_at k true s (place + 1) z next e in
@@ -234,5 +234,5 @@ quick-at k s place inside z next = cond_cases Says (eqb (get_or s place 0) 45) _
     (λ _ e. let r = run_at k false s place z next e in
     rw r.value (quick-up s place r.number next (omega arith) r.digits r.some k r.small))
   where
-    Says : Quick → Type 0
-    Says q = q ≡ Value z next → QuickAt k s place z next
+    Says : Option (ℤ × ℕ) → Type 0
+    Says q = q ≡ Some (z, next) → QuickAt k s place z next

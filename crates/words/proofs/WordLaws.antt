@@ -30,7 +30,7 @@ use Rattle.words.specs.declared.Word.{Word}
 -- ---- a character
 
 -- below, or not
-lt-or : {P : Type 0} (a b : ℕ) → (a < b → P) → (b ≤ a → P) → P
+pub lt-or : {P : Type 0} (a b : ℕ) → (a < b → P) → (b ≤ a → P) → P
 lt-or {P} a b f g = by (ltb a b) refl
   where
     by : (t : Bool) → ltb a b ≡ t → P

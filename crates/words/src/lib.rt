@@ -1,12 +1,12 @@
 // Words read as integers: a character at a time, the whole text as one word, and words of plain digits quickly.
 #![tactic(auto)]
 
-ghost use Rattle.std.specs.Prelude.{◌≡◌, false, true, ◌*◌, ◌<◌, ◌≤◌, length};
-ghost use Rattle.number.specs.Clauses.{is_signed, size};
-ghost use Rattle.words.specs.Clauses.{DigitsAt, Earlier, quick_run, quickly, reading_of, top};
-ghost use Rattle.words.specs.Words.{broken_word, capped, decimal_next, decimal_reading, first_next, fresh, hexadecimal_next, hexadecimal_reading, reading, signed_reading, next_word, zero_next};
+ghost use Rattle.std.specs.Prelude.{◌≡◌, Bool, IfSome, false, true, ◌<◌, ◌≤◌, length};
+ghost use Rattle.number.specs.Clauses.{is_signed};
+ghost use Rattle.words.specs.Clauses.{DigitsAt, quick_run, quickly, reading_of, signed_as, top};
+ghost use Rattle.words.specs.Words.{capped, decimal_next, decimal_reading, first_next, fresh, hexadecimal_next, hexadecimal_reading, reading, signed_reading, next_word, word, zero_next};
 
-use number::Integer;
+use number::{Integer, integer_bytes};
 
 // ---- kinds
 
@@ -30,18 +30,6 @@ pub fn top_of(kind: Integer) -> u64
         Integer::Short => 32767,
         Integer::Int => 2147483647,
         Integer::Long => 9223372036854775807,
-    }
-}
-
-// "1 to 2, 4, 8, 16 hexadigits"
-fn most_hexadigits(kind: Integer) -> usize
-    ensures { result ≡ 2 * size kind }
-{
-    match kind {
-        Integer::UnsignedByte => 2,
-        Integer::Short => 4,
-        Integer::Int => 8,
-        Integer::Long => 16,
     }
 }
 
@@ -69,24 +57,13 @@ pub struct Word {
     pub value: u64,
 }
 
-// What a word is at a kind of integers.
+// Why a word is no integer of a kind.
 #[derive(Clone, Copy)]
-pub enum IntegerRead {
-    Value(i64),
+pub enum IntegerError {
     // written as an integer, but outside the kind's range
     Outside,
     // not written as an integer
     Unwritten,
-}
-
-fn broken() -> Word
-    ensures { result ≡ broken_word }
-{
-    Word {
-        form: Form::Broken,
-        count: 0,
-        value: 0,
-    }
 }
 
 // The number with a decimal digit more.
@@ -101,172 +78,151 @@ fn with_digit(value: u64, digit: u64) -> u64
     }
 }
 
-fn decimal_next(form: Form, count: usize, value: u64, c: u8) -> Word
-    ensures { result ≡ decimal_next form count value c }
-{
-    match c {
-        48..=57 => {
-            if 20 <= count {
-                return broken();
-            }
-            Word {
-                form,
-                count: count + 1,
-                value: with_digit(value, (c - 48) as u64),
-            }
-        }
-        _ => broken(),
-    }
-}
-
-fn hexadecimal_next(count: usize, value: u64, c: u8) -> Word
-    ensures { result ≡ hexadecimal_next count value c }
-{
-    let digit = text::digit_value(c) as u64;
-    if 16 <= digit {
-        return broken();
-    }
-    if 16 <= count {
-        return broken();
-    }
-    Word {
-        form: Form::Hexadecimal,
-        count: count + 1,
-        value: (value % 1152921504606846976) * 16 + digit,
-    }
-}
-
-fn first_next(c: u8) -> Word
+// The word of a first character.
+#[tactic(auto, unfolding(crate::specs::Words::first_next))]
+fn first(c: u8) -> Word
     ensures { result ≡ first_next c }
 {
     match c {
-        b'+' => Word {
-            form: Form::Plus,
-            count: 0,
-            value: 0,
-        },
-        b'-' => Word {
-            form: Form::Minus,
-            count: 0,
-            value: 0,
-        },
+        b'+' => Word::of(Form::Plus),
+        b'-' => Word::of(Form::Minus),
         b'0' => Word {
             form: Form::Zero,
             count: 1,
             value: 0,
         },
-        _ => decimal_next(Form::Decimal, 0, 0, c),
+        _ => Word::of(Form::Decimal).with_decimal(c),
     }
 }
 
-fn zero_next(c: u8) -> Word
+// The word of a `0` and a character after it.
+#[tactic(auto, unfolding(crate::specs::Words::zero_next))]
+fn after_zero(c: u8) -> Word
     ensures { result ≡ zero_next c }
 {
     if c == b'x' {
-        return Word {
-            form: Form::Hexadecimal,
-            count: 0,
-            value: 0,
-        };
+        return Word::of(Form::Hexadecimal);
     }
-    decimal_next(Form::Decimal, 1, 0, c)
-}
-
-// A number without a sign, or after a plus.
-fn positive(count: usize, value: u64, kind: Integer) -> IntegerRead
-    ensures { reading_of result ≡ decimal_reading kind false count value }
-{
-    if count == 0 {
-        return IntegerRead::Unwritten;
-    }
-    if top_of(kind) < value {
-        return IntegerRead::Outside;
-    }
-    IntegerRead::Value(value as i64)
-}
-
-// A number after a minus, which a kind without a sign does not have; the least long is -1 - (2 ^ 63 - 1).
-fn negative(count: usize, value: u64, kind: Integer) -> IntegerRead
-    ensures { reading_of result ≡ signed_reading kind true count value }
-{
-    if !is_signed(kind) {
-        return IntegerRead::Unwritten;
-    }
-    if count == 0 {
-        return IntegerRead::Unwritten;
-    }
-    if value == 0 {
-        return IntegerRead::Value(0);
-    }
-    if top_of(kind) < value - 1 {
-        return IntegerRead::Outside;
-    }
-    IntegerRead::Value(-1 - ((value - 1) as i64))
-}
-
-fn hexadecimal_reading(count: usize, value: u64, kind: Integer) -> IntegerRead
-    ensures { reading_of result ≡ hexadecimal_reading kind count value }
-{
-    if count == 0 {
-        return IntegerRead::Unwritten;
-    }
-    if most_hexadigits(kind) < count {
-        return IntegerRead::Unwritten;
-    }
-    IntegerRead::Value(integers::of_low_bytes(value, kind))
+    let zero = Word {
+        form: Form::Decimal,
+        count: 1,
+        value: 0,
+    };
+    zero.with_decimal(c)
 }
 
 impl Word {
     pub fn new() -> Word
         ensures { result ≡ fresh }
     {
+        Word::of(Form::Start)
+    }
+
+    // A word of a form, with no digit yet.
+    fn of(form: Form) -> Word
+        ensures { result ≡ word form 0 0 }
+    {
         Word {
-            form: Form::Start,
+            form,
             count: 0,
             value: 0,
         }
     }
 
     // The word with a character more.
+    #[tactic(auto, unfolding(crate::specs::Words::next_word))]
     pub fn next(self, c: u8) -> Word
         ensures { result ≡ next_word self c }
     {
-        let form = self.form;
-        let count = self.count;
-        let value = self.value;
-        match form {
-            Form::Start => first_next(c),
-            Form::Zero => zero_next(c),
-            Form::Decimal => decimal_next(Form::Decimal, count, value, c),
-            Form::Plus => decimal_next(Form::Plus, count, value, c),
-            Form::Minus => decimal_next(Form::Minus, count, value, c),
-            Form::Hexadecimal => hexadecimal_next(count, value, c),
+        match self.form {
+            Form::Start => first(c),
+            Form::Zero => after_zero(c),
+            Form::Decimal | Form::Plus | Form::Minus => self.with_decimal(c),
+            Form::Hexadecimal => self.with_hexadecimal(c),
             Form::Broken => self,
         }
     }
 
+    fn with_decimal(self, c: u8) -> Word
+        ensures { result ≡ decimal_next self.form self.count self.value c }
+    {
+        match c {
+            b'0'..=b'9' if self.count < 20 => Word {
+                count: self.count + 1,
+                value: with_digit(self.value, (c - b'0') as u64),
+                ..self
+            },
+            _ => Word::of(Form::Broken),
+        }
+    }
+
+    fn with_hexadecimal(self, c: u8) -> Word
+        ensures { result ≡ hexadecimal_next self.count self.value c }
+    {
+        let digit = text::digit_value(c) as u64;
+        if 16 <= digit || 16 <= self.count {
+            return Word::of(Form::Broken);
+        }
+        Word {
+            form: Form::Hexadecimal,
+            count: self.count + 1,
+            value: (self.value % 1152921504606846976) * 16 + digit,
+        }
+    }
+
     // The word as it is now, at a kind.
-    pub fn read(self, kind: Integer) -> IntegerRead
+    #[tactic(auto, unfolding(crate::specs::Words::reading))]
+    pub fn read(self, kind: Integer) -> Result<i64, IntegerError>
         ensures { reading_of result ≡ reading kind self }
     {
-        let form = self.form;
-        let count = self.count;
-        let value = self.value;
-        match form {
-            Form::Start => IntegerRead::Unwritten,
-            Form::Zero => IntegerRead::Value(0),
-            Form::Decimal => positive(count, value, kind),
-            Form::Plus => {
-                if is_signed(kind) {
-                    positive(count, value, kind)
-                } else {
-                    IntegerRead::Unwritten
-                }
-            }
-            Form::Minus => negative(count, value, kind),
-            Form::Hexadecimal => hexadecimal_reading(count, value, kind),
-            Form::Broken => IntegerRead::Unwritten,
+        match self.form {
+            Form::Start | Form::Broken => Err(IntegerError::Unwritten),
+            Form::Zero => Ok(0),
+            Form::Decimal => self.read_positive(kind),
+            Form::Plus if is_signed(kind) => self.read_positive(kind),
+            Form::Plus => Err(IntegerError::Unwritten),
+            Form::Minus => self.read_negative(kind),
+            Form::Hexadecimal => self.read_hexadecimal(kind),
         }
+    }
+
+    // A number without a sign, or after a plus.
+    fn read_positive(self, kind: Integer) -> Result<i64, IntegerError>
+        ensures { reading_of result ≡ decimal_reading kind false self.count self.value }
+    {
+        if self.count == 0 {
+            return Err(IntegerError::Unwritten);
+        }
+        if top_of(kind) < self.value {
+            return Err(IntegerError::Outside);
+        }
+        Ok(self.value as i64)
+    }
+
+    // A number after a minus, which a kind without a sign does not have; the least long is -1 - (2 ^ 63 - 1).
+    fn read_negative(self, kind: Integer) -> Result<i64, IntegerError>
+        ensures { reading_of result ≡ signed_reading kind true self.count self.value }
+    {
+        if !is_signed(kind) || self.count == 0 {
+            return Err(IntegerError::Unwritten);
+        }
+        if self.value == 0 {
+            return Ok(0);
+        }
+        if top_of(kind) < self.value - 1 {
+            return Err(IntegerError::Outside);
+        }
+        Ok(-1 - ((self.value - 1) as i64))
+    }
+
+    // "1 to 2, 4, 8, 16 hexadigits"
+    fn read_hexadecimal(self, kind: Integer) -> Result<i64, IntegerError>
+        ensures { reading_of result ≡ hexadecimal_reading kind self.count self.value }
+    {
+        if self.count == 0 || 2 * integer_bytes(kind) < self.count {
+            return Err(IntegerError::Unwritten);
+        }
+        Ok(integers::of_low_bytes(self.value, kind))
     }
 }
 
@@ -279,77 +235,49 @@ struct Digits {
     pub next: usize,
 }
 
-fn earlier(a: usize, b: usize) -> usize
-    ensures { Earlier a b result }
-{
-    if a < b { a } else { b }
-}
-
 // The digits from `at` on, at most 18 of them, so that no number overflows; the character after them is not looked at.
 fn quick_digits(s: &[u8], at: usize) -> Digits
     requires { at ≤ length s.now }
     ensures { DigitsAt s.now at result.number result.next }
 {
-    let end = earlier(s.len(), at + 18);
-    let mut number: u64 = 0;
-    let mut i = at;
-    while i < end {
-        let c = s[i];
-        if c < 48 {
-            break;
+    let end = s.len().min(at + 18);
+    let mut number = 0;
+    for next in at..end {
+        let c = s[next];
+        if !c.is_ascii_digit() {
+            return Digits { number, next };
         }
-        if 57 < c {
-            break;
-        }
-        number = number * 10 + ((c - 48) as u64);
-        i += 1;
+        number = number * 10 + (c - b'0') as u64;
     }
-    Digits { number, next: i }
+    Digits { number, next: end }
 }
 
-// An integer that was read at once, and the place after it; or a word for the careful way.
-#[derive(Clone, Copy)]
-pub enum Quick {
-    Value(i64, usize),
-    Careful,
-}
-
-fn quick_positive(s: &[u8], at: usize, kind: Integer) -> Quick
+// The number of the digits from `at` on and the place after them, if there are some and it is at most the kind's largest.
+fn quick_number(s: &[u8], at: usize, kind: Integer) -> Option<(u64, usize)>
     requires { at ≤ length s.now }
-    ensures { result ≡ quick_run kind false s.now at }
+    ensures run { (negative : Bool) → signed_as negative result ≡ quick_run kind negative s.now at }
+    ensures small { IfSome result (λ r. r.0 ≤ top kind) }
 {
-    let run = quick_digits(s, at);
-    let number = run.number;
-    let next = run.next;
-    if next == at {
-        return Quick::Careful;
+    let Digits { number, next } = quick_digits(s, at);
+    if next == at || top_of(kind) < number {
+        return None;
     }
-    if top_of(kind) < number {
-        return Quick::Careful;
-    }
-    Quick::Value(number as i64, next)
+    Some((number, next))
 }
 
-// At most 18 digits from `at` on, with a minus before them or not, if their number is at most the kind's largest (so the least integer is for the
-// careful way); the character after them is the caller's to look at.
-pub fn quick_integer(s: &[u8], at: usize, kind: Integer) -> Quick
+// An integer that is read at once, and the place after it: at most 18 digits from `at` on, with a minus before them or not, if their number is at
+// most the kind's largest (so the least integer is for the careful way, as is any other word); the character after them is the caller's to look at.
+pub fn quick_integer(s: &[u8], at: usize, kind: Integer) -> Option<(i64, usize)>
     requires { at < length s.now }
     ensures { result ≡ quickly kind s.now at }
 {
     if s[at] != b'-' {
-        return quick_positive(s, at, kind);
+        let (number, next) = quick_number(s, at, kind)?;
+        return Some((number as i64, next));
     }
     if !is_signed(kind) {
-        return Quick::Careful;
+        return None;
     }
-    let run = quick_digits(s, at + 1);
-    let number = run.number;
-    let next = run.next;
-    if next == at + 1 {
-        return Quick::Careful;
-    }
-    if top_of(kind) < number {
-        return Quick::Careful;
-    }
-    Quick::Value(0 - (number as i64), next)
+    let (number, next) = quick_number(s, at + 1, kind)?;
+    Some((-(number as i64), next))
 }

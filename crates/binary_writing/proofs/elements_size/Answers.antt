@@ -1,18 +1,8 @@
 -- `binary_writing::elements_size` meets its contract: in each arm the length is known, and a count takes four bytes.
 use Prim.Native.Nat.{◌+◌, ℕ}
-use Rattle.binary_writing.proofs.Sizes.{elements-bounded, elements-fixed, elements-free, filled-char, filled-other}
+use Rattle.binary_writing.proofs.Sizes.{elements-counted, elements-fixed, filled-char, filled-other}
 use mathlib.Core.Path.{◌∙◌, ap, sym}
-use native.Mathlib.Omega.{arith}
 use Rattle.binary_writing.proofs.elements_size.Goals as goal
-
-pub content_bytes-requires : goal.content_bytes-requires
-content_bytes-requires c = omega arith
-
-pub content_bytes-requires-in-Bounded : goal.content_bytes-requires-in-Bounded
-content_bytes-requires-in-Bounded c = omega arith
-
-pub content_bytes-requires-in-Free : goal.content_bytes-requires-in-Free
-content_bytes-requires-in-Free c = omega arith
 
 pub returns-then-is_char : goal.returns-then-is_char
 returns-then-is_char c = sym (elements-fixed _ _ _ c.in-Fixed.is ∙ filled-char _ _ _ (sym c.is_char.ensures ∙ c.if-is_char.true))
@@ -23,7 +13,4 @@ returns-else-is_char c =
     ∙ sym (elements-fixed _ _ _ c.in-Fixed.is ∙ filled-other _ _ _ (sym c.is_char.ensures ∙ c.if-is_char.false))
 
 pub returns-in-Bounded : goal.returns-in-Bounded
-returns-in-Bounded c = ap (λ (k : ℕ). 4 + k) c.content_bytes-in-Bounded.ensures.0 ∙ sym (elements-bounded _ _ _ c.in-Bounded.is)
-
-pub returns-in-Free : goal.returns-in-Free
-returns-in-Free c = ap (λ (k : ℕ). 4 + k) c.content_bytes-in-Free.ensures.0 ∙ sym (elements-free _ _ c.in-Free.is)
+returns-in-Bounded c = ap (λ (k : ℕ). 4 + k) c.content_bytes-in-Bounded.ensures.0 ∙ sym (elements-counted _ _ c.in-Bounded.is)

@@ -3,7 +3,7 @@ use Prim.Native.Nat.{ℕ}
 use Rattle.binary_writing.proofs.Writing.{empty-zeros, null-content, null-empty, null-none}
 use Rattle.binary.proofs.Laws.{filled-length}
 use Rattle.binary.specs.Binary.{bytes_of, number}
-use Rattle.table.proofs.Wrote.{wrote_as}
+use Rattle.table.proofs.Wrote.{wrote_as, wrote_none}
 use Rattle.table.specs.Clauses.{form_bytes}
 use Rattle.table.specs.Result.{Result}
 use Rattle.table.specs.Shape.{shape}
@@ -12,64 +12,41 @@ use lib.Dec.{lit≤}
 use lib.IntN.{ℤ}
 use lib.ListN.{length}
 use mathlib.Core.List.{List, [], ◌∷◌, map}
-use mathlib.Core.Path.{◌∙◌, ◌≡◌, ap, refl, sym}
+use mathlib.Core.Path.{◌∙◌, ◌≡◌, ap, sym}
 use mir.Syntax.{w64}
 use mir.Val.{of_z, to_z}
-use native.Mathlib.Nat.{add-zero}
 use native.Mathlib.Omega.{arith}
 use Rattle.binary_writing.proofs.put_binary_null.Goals as goal
 
 pub put_content-requires : goal.put_content-requires
 put_content-requires c =
-    let a = c.args in
-    let p = c.requires in
-    let z = c.in-Some.z in
-    let q = sym c.null_element-null.ensures ∙ c.in-Some.is in
-    let k = shape a.column.kind in (
-      lit≤ tt,
-      lit≤ tt,
-      omega (arith, p.1, ap length (null-content a.column z q), filled-length 1 (map (number k) (z ∷ [])) k (lit≤ tt)),
-    )
+    let a = c.args in let z = c.in-Some.z in let k = shape a.column.kind in
+    let q = sym c.null_element.ensures ∙ c.in-Some.is in
+    (lit≤ tt, omega (arith, c.requires.1, ap length (null-content a.column z q), filled-length 1 (map (number k) (z ∷ [])) k (lit≤ tt)))
 
 pub put_null-requires : goal.put_null-requires
 put_null-requires c =
     let a = c.args in
-    let q = sym c.null_element-null.ensures ∙ c.in-None.is in
-    let e = sym c.can_be_empty.ensures ∙ c.if-can_be_empty.true in (
-      c.requires.0,
-      omega (
-        arith,
-        c.requires.1,
-        ap
-            (λ (r : Result ℕ (List ℕ)). length (form_bytes r)) (null-empty a.column q e),
-        ap length (empty-zeros a.column e),
-      ),
-    )
-
-pub shape_of-out-in-Some : goal.shape_of-out-in-Some
-shape_of-out-in-Some c = c.put_content.auto.out
+    let q = sym c.null_element.ensures ∙ c.in-None.is in
+    let e = sym c.can_be_empty.ensures ∙ c.if-can_be_empty.true in
+    (c.requires.0, omega (arith, c.requires.1, ap (λ (r : Result ℕ (List ℕ)). length (form_bytes r)) (null-empty a.column q e), ap length (empty-zeros a.column e)))
 
 pub returns-in-Some : goal.returns-in-Some
 returns-in-Some c =
-    let a = c.args in
-    let z = c.in-Some.z in
-    let q = sym c.null_element-null.ensures ∙ c.in-Some.is in
+    let a = c.args in let z = c.in-Some.z in let k = shape a.column.kind in
+    let q = sym c.null_element.ensures ∙ c.in-Some.is in
     let e : to_z w64 (of_z w64 z) ≡ z = search rules in
-    let k = shape a.column.kind in
     wrote_as (ap (λ (x : ℤ). bytes_of k 1 (map (number k) (x ∷ []))) e ∙ sym (null-content a.column z q)) c.put_content.ensures
 
-pub shape_of-out-then-can_be_empty : goal.shape_of-out-then-can_be_empty
-shape_of-out-then-can_be_empty c = c.put_null.auto.out
-
-pub returns-then-can_be_empty : goal.returns-then-can_be_empty
-returns-then-can_be_empty c =
+pub returns-in-None : goal.returns-in-None
+returns-in-None c =
     let a = c.args in
-    let q = sym c.null_element-null.ensures ∙ c.in-None.is in
+    let q = sym c.null_element.ensures ∙ c.in-None.is in
     let e = sym c.can_be_empty.ensures ∙ c.if-can_be_empty.true in
     wrote_as (sym (ap form_bytes (null-empty a.column q e) ∙ empty-zeros a.column e)) c.put_null.ensures
 
-pub returns-else-can_be_empty : goal.returns-else-can_be_empty
-returns-else-can_be_empty c =
+pub returns-in-None-2 : goal.returns-in-None-2
+returns-in-None-2 c =
     let a = c.args in
-    let q = sym c.null_element-null.ensures ∙ c.in-None.is in
-    wrote_as (sym (ap form_bytes (null-none a.column q (sym c.can_be_empty.ensures ∙ c.if-can_be_empty.false)))) (record { now-is = refl; next-is = sym (add-zero _) })
+    let q = sym c.null_element.ensures ∙ c.in-None-2.is in
+    wrote_as (sym (ap form_bytes (null-none a.column q (sym c.can_be_empty.ensures ∙ c.if-can_be_empty.false)))) (wrote_none a.out.now a.at)

@@ -1,108 +1,84 @@
--- `binary_writing::put_bits` meets its contract. The loop's invariant: the bytes of the bits from the 8 * k-th on, put from k on, make the whole.
--- Fewer than eight that are left stand high in a last byte.
-use Prim.Native.Nat.{◌%◌, ◌*◌, ◌+◌, ◌/◌, ℕ}
-use Rattle.binary.proofs.Digits.{some_of}
-use Rattle.binary_writing.proofs.Writing.{length-packed-bits, pack-left, pack-next, pack-none}
-use Rattle.binary.specs.Binary.{bit_bytes, bit_of, pack}
-use lib.Dec.{lit≤}
-use lib.ListN.{drop, length-set, take}
-use lib.Seq.{sets}
-use mathlib.Core.List.{map}
+-- `binary_writing::put_bits` meets its contract. The invariant: what is left of the bits is still to be written here.
+use Prim.Native.Nat.{◌*◌, ◌-◌, ◌/◌, ◌<◌, ◌^◌, ℕ}
+use Rattle.binary_writing.proofs.Writing.{eight-at, eight-byte, length-packed, pack-end, pack-left}
+use Rattle.binary.specs.Binary.{bit_of}
+use Rattle.number.specs.Number.{of_digits}
+use Rattle.table.proofs.Wrote.{left-none, left-room, left_step, wrote_one}
+use borrow.Author.Tests.{eqb-false, eqb-true}
+use lib.IntN.{ℤ}
+use lib.ListN.{drop, get_or, length}
+use mathlib.Core.List.{List, [], ◌∷◌, map}
 use mathlib.Core.Path.{◌∙◌, ◌≡◌, ap, refl, sym}
-use native.Mathlib.Nat.{add-zero}
 use native.Mathlib.Omega.{arith}
 use Rattle.binary_writing.proofs.put_bits.Goals as goal
 
-pub loop-k-init : goal.loop-k-init
-loop-k-init c = (omega arith, refl, let o : c.args.at + 0 ≡ c.args.at = add-zero _ in rw o)
+pub bounds-out-o : goal.bounds-out-o
+bounds-out-o c =
+    let bits = c.args.bits.now in let k = c.loop-eight.eight-index in
+    let few : k < length bits / 8 = omega (arith, c.as_chunks.ensures.front_len, c.loop-eight-test.true) in
+    let eight = ap (λ (l : List (List ℤ)). get_or l k []) c.as_chunks.ensures.front ∙ eight-at [] (length bits / 8) k bits few in
+    let byte = c.packed_byte.ensures ∙ ap (λ (es : List ℤ). of_digits 2 0 (map bit_of es) * 2 ^ (8 - length es)) eight in
+    let more = eight-byte bits k c.packed_byte.result (omega arith) byte in
+    let room = left-room c.loop-eight.invariant (c.packed_byte.result ∷ []) _ more (omega (arith, c.requires, length-packed bits)) in
+    omega (arith, room)
 
-pub overflow_mul-k : goal.overflow_mul-k
-overflow_mul-k c = omega arith
+pub overflow_add-o : goal.overflow_add-o
+overflow_add-o c =
+    let bits = c.args.bits.now in let k = c.loop-eight.eight-index in
+    let few : k < length bits / 8 = omega (arith, c.as_chunks.ensures.front_len, c.loop-eight-test.true) in
+    let eight = ap (λ (l : List (List ℤ)). get_or l k []) c.as_chunks.ensures.front ∙ eight-at [] (length bits / 8) k bits few in
+    let byte = c.packed_byte.ensures ∙ ap (λ (es : List ℤ). of_digits 2 0 (map bit_of es) * 2 ^ (8 - length es)) eight in
+    let more = eight-byte bits k c.packed_byte.result (omega arith) byte in
+    let room = left-room c.loop-eight.invariant (c.packed_byte.result ∷ []) _ more (omega (arith, c.requires, length-packed bits)) in
+    omega (arith, room)
 
-pub packed_byte-b-requires : goal.packed_byte-b-requires
-packed_byte-b-requires c = (lit≤ tt, omega arith)
+pub loop-eight-preserved : goal.loop-eight-preserved
+loop-eight-preserved c =
+    let bits = c.args.bits.now in let k = c.loop-eight.eight-index in
+    let few : k < length bits / 8 = omega (arith, c.as_chunks.ensures.front_len, c.loop-eight-test.true) in
+    let eight = ap (λ (l : List (List ℤ)). get_or l k []) c.as_chunks.ensures.front ∙ eight-at [] (length bits / 8) k bits few in
+    let byte = c.packed_byte.ensures ∙ ap (λ (es : List ℤ). of_digits 2 0 (map bit_of es) * 2 ^ (8 - length es)) eight in
+    let more = eight-byte bits k c.packed_byte.result (omega arith) byte in
+    left_step c.loop-eight.invariant more (wrote_one c.loop-eight.out c.loop-eight.o c.packed_byte.result)
 
-pub overflow_add-out : goal.overflow_add-out
-unfolding bit_bytes
-overflow_add-out c = omega arith
+pub returns-then-is_empty : goal.returns-then-is_empty
+returns-then-is_empty c =
+    let bits = c.args.bits.now in
+    let k : c.loop-eight.eight-index ≡ length bits / 8 = omega (arith, c.as_chunks.ensures.front_len, c.loop-eight-test.false, c.loop-eight.auto.eight-index-end) in
+    let none = eqb-true (length c.as_chunks.result.1.now) 0 (sym c.is_empty.ensures ∙ c.if-is_empty.true) in
+    left-none c.loop-eight.invariant (pack-end bits (8 * c.loop-eight.eight-index) (omega (arith, k, none, c.as_chunks.ensures.back_len)))
 
-pub bounds-out-at : goal.bounds-out-at
-unfolding bit_bytes
-bounds-out-at c = omega arith
-
-pub overflow_add-k : goal.overflow_add-k
-overflow_add-k c = omega arith
-
-pub loop-k-smaller : goal.loop-k-smaller
-loop-k-smaller c = omega arith
-
-pub loop-k-preserved : goal.loop-k-preserved
-loop-k-preserved c =
-    let l = c.loop-k in
-    let a = c.args in (
-      omega arith,
-      simp length-set l.invariant.1,
-      sym (pack-next l.out a.scratch.now a.at l.k a.count _ (omega arith) c.requires.1 c.packed_byte-b.ensures) ∙ l.invariant.2,
-    )
+pub bounds-out-o-2 : goal.bounds-out-o-2
+bounds-out-o-2 c =
+    let bits = c.args.bits.now in
+    let k : c.loop-eight.eight-index ≡ length bits / 8 = omega (arith, c.as_chunks.ensures.front_len, c.loop-eight-test.false, c.loop-eight.auto.eight-index-end) in
+    let some : 0 < length c.as_chunks.result.1.now = omega (arith, eqb-false (length c.as_chunks.result.1.now) 0 (sym c.is_empty.ensures ∙ c.if-is_empty.false)) in
+    let rest : c.as_chunks.result.1.now ≡ drop (8 * c.loop-eight.eight-index) bits = c.as_chunks.ensures.back ∙ ap (λ (j : ℕ). drop j bits) (omega (arith, k)) in
+    let few : length c.as_chunks.result.1.now < 8 = omega (arith, c.as_chunks.ensures.back_len) in
+    let packed = pack-left bits (8 * c.loop-eight.eight-index) (rw rest at some) (rw rest at few) in
+    let byte = packed ∙ ap (λ (es : List ℤ). (of_digits 2 0 (map bit_of es) * 2 ^ (8 - length es)) ∷ []) (sym rest) ∙ ap (λ (x : ℕ). x ∷ []) (sym c.packed_byte-2.ensures) in
+    let room = left-room c.loop-eight.invariant (c.packed_byte-2.result ∷ []) [] byte (omega (arith, c.requires, length-packed bits)) in
+    omega (arith, room)
 
 pub overflow_add-result : goal.overflow_add-result
-unfolding bit_bytes
-overflow_add-result c = omega arith
-
-pub shape_of-out-then-left-eq0 : goal.shape_of-out-then-left-eq0
-shape_of-out-then-left-eq0 c = c.loop-k.invariant.1
-
-pub returns-then-left-eq0 : goal.returns-then-left-eq0
-unfolding bit_bytes
-returns-then-left-eq0 c =
-    let l = c.loop-k in
-    let a = c.args in
-    record {
-      now-is = ap (sets l.out (a.at + l.k)) (sym (pack-none (8 * l.k) a.count a.scratch.now c.requires.1 (omega (arith, c.if-left-eq0.true)))) ∙ l.invariant.2;
-      next-is = ap (λ (j : ℕ). a.at + j) (omega (arith, c.if-left-eq0.true, length-packed-bits a.count a.scratch.now c.requires.1));
-    }
-
-pub overflow_mul-full : goal.overflow_mul-full
-overflow_mul-full c = omega arith
-
-pub packed_byte-last-requires : goal.packed_byte-last-requires
-packed_byte-last-requires c = (omega arith, omega arith)
-
-pub overflow_add-out-2 : goal.overflow_add-out-2
-unfolding bit_bytes
-overflow_add-out-2 c = omega arith
-
-pub bounds-out-at-2 : goal.bounds-out-at-2
-unfolding bit_bytes
-bounds-out-at-2 c =
-    let p = some_of _ c.if-left-eq0.false in
-    omega arith
-
-pub overflow_add-result-2 : goal.overflow_add-result-2
-unfolding bit_bytes
-overflow_add-result-2 c =
-    let p = some_of _ c.if-left-eq0.false in
-    omega arith
-
-pub overflow_add-result-3 : goal.overflow_add-result-3
-unfolding bit_bytes
-overflow_add-result-3 c =
-    let p = some_of _ c.if-left-eq0.false in
-    omega arith
-
-pub shape_of-out : goal.shape_of-out
-shape_of-out c = simp length-set c.loop-k.invariant.1
+overflow_add-result c =
+    let bits = c.args.bits.now in
+    let k : c.loop-eight.eight-index ≡ length bits / 8 = omega (arith, c.as_chunks.ensures.front_len, c.loop-eight-test.false, c.loop-eight.auto.eight-index-end) in
+    let some : 0 < length c.as_chunks.result.1.now = omega (arith, eqb-false (length c.as_chunks.result.1.now) 0 (sym c.is_empty.ensures ∙ c.if-is_empty.false)) in
+    let rest : c.as_chunks.result.1.now ≡ drop (8 * c.loop-eight.eight-index) bits = c.as_chunks.ensures.back ∙ ap (λ (j : ℕ). drop j bits) (omega (arith, k)) in
+    let few : length c.as_chunks.result.1.now < 8 = omega (arith, c.as_chunks.ensures.back_len) in
+    let packed = pack-left bits (8 * c.loop-eight.eight-index) (rw rest at some) (rw rest at few) in
+    let byte = packed ∙ ap (λ (es : List ℤ). (of_digits 2 0 (map bit_of es) * 2 ^ (8 - length es)) ∷ []) (sym rest) ∙ ap (λ (x : ℕ). x ∷ []) (sym c.packed_byte-2.ensures) in
+    let room = left-room c.loop-eight.invariant (c.packed_byte-2.result ∷ []) [] byte (omega (arith, c.requires, length-packed bits)) in
+    omega (arith, room)
 
 pub returns : goal.returns
-unfolding bit_bytes
 returns c =
-    let l = c.loop-k in
-    let a = c.args in
-    let p = some_of _ c.if-left-eq0.false in
-    let k : l.k ≡ a.count / 8 = omega arith in
-    let left = pack-left a.scratch.now (a.count / 8) a.count (a.count % 8) _ c.requires.1 (omega arith) p (omega arith) c.packed_byte-last.ensures in
-    record {
-      now-is = ap (sets l.out (a.at + a.count / 8)) (sym left) ∙ ap (λ (j : ℕ). sets l.out (a.at + j) (pack (drop (8 * j) (map bit_of (take a.count a.scratch.now)))))
-          (sym k) ∙ l.invariant.2;
-      next-is = omega (arith, p, length-packed-bits a.count a.scratch.now c.requires.1);
-    }
+    let bits = c.args.bits.now in
+    let k : c.loop-eight.eight-index ≡ length bits / 8 = omega (arith, c.as_chunks.ensures.front_len, c.loop-eight-test.false, c.loop-eight.auto.eight-index-end) in
+    let some : 0 < length c.as_chunks.result.1.now = omega (arith, eqb-false (length c.as_chunks.result.1.now) 0 (sym c.is_empty.ensures ∙ c.if-is_empty.false)) in
+    let rest : c.as_chunks.result.1.now ≡ drop (8 * c.loop-eight.eight-index) bits = c.as_chunks.ensures.back ∙ ap (λ (j : ℕ). drop j bits) (omega (arith, k)) in
+    let few : length c.as_chunks.result.1.now < 8 = omega (arith, c.as_chunks.ensures.back_len) in
+    let packed = pack-left bits (8 * c.loop-eight.eight-index) (rw rest at some) (rw rest at few) in
+    let byte = packed ∙ ap (λ (es : List ℤ). (of_digits 2 0 (map bit_of es) * 2 ^ (8 - length es)) ∷ []) (sym rest) ∙ ap (λ (x : ℕ). x ∷ []) (sym c.packed_byte-2.ensures) in
+    left-none (left_step c.loop-eight.invariant byte (wrote_one c.loop-eight.out c.loop-eight.o c.packed_byte-2.result)) refl

@@ -1,7 +1,7 @@
 -- `binary_writing::put_null` meets its contract: a count of 0, then zeros.
 use Rattle.table.specs.Shape.{shape}
 use Prim.Native.Nat.{zero-le}
-use Rattle.binary_writing.proofs.Sizes.{room_bound, zeros-length}
+use Rattle.binary_writing.proofs.Sizes.{zeros-length}
 use Rattle.binary_writing.proofs.Writing.{zeros-as}
 use Rattle.binary.specs.Binary.{content_bytes}
 use Rattle.binary_writing.specs.Clauses.{room_size}
@@ -10,37 +10,19 @@ use mathlib.Core.Path.{◌∙◌, ap}
 use native.Mathlib.Omega.{arith}
 use Rattle.binary_writing.proofs.put_null.Goals as goal
 
-pub content_bytes-size-requires : goal.content_bytes-size-requires
-content_bytes-size-requires c =
-    let a = c.args in
-    omega (arith, c.room_in.ensures, room_bound a.column.len 0 zero-le, c.requires.0)
-
 pub put_count-next-requires : goal.put_count-next-requires
 unfolding room_size
-put_count-next-requires c =
-    let a = c.args in
-    (omega (arith, zeros-length a.column, c.requires.1), zero-le)
+put_count-next-requires c = (omega (arith, zeros-length c.args.column, c.requires.1), zero-le)
 
 pub put_zeros-requires : goal.put_zeros-requires
 unfolding room_size
 put_zeros-requires c =
     let a = c.args in
     let s = c.content_bytes-size.ensures.0 ∙ ap (content_bytes (shape a.column.kind)) c.room_in.ensures in
-    omega (
-      arith,
-      zeros-length a.column,
-      c.requires.1,
-      c.put_count-next.ensures.next-is,
-      c.put_count-next.auto.out,
-      s,
-    )
-
-pub shape_of-out : goal.shape_of-out
-shape_of-out c = c.put_zeros.auto.out ∙ c.put_count-next.auto.out
+    omega (arith, zeros-length a.column, c.requires.1, c.put_count-next.ensures.next-is, c.put_count-next.auto.out, s)
 
 pub returns : goal.returns
 returns c =
     let a = c.args in
-    let s = c.content_bytes-size.ensures.0
-    ∙ ap (content_bytes (shape a.column.kind)) c.room_in.ensures in
+    let s = c.content_bytes-size.ensures.0 ∙ ap (content_bytes (shape a.column.kind)) c.room_in.ensures in
     wrote_as (zeros-as a.column _ s) (wrote_then_lem c.put_count-next.ensures c.put_zeros.ensures)

@@ -1,27 +1,17 @@
--- `binary_writing::put_zeros` meets its contract. The loop's invariant: the zeros that are left, put from o on, make the whole.
-use Prim.Native.Nat.{◌+◌, ◌-◌, ℕ}
-use Rattle.binary_writing.proofs.Writing.{zero-next}
-use lib.ListN.{length-replicate, length-set}
-use mathlib.Core.Path.{◌∙◌, ◌≡◌, ap, refl, sym}
+-- `binary_writing::put_zeros` meets its contract: what is filled is a run of zeros.
+use Prim.Native.Nat.{◌+◌, ◌-◌, ◌≤◌, ℕ}
+use Rattle.table.proofs.Wrote.{wrote_as, wrote-part}
+use lib.ListN.{drop, length, length-drop, length-replicate, replicate, take}
+use lib.Seq.{length-take-le}
+use mathlib.Core.Path.{◌∙◌, ◌≡◌, ap}
 use native.Mathlib.Omega.{arith}
 use Rattle.binary_writing.proofs.put_zeros.Goals as goal
 
-pub loop-o-init : goal.loop-o-init
-loop-o-init c =
-    let a = c.args in
-    (omega arith, omega arith, refl, let e : (a.at + a.n) - a.at ≡ a.n = omega arith in rw e)
-
-pub loop-o-preserved : goal.loop-o-preserved
-loop-o-preserved c =
-    let l = c.loop-o in
-    (omega arith, omega arith, simp length-set l.invariant.2, sym (zero-next l.out l.o _ c.loop-o-test.true) ∙ l.invariant.3)
-
-pub shape_of-out : goal.shape_of-out
-shape_of-out c = c.loop-o.invariant.2
-
 pub returns : goal.returns
 returns c =
-    let l = c.loop-o in
     let a = c.args in
-    let e : (a.at + a.n) - l.o ≡ 0 = omega arith in
-    record { now-is = rw e at l.invariant.3; next-is = ap (λ (k : ℕ). a.at + k) (sym (length-replicate a.n 0)) }
+    let n : (a.at + a.n) - a.at ≡ a.n = omega arith in
+    let room : a.n ≤ length (drop a.at a.out.now) = omega (arith, length-drop a.at a.out.now) in
+    let long : length (take ((a.at + a.n) - a.at) (drop a.at a.out.now)) ≡ a.n = ap (λ (m : ℕ). length (take m (drop a.at a.out.now))) n ∙ length-take-le a.n (drop a.at a.out.now) room in
+    let filled : c.fill.new.self ≡ replicate a.n 0 = c.fill.ensures.after (λ y e. e) ∙ ap (λ (m : ℕ). replicate m 0) long in
+    wrote_as filled (wrote-part a.out.now c.fill.new.self a.at (a.at + a.n) (omega (arith, ap length filled, length-replicate {A = ℕ} a.n 0)) c.requires)

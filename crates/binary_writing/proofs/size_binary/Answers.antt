@@ -1,24 +1,30 @@
--- `binary_writing::size_binary` meets its contract: null by its form, an empty cell by none, else the elements.
+-- `binary_writing::size_binary` meets its contract: null by its form, nothing for an empty cell, or the elements.
 use Rattle.binary_writing.proofs.Sizes.{held-length}
-use Rattle.binary_writing.proofs.Writing.{write-empty, write-null, write-shown}
+use Rattle.binary_writing.proofs.Writing.{write-none, write-some}
+use Rattle.binary.specs.Binary.{write_binary}
+use Prim.Native.Nat.{◌≤◌}
+use Rattle.table.specs.Cell.{bound}
 use Rattle.table.specs.Clauses.{size_of}
 use Rattle.table.specs.Result.{good}
-use mathlib.Core.Path.{◌∙◌, ap, sym}
+use lib.ListN.{length, take}
+use lib.Seq.{length-take-le}
+use mathlib.Core.Path.{◌∙◌, ◌≡◌, ap, refl, sym}
 use Rattle.binary_writing.proofs.size_binary.Goals as goal
 
-pub returns-then-null : goal.returns-then-null
-returns-then-null c =
-    let a = c.args in
-    c.null_size.ensures ∙ sym (ap size_of (write-null a.column a.null a.count a.scratch.now c.if-null.true))
+pub returns-in-None : goal.returns-in-None
+unfolding write_binary
+returns-in-None c = rw c.in-None.is c.null_size.ensures
 
-pub returns-then-count-eq0 : goal.returns-then-count-eq0
-returns-then-count-eq0 c =
-    let a = c.args in
-    sym (ap size_of (write-empty a.column a.null a.count a.scratch.now c.if-null.false c.if-count-eq0.true))
+pub returns-in-Some-eq0 : goal.returns-in-Some-eq0
+returns-in-Some-eq0 c =
+    let none = sym c.in-Some-eq0.field-0-is ∙ c.in-Some-eq0.field-0-test in
+    rw (c.in-Some-eq0.is, none) (sym (ap size_of (write-none c.args.column (take 0 c.args.scratch.now) refl)))
 
-pub returns : goal.returns
-returns c =
-    let a = c.args in
-    let p = c.requires in
-    ap good (c.elements_size.ensures ∙ sym (held-length a.column a.count a.scratch.now p.1 p.2))
-    ∙ sym (ap size_of (write-shown a.column a.null a.count a.scratch.now c.if-null.false c.if-count-eq0.false p.2))
+pub returns-in-Some : goal.returns-in-Some
+returns-in-Some c =
+    let few : c.in-Some.count ≤ bound c.args.column.len = rw c.in-Some.is at c.requires.1 in
+    let within : c.in-Some.count ≤ length c.args.scratch.now = rw c.in-Some.is at c.requires.2 in
+    let es = take c.in-Some.count c.args.scratch.now in
+    let shows : c.in-Some.count ≡ 0 → ⊥ = rw c.in-Some.is at c.in-Some.count-test.1 in
+    let some = write-some c.args.column es (λ e. shows (sym (length-take-le c.in-Some.count c.args.scratch.now within) ∙ e)) in
+    rw c.in-Some.is (ap good (c.elements_size.ensures ∙ sym (held-length c.args.column c.in-Some.count c.args.scratch.now few within)) ∙ sym (ap size_of some))

@@ -1,60 +1,44 @@
 -- `binary_writing::write_binary` meets its contract: null by its form, nothing for an empty cell, or the elements.
-use Prim.Native.Nat.{ℕ}
-use Rattle.binary_writing.proofs.Writing.{write-empty, write-null, write-shown}
-use Rattle.table.proofs.Wrote.{wrote_as}
+use Rattle.binary_writing.proofs.Writing.{write-none, write-some}
+use Rattle.binary.specs.Binary.{null_form, write_binary}
+use Rattle.table.proofs.Wrote.{wrote_as, wrote_none}
+use Rattle.table.specs.Cell.{null_element, shown}
 use Rattle.table.specs.Clauses.{form_bytes}
-use Rattle.table.specs.Result.{Result}
-use lib.ListN.{length}
-use mathlib.Core.List.{List}
-use mathlib.Core.Path.{ap, refl, sym}
-use native.Mathlib.Nat.{add-zero}
-use native.Mathlib.Omega.{arith}
+use Prim.Native.Nat.{◌+◌, ◌≤◌}
+use lib.ListN.{length, take}
+use lib.Seq.{length-take-le}
+use mathlib.Core.Path.{◌∙◌, ◌≡◌, ap, refl, sym}
 use Rattle.binary_writing.proofs.write_binary.Goals as goal
 
 pub put_binary_null-requires : goal.put_binary_null-requires
+unfolding write_binary
 put_binary_null-requires c =
-    let a = c.args in (
-      c.requires.len_bound.0,
-      omega (
-        arith,
-        c.requires.scratch_in_bounds,
-        ap (λ (r : Result ℕ (List ℕ)). length (form_bytes r))
-            (write-null a.column a.null a.count a.scratch.now c.if-null.true),
-      ),
-    )
-
-pub shape_of-out-then-null : goal.shape_of-out-then-null
-shape_of-out-then-null c = c.put_binary_null.auto.out
-
-pub returns-then-null : goal.returns-then-null
-returns-then-null c =
     let a = c.args in
-    wrote_as (sym (ap form_bytes (write-null a.column a.null a.count a.scratch.now c.if-null.true))) c.put_binary_null.ensures
+    let room : a.at + length (form_bytes (null_form a.column (null_element a.column))) ≤ length a.out.now = rw c.in-None.is at c.requires.scratch_in_bounds in
+    (c.requires.len_bound.0, room)
 
-pub returns-then-count-eq0 : goal.returns-then-count-eq0
-returns-then-count-eq0 c =
-    let a = c.args in
-    wrote_as (sym (ap form_bytes (write-empty a.column a.null a.count a.scratch.now c.if-null.false c.if-count-eq0.true))) (record { now-is = refl; next-is = sym (add-zero _) })
+pub returns-in-None : goal.returns-in-None
+unfolding write_binary
+returns-in-None c = rw c.in-None.is c.put_binary_null.ensures
 
-pub put_elements-requires : goal.put_elements-requires
-put_elements-requires c =
-    let a = c.args in
-    let p = c.requires in
-    record {
-      len_bound = p.len_bound;
-      scratch_in_bounds = omega (
-        arith,
-        p.scratch_in_bounds,
-        ap (λ (r : Result ℕ (List ℕ)). length (form_bytes r)) (write-shown a.column a.null a.count a.scratch.now c.if-null.false
-            c.if-count-eq0.false p.len_bound.2),
-      );
-    }
+pub returns-in-Some-eq0 : goal.returns-in-Some-eq0
+returns-in-Some-eq0 c =
+    let none = sym c.in-Some-eq0.field-0-is ∙ c.in-Some-eq0.field-0-test in
+    rw (c.in-Some-eq0.is, none) (wrote_as (sym (ap form_bytes (write-none c.args.column (take 0 c.args.scratch.now) refl))) (wrote_none c.args.out.now c.args.at))
 
-pub shape_of-out : goal.shape_of-out
-shape_of-out c = c.put_elements.auto.out
+pub put_elements-requires-clause-scratch_in_bounds : goal.put_elements-requires-clause-scratch_in_bounds
+put_elements-requires-clause-scratch_in_bounds c =
+    let a = c.args in let es = take c.in-Some.count a.scratch.now in
+    let within : c.in-Some.count ≤ length a.scratch.now = rw c.in-Some.is at c.requires.len_bound.2 in
+    let shows : c.in-Some.count ≡ 0 → ⊥ = rw c.in-Some.is at c.in-Some.count-test.1 in
+    let some = write-some a.column es (λ e. shows (sym (length-take-le c.in-Some.count a.scratch.now within) ∙ e)) in
+    let room : a.at + length (form_bytes (write_binary a.column (shown es))) ≤ length a.out.now = rw c.in-Some.is at c.requires.scratch_in_bounds in
+    rw some at room
 
-pub returns : goal.returns
-returns c =
-    let a = c.args in
-    wrote_as (sym (ap form_bytes (write-shown a.column a.null a.count a.scratch.now c.if-null.false
-    c.if-count-eq0.false c.requires.len_bound.2))) c.put_elements.ensures
+pub returns-in-Some : goal.returns-in-Some
+returns-in-Some c =
+    let a = c.args in let es = take c.in-Some.count a.scratch.now in
+    let within : c.in-Some.count ≤ length a.scratch.now = rw c.in-Some.is at c.requires.len_bound.2 in
+    let shows : c.in-Some.count ≡ 0 → ⊥ = rw c.in-Some.is at c.in-Some.count-test.1 in
+    let some = write-some a.column es (λ e. shows (sym (length-take-le c.in-Some.count a.scratch.now within) ∙ e)) in
+    rw c.in-Some.is (wrote_as (sym (ap form_bytes some)) c.put_elements.ensures)

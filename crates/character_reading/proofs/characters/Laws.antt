@@ -4,7 +4,7 @@ use Prim.Native.Nat.{◌+◌, ◌-◌, ◌<◌, ◌≤◌, suc, ℕ}
 use native.Mathlib.Omega.{arith}
 use mathlib.Core.List.{List, [], ◌++◌, ◌∷◌}
 use mathlib.Core.Bool.{false}
-use mathlib.Core.Path.{◌∙◌, ◌≡◌, ap, refl}
+use mathlib.Core.Path.{◌∙◌, ◌≡◌, ap, refl, subst}
 use lib.ListN.{drop, get_or, length, length-drop, take}
 use lib.Seq.{get_or-drop, take-suc}
 use borrow.Author.Tests.{eq-eqb, ne_eqb}
@@ -21,8 +21,11 @@ use Rattle.character_reading.specs.declared.characters.Source.TheVariants.{Marku
 use Rattle.character_reading.specs.declared.characters.Source.{Source}
 use Rattle.text.proofs.Scan.{after_is}
 use Rattle.text.specs.Clauses.{TagIs}
-use Rattle.text.specs.declared.Tag.TheVariants.{At, Broken}
-use Rattle.text.specs.declared.Tag.{Tag}
+use Rattle.std.specs.Prelude.{Err, None, Ok, Option, Result as Outcome, Some}
+use Rattle.std.specs.Option.{ok_or}
+use Rattle.std.specs.Result.{IsErrAnd}
+use Rattle.table.proofs.Failures.{handed-on}
+use Rattle.table.specs.declared.Reason.{Reason}
 
 -- ---- the quick way: the end tag is bare
 
@@ -30,15 +33,25 @@ bare-end : (r : List ℕ) → characters plain (bytes "</TD>" ++ r) ≡ good ([]
 unfolding characters step follow tag ends after skip_white is_white close-TD
 bare-end r = refl
 
-quick-end : {s : List ℕ} {i next : ℕ} → TagIs (λ n. after n (bytes "</TD>") (drop i s)) s i (At next) → ItemIs Markup (characters plain (drop i s)) s i (End next)
+quick-end : {s : List ℕ} {i next : ℕ} → TagIs (λ n. after n (bytes "</TD>") (drop i s)) s i (Some next) → ItemIs Markup (characters plain (drop i s)) s i (Ok (End next))
 quick-end {s} {i} {next} t = record {
   found = ap (characters plain) (after_is 10 (bytes "</TD>") (drop i s) (drop next s) (t.found 10)) ∙ bare-end (drop next s);
   within = t.within;
 }
 
-pub ends-bare : {s : List ℕ} {i : ℕ} (r : Tag) → TagIs (λ n. after n (bytes "</TD>") (drop i s)) s i r → TextEnds Markup s i r
-ends-bare (At next) t = record { found = quick-end t }
-ends-bare Broken t = record { found = tt }
+pub ends-bare : {s : List ℕ} {i : ℕ} (r : Option ℕ) → TagIs (λ n. after n (bytes "</TD>") (drop i s)) s i r → TextEnds Markup s i r
+ends-bare (Some next) t = record { found = quick-end t }
+ends-bare None t = record { found = tt }
+
+-- ---- what `?` hands on where nothing was found
+
+pub markup-failed : {A B : Type 0} {r : Outcome A Reason} {o : Option B} {e : Reason} → IsErrAnd r (λ (f : Reason). f ≡ e)
+    → ◌≡◌ {A = Outcome B Reason} (Err e) (ok_or o Reason.Markup) → o ≡ None → r ≡ Err Reason.Markup
+markup-failed {B = B} {o = None} h v q = handed-on h ∙ ap Err (errs {A = B} v)
+  where
+    errs : {A : Type 0} {e f : Reason} → ◌≡◌ {A = Outcome A Reason} (Err e) (Err f) → e ≡ f
+    errs q = cc
+markup-failed {o = Some x} h v q = cc
 
 -- ---- a reference up to its `;`
 
@@ -66,22 +79,27 @@ take_more s from i h k =
     let f : from + (i - from) ≡ i = omega arith in
     rw (e, take-suc (drop from s) (i - from) 0 (omega (arith, length-drop from s)), get_or-drop, f)
 
-module _ {s : List ℕ} {from end : ℕ} (t : NameIs s from (At end)) where
-  pub name-known : {c : ℕ} → expanded (take (end - from) (drop from s)) ≡ good c → ItemIs Markup (characters (reference []) (drop from s)) s from (Code c (end + 1))
+module _ {s : List ℕ} {from end : ℕ} (t : NameIs s from (Some end)) where
+  pub name-known : {c : ℕ} → expanded (take (end - from) (drop from s)) ≡ good c → ItemIs Markup (characters (reference []) (drop from s)) s from (Ok (Code c (end + 1)))
   unfolding referred
   name-known e = record { found = t.found ∙ rw e; within = (omega (arith, t.within.0), omega (arith, t.within.1)) }
 
-  pub name-unknown : expanded (take (end - from) (drop from s)) ≡ bad 10 → ItemIs Markup (characters (reference []) (drop from s)) s from Item.Broken
+  pub name-unknown : expanded (take (end - from) (drop from s)) ≡ bad 10 → ItemIs Markup (characters (reference []) (drop from s)) s from (Err Reason.Markup)
   unfolding referred
   name-unknown e = record { found = t.found ∙ rw e; within = tt }
 
 -- ---- the next character
 
+-- what was read at a place, as the match on it has it
+pub read-as : (source : Source) (s : List ℕ) (i : ℕ) {k j : Item} → k ≡ j → ItemIs source (characters_of source (drop i s)) s i (Ok k)
+    → ItemIs source (characters_of source (drop i s)) s i (Ok j)
+read-as source s i e t = subst (λ (x : Item). ItemIs source (characters_of source (drop i s)) s i (Ok x)) e t
+
 -- the same answer, of a definition that begins earlier
-pub item_from : {source : Source} {s : List ℕ} {i k : ℕ} {d e : Result ℕ (List ℕ × List ℕ)} (r : Item) → i ≤ k → e ≡ d → ItemIs source d s k r → ItemIs source e s i r
-item_from (Code c next) h q t = record { found = q ∙ t.found; within = (omega (arith, t.within.0), t.within.1) }
-item_from (End next) h q t = record { found = q ∙ t.found; within = (omega (arith, t.within.0), t.within.1) }
-item_from Item.Broken h q t = record { found = q ∙ t.found; within = tt }
+pub item_from : {source : Source} {s : List ℕ} {i k : ℕ} {d e : Result ℕ (List ℕ × List ℕ)} (r : Outcome Item Reason) → i ≤ k → e ≡ d → ItemIs source d s k r → ItemIs source e s i r
+item_from (Ok (Code c next)) h q t = record { found = q ∙ t.found; within = (omega (arith, t.within.0), t.within.1) }
+item_from (Ok (End next)) h q t = record { found = q ∙ t.found; within = (omega (arith, t.within.0), t.within.1) }
+item_from (Err e) h q t = record { found = q ∙ t.found; within = tt }
 
 module _ (s : List ℕ) (i : ℕ) where
   pub text-end : length s ≤ i → characters plain (drop i s) ≡ bad 10
@@ -103,30 +121,30 @@ module _ (s : List ℕ) (i : ℕ) where
   pub text-return : i < length s → get_or s i 0 ≡ 13 → characters plain (drop i s) ≡ characters plain (13 ∷ drop (i + 1) s)
   text-return h e = ap (characters plain) (next1 s i h ∙ ap (λ (b : ℕ). b ∷ drop (i + 1) s) e)
 
-  pub plain_end : i ≤ length s → length s ≤ i → ItemIs Plain (characters_of Plain (drop i s)) s i (End i)
+  pub plain_end : i ≤ length s → length s ≤ i → ItemIs Plain (characters_of Plain (drop i s)) s i (Ok (End i))
   plain_end l h = record { found = rw (done s i h); within = (omega arith, omega arith) }
 
   plain_more : i < length s → characters_of Plain (drop i s) ≡ cons_text (get_or s i 0) (characters_of Plain (drop (i + 1) s))
   unfolding cons_text
   plain_more h = rw (next1 s i h)
 
-  pub plain_code : (c : ℕ) → i < length s → get_or s i 0 ≡ c → ItemIs Plain (characters_of Plain (drop i s)) s i (Code c (i + 1))
+  pub plain_code : (c : ℕ) → i < length s → get_or s i 0 ≡ c → ItemIs Plain (characters_of Plain (drop i s)) s i (Ok (Code c (i + 1)))
   plain_code c h e = record {
     found = plain_more h ∙ ap (λ (b : ℕ). cons_text b (characters_of Plain (drop (i + 1) s))) e;
     within = (omega arith, omega arith);
   }
 
   -- a byte that begins no tag, no reference and no line end stands for itself, wherever it is read
-  pub itself : (source : Source) → i < length s → (get_or s i 0 ≡ 60 → ⊥) → (get_or s i 0 ≡ 38 → ⊥) → (get_or s i 0 ≡ 13 → ⊥)
+  pub itself : (source : Source) → i < length s → (source ≡ Markup → (get_or s i 0 ≡ 60 → ⊥) × (get_or s i 0 ≡ 38 → ⊥) × (get_or s i 0 ≡ 13 → ⊥))
       → characters_of source (drop i s) ≡ cons_text (get_or s i 0) (characters_of source (drop (i + 1) s))
-  itself Markup h n e r = text-plain h n e r
-  itself Plain h n e r = plain_more h
+  itself Markup h n = let m = n refl in text-plain h m.0 m.1 m.2
+  itself Plain h n = plain_more h
 
 -- ---- a line end, from its 13 on
 
 module _ (s : List ℕ) (i : ℕ) (h : i < length s) where
   -- a 13 with no 10 behind it
-  pub return-alone-item : feed_first (drop (i + 1) s) ≡ false → ItemIs Markup (characters plain (13 ∷ drop (i + 1) s)) s i (Code 10 (i + 1))
+  pub return-alone-item : feed_first (drop (i + 1) s) ≡ false → ItemIs Markup (characters plain (13 ∷ drop (i + 1) s)) s i (Ok (Code 10 (i + 1)))
   return-alone-item f = record { found = return-alone-read (drop (i + 1) s) f; within = (omega arith, omega arith) }
 
   pub return-last : length s ≤ i + 1 → feed_first (drop (i + 1) s) ≡ false
@@ -139,7 +157,7 @@ module _ (s : List ℕ) (i : ℕ) (h : i < length s) where
     return-other n = rw (next1 s (i + 1) k) (ne_eqb (get_or s (i + 1) 0) 10 n)
 
     -- a 13 with a 10 behind it
-    pub return-feed-item : get_or s (i + 1) 0 ≡ 10 → ItemIs Markup (characters plain (13 ∷ drop (i + 1) s)) s i (Code 10 (i + 1 + 1))
+    pub return-feed-item : get_or s (i + 1) 0 ≡ 10 → ItemIs Markup (characters plain (13 ∷ drop (i + 1) s)) s i (Ok (Code 10 (i + 1 + 1)))
     unfolding feed_first
     return-feed-item e = record {
       found =
@@ -148,11 +166,11 @@ module _ (s : List ℕ) (i : ℕ) (h : i < length s) where
       within = (omega arith, omega arith);
     }
 
-pub ended_by : {s : List ℕ} {i next : ℕ} → TagIs (λ n. tag n (bytes "</TD") (drop i s)) s i (At next) → ItemIs Markup (ended (drop i s)) s i (End next)
+pub ended_by : {s : List ℕ} {i next : ℕ} → TagIs (λ n. tag n (bytes "</TD") (drop i s)) s i (Some next) → ItemIs Markup (ended (drop i s)) s i (Ok (End next))
 unfolding ended close-TD
 ended_by t = record { found = rw (t.found 10); within = t.within }
 
-pub ended-not : {s : List ℕ} {i : ℕ} → TagIs (λ n. tag n (bytes "</TD") (drop i s)) s i Broken → ItemIs Markup (ended (drop i s)) s i Item.Broken
+pub ended-not : {s : List ℕ} {i : ℕ} → TagIs (λ n. tag n (bytes "</TD") (drop i s)) s i None → ItemIs Markup (ended (drop i s)) s i (Err Reason.Markup)
 unfolding ended close-TD
 ended-not t = record { found = rw (t.found 10); within = tt }
 

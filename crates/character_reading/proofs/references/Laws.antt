@@ -7,7 +7,8 @@ use mathlib.Core.Bool.{Bool, cond, false, true}
 use mathlib.Core.List.{List, [], ◌∷◌}
 use mathlib.Core.Path.{◌≡◌, refl, sym}
 use lib.Dec.{lit≤}
-use lib.ListN.{drop, get_or, length}
+use lib.ListN.{drop, get_or, length, length-drop, take}
+use Rattle.std.proofs.lemmas.List.{take_all}
 use borrow.Author.Tests.{le-ltb, lt-ltb, ne_eqb}
 use Rattle.number.specs.Number.{Fault, Unwritten, digit, hexadigit, numeral, sized}
 use Rattle.table.proofs.Bytes.{between-no}
@@ -71,30 +72,30 @@ or-bad : (r : Result Fault ℕ) → or_else {E = ℕ} (refused_as (λ f. 10) r) 
 or-bad (good n) = refl
 or-bad (bad f) = refl
 
-pub expand-none : (s : List ℕ) → length s ≡ 0 → expanded s ≡ bad 10
-unfolding expanded after named names same
-expand-none [] h = refl
-expand-none (b ∷ s) h = absurd (omega arith)
-
-pub expand-name : (s : List ℕ) → (get_or s 0 0 ≡ 35 → ⊥) → expanded s ≡ named names s
+pub expand-name : (s : List ℕ) → (0 < length s → get_or s 0 0 ≡ 35 → ⊥) → expanded s ≡ named names s
 unfolding expanded after
 expand-name [] h = refl
-expand-name (b ∷ s) h = rw (ne_eqb 35 b (λ e. h (sym e)))
+expand-name (b ∷ s) h = rw (ne_eqb 35 b (λ e. h (omega arith) (sym e)))
 
-pub expand-hex : (s : List ℕ) → 1 < length s → get_or s 0 0 ≡ 35 → get_or s 1 0 ≡ 120 → expanded s ≡ numeric hexadigit 16 (drop 2 s)
-unfolding expanded after named names same numeric sized numeral digit between
-expand-hex [] h e f = absurd (omega arith)
-expand-hex (a ∷ []) h e f = absurd (omega arith)
-expand-hex (a ∷ b ∷ s) h e f = rw (e, f, both-bad) (or-bad (cond (between 1 8 (length s)) (numeral hexadigit 16 0 s) (bad Unwritten)))
+-- what stands behind its first byte
+pub behind_first : (s : List ℕ) → take (length s - 1) (drop 1 s) ≡ drop 1 s
+behind_first s = take_all (length s - 1) (drop 1 s) (omega (arith, length-drop 1 s))
 
-pub expand-short : (s : List ℕ) → length s ≡ 1 → get_or s 0 0 ≡ 35 → expanded s ≡ bad 10
-unfolding expanded after named names same numeric sized between
-expand-short [] h e = absurd (omega arith)
-expand-short (a ∷ []) h e = rw e
-expand-short (a ∷ b ∷ s) h e = absurd (omega arith)
+module _ (s t : List ℕ) (behind : t ≡ drop 1 s) (some : 0 < length s) (hash : get_or s 0 0 ≡ 35) where
+  pub expand-hex : 0 < length t → get_or t 0 0 ≡ 120 → expanded s ≡ numeric hexadigit 16 (drop 1 t)
+  unfolding expanded after named names same numeric sized numeral digit between
+  expand-hex h x = rw behind (of s hash (rw behind at h) (rw behind at x))
+    where
+      of : (s : List ℕ) → get_or s 0 0 ≡ 35 → 0 < length (drop 1 s) → get_or (drop 1 s) 0 0 ≡ 120 → expanded s ≡ numeric hexadigit 16 (drop 1 (drop 1 s))
+      of [] e h f = absurd (omega arith)
+      of (a ∷ []) e h f = absurd (omega arith)
+      of (a ∷ b ∷ s) e h f = rw (e, f, both-bad) (or-bad (cond (between 1 8 (length s)) (numeral hexadigit 16 0 s) (bad Unwritten)))
 
-pub expand-decimal : (s : List ℕ) → 1 < length s → get_or s 0 0 ≡ 35 → (get_or s 1 0 ≡ 120 → ⊥) → expanded s ≡ numeric digit 10 (drop 1 s)
-unfolding expanded after named names same numeric
-expand-decimal [] h e f = absurd (omega arith)
-expand-decimal (a ∷ []) h e f = absurd (omega arith)
-expand-decimal (a ∷ b ∷ s) h e f = rw (e, ne_eqb 120 b (λ g. f (sym g))) (or-bad (sized 8 digit 10 (b ∷ s)))
+  pub expand-decimal : (0 < length t → get_or t 0 0 ≡ 120 → ⊥) → expanded s ≡ numeric digit 10 t
+  unfolding expanded after named names same numeric sized between
+  expand-decimal x = rw behind (of s some hash (λ h e. x (rw behind h) (rw behind e)))
+    where
+      of : (s : List ℕ) → 0 < length s → get_or s 0 0 ≡ 35 → (0 < length (drop 1 s) → get_or (drop 1 s) 0 0 ≡ 120 → ⊥) → expanded s ≡ numeric digit 10 (drop 1 s)
+      of [] h e f = absurd (omega arith)
+      of (a ∷ []) h e f = rw e
+      of (a ∷ b ∷ s) h e f = rw (e, ne_eqb 120 b (λ g. f (omega arith) (sym g))) (or-bad (sized 8 digit 10 (b ∷ s)))

@@ -1,18 +1,8 @@
--- `integers::put_eight` meets its contract: the four high digits, then from where they end the four low ones.
-use Prim.Native.Nat.{◌/◌}
-use mathlib.Core.Path.{sym}
-use lib.Dec.{lit<}
-use Rattle.number.proofs.Laws.{digits-join, length_to}
-use Rattle.table.proofs.Wrote.{wrote_as, wrote_then_lem}
-use native.Mathlib.Omega.{arith}
+-- `integers::put_eight` meets its contract: the library's bytes are the digits.
+use mathlib.Core.Path.{◌∙◌}
+use Rattle.integers.proofs.Places.{high_first}
+use Rattle.table.proofs.Wrote.{wrote_as}
 use Rattle.integers.proofs.put_eight.Goals as goal
 
-pub put_four-requires : goal.put_four-requires
-put_four-requires c =
-    let first = c.put_four-middle in
-    omega (arith, first.ensures.next-is, length_to 256 4 (c.args.x / 4294967296), first.auto.out)
-
 pub returns : goal.returns
-returns c =
-    wrote_as (sym (digits-join 256 (lit< tt) 4 4 c.args.x))
-    (wrote_then_lem c.put_four-middle.ensures c.put_four.ensures)
+returns c = wrote_as (c.to_be_bytes.ensures ∙ high_first 8 c.args.x) c.put_bytes.ensures

@@ -1,18 +1,8 @@
--- `integers::put_four` meets its contract: the two high digits, then from where they end the two low ones.
-use Prim.Native.Nat.{◌/◌}
-use mathlib.Core.Path.{sym}
-use lib.Dec.{lit<}
-use Rattle.number.proofs.Laws.{digits-join, length_to}
-use Rattle.table.proofs.Wrote.{wrote_as, wrote_then_lem}
-use native.Mathlib.Omega.{arith}
+-- `integers::put_four` meets its contract: the library's bytes are the digits.
+use mathlib.Core.Path.{◌∙◌}
+use Rattle.integers.proofs.Places.{high_first}
+use Rattle.table.proofs.Wrote.{wrote_as}
 use Rattle.integers.proofs.put_four.Goals as goal
 
-pub put_two-requires : goal.put_two-requires
-put_two-requires c =
-    let first = c.put_two-middle in
-    omega (arith, first.ensures.next-is, length_to 256 2 (c.args.x / 65536), first.auto.out)
-
 pub returns : goal.returns
-returns c =
-    wrote_as (sym (digits-join 256 (lit< tt) 2 2 c.args.x))
-    (wrote_then_lem c.put_two-middle.ensures c.put_two.ensures)
+returns c = wrote_as (c.to_be_bytes.ensures ∙ high_first 4 c.args.x) c.put_bytes.ensures

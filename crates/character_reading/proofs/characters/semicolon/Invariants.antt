@@ -1,14 +1,10 @@
 -- `character_reading::characters::semicolon` meets its contract. The invariant: the text from here on is read with the name so far.
-use Prim.Native.Nat.{◌-◌, ◌≤◌}
+use Prim.Native.Nat.{◌-◌}
 use mathlib.Core.List.{[]}
 use mathlib.Core.Path.{◌≡◌}
-use lib.ListN.{drop, length, take}
+use lib.ListN.{drop, take}
 use Rattle.tabledata.specs.TableData.{characters, reference}
 use Rattle.character_reading.proofs.characters.semicolon.Given as goal
 
 abbrev pub invariant-loop-i : goal.invariant-loop-i
-invariant-loop-i l =
-    (l.from ≤ l.i) × (l.i ≤ length l.s) × (characters (reference []) (drop l.from l.s) ≡ characters (reference (take (l.i - l.from) (drop l.from l.s))) (drop l.i l.s))
-
-abbrev pub decreases-loop-i : goal.decreases-loop-i
-decreases-loop-i l = length l.s - l.i
+invariant-loop-i l = characters (reference []) (drop l.from l.s) ≡ characters (reference (take (l.i - l.from) (drop l.from l.s))) (drop l.i l.s)

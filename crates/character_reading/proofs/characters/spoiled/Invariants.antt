@@ -5,8 +5,8 @@ use lib.ListN.{drop, length}
 use Rattle.character_reading.specs.Characters.{characters_of, spoiled_number}
 use Rattle.character_reading.proofs.characters.spoiled.Given as goal
 
-abbrev pub invariant-loop-next : goal.invariant-loop-next
-invariant-loop-next l = (l.i ≤ length l.s) × (spoiled_number (characters_of l.source (drop l.from l.s)) ≡ spoiled_number (characters_of l.source (drop l.i l.s)))
+abbrev pub invariant-loop-reason : goal.invariant-loop-reason
+invariant-loop-reason l = (l.i ≤ length l.s) × (spoiled_number (characters_of l.source (drop l.from l.s)) ≡ spoiled_number (characters_of l.source (drop l.i l.s)))
 
-abbrev pub decreases-loop-next : goal.decreases-loop-next
-decreases-loop-next l = length l.s - l.i
+abbrev pub decreases-loop-reason : goal.decreases-loop-reason
+decreases-loop-reason l = length l.s - l.i
