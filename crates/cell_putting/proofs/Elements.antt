@@ -43,11 +43,11 @@ and-false : (b : Bool) → (b && false) ≡ false
 and-false true = refl
 and-false false = refl
 
-bits-never : (c : Column) → shape c.kind ≡ Bits → NeverNull c
+pub bits-never : (c : Column) → shape c.kind ≡ Bits → NeverNull c
 unfolding stands_for_null
 bits-never c q = none-stands c (λ e. rw q (and-false (is_scalar c)))
 
-text-never : (c : Column) → shape c.kind ≡ Text → NeverNull c
+pub text-never : (c : Column) → shape c.kind ≡ Text → NeverNull c
 unfolding stands_for_null
 text-never c q = none-stands c (λ e. rw q (and-false (is_scalar c)))
 

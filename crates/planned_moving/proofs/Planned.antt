@@ -184,6 +184,6 @@ pub passed-moved : (from to : Rows) (c : Column) (n m : ℕ) (s : List ℕ) (pla
     → MovesCell from to c false s place old o new r
 passed-moved from to c n m s place old o new (Some r) t q some w size a h p =
     let there : place + content_bytes (shape c.kind) n ≤ length s = omega (arith, size) in
-    fixed_moved from to c n s place old o new (Some (record { next = next; end = e; null = null })) t q some there
-    (rw (p.1, p.2) (bytes-moved from to c n m s old place o new e p.0 q some w size a h p.3))
+    fixed_moved from to c n s place old o new (Some r) t q some there
+    (rw (p.1, p.2) (bytes-moved from to c n m s old place o new r.end p.0 q some w size a h p.3))
 passed-moved from to c n m s place old o new None t q some w size a h p = p

@@ -74,12 +74,9 @@ fn move_wanted(to: Rows, step: Step, s: &[u8], at: usize, row: &mut [u8], o: usi
     requires { (at + step.bytes + 8 ≤ length s.now) × (o + step.bytes + most_room ≤ length row.old) }
     ensures { (from : Kinds) (c : Declared) → is_text from ≡ false → Bounded c → step ≡ step_of c → MovesCell from to c false s.now at row.old o row.new result }
 {
-    let want = step.want;
-    let null = step.null;
-    let bytes = step.bytes;
-    match want? {
-        Want::Bytes => move_bytes(to, bytes, s, at, row, o),
-        Want::Integer(integer) => move_integer(to, integer, null, s, at, row, o),
+    match step.want? {
+        Want::Bytes => move_bytes(to, step.bytes, s, at, row, o),
+        Want::Integer(integer) => move_integer(to, integer, step.null, s, at, row, o),
     }
 }
 
