@@ -1,4 +1,5 @@
 -- A content that was moved, with what stands around it, is a cell: as bytes, as text.
+use Rattle.std.specs.Prelude.{Option, Some}
 use Prim.Native.Nat.{◌+◌, ◌≤◌, ℕ}
 use native.Mathlib.Omega.{arith}
 use mathlib.Core.Bool.{false}
@@ -25,7 +26,7 @@ use Rattle.table.specs.declared.Rows.{Rows}
 use Rattle.table.specs.declared.Rows.TheVariants.{TableData}
 
 module _ (Reads : ℕ → List ℤ → Type 0) (from : Rows) (c : Column) (never : NeverNull c) (old : List ℕ) (o inner : ℕ) where
-  pub bytes-moved : (to : Rows) (mid new : List ℕ) (count next end size : ℕ) (r : Moved) → ((es : List ℤ) → 1 ≤ length es → write_cell to c (shown es) ≡ good (elements_bytes c es))
+  pub bytes-moved : (to : Rows) (mid new : List ℕ) (count next end size : ℕ) (r : Option Moved) → ((es : List ℤ) → 1 ≤ length es → write_cell to c (shown es) ≡ good (elements_bytes c es))
       → ContentMoved Reads (AsBinary (shape c.kind)) old inner mid count next end → inner ≡ o + size → length (count_bytes c.len count) ≡ size → 1 ≤ count
       → FillsUp c count next mid o end new r → MovesRead Reads from to c old o new r
   bytes-moved to mid new count next end size r writes x q n some f =
@@ -36,6 +37,6 @@ module _ (Reads : ℕ → List ℤ → Type 0) (from : Rows) (c : Column) (never
       elements-put Reads from c never old o new next x.es x.reads m to (writes x.es m) r (f.filled old x.es x.count-is p)
 
   pub text-moved : (one mid new : List ℕ) (count next end e : ℕ) → Puts old o (bytes "<TD>") one inner → ContentMoved Reads (AsText (shape c.kind)) one inner mid count next end → 1 ≤ count
-      → Puts mid end (bytes "</TD>") new e → MovesRead Reads from TableData c old o new (Moved.Cell next e false)
+      → Puts mid end (bytes "</TD>") new e → MovesRead Reads from TableData c old o new (Some (record { next = next; end = e; null = false }))
   text-moved one mid new count next end e u x some w =
       text-put Reads from c never old o new next x.es x.reads (omega (arith, x.count-is)) x.bytes e x.writes (tagged-put u x.puts w)

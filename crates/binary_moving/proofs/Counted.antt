@@ -1,4 +1,5 @@
 -- What a cell after its count reads as: its elements, or null where it is skipped.
+use Rattle.std.specs.Prelude.{Option, Some, None}
 use Prim.Native.Nat.{◌+◌, ◌≤◌, ℕ}
 use native.Mathlib.Omega.{arith}
 use mathlib.Core.Bool.{Bool, false, true}
@@ -105,34 +106,34 @@ module _ (c : Column) (n : ℕ) (s : List ℕ) (place : ℕ) (room : place + con
 
 -- ---- moved
 
-pub counted-moved : (from to : Rows) (c : Column) (flagged : Bool) (n : ℕ) (s : List ℕ) (place : ℕ) (old : List ℕ) (o : ℕ) (new : List ℕ) (r : Moved)
+pub counted-moved : (from to : Rows) (c : Column) (flagged : Bool) (n : ℕ) (s : List ℕ) (place : ℕ) (old : List ℕ) (o : ℕ) (new : List ℕ) (r : Option Moved)
     → place + content_bytes (shape c.kind) n ≤ length s → NotText from → skipped from flagged n ≡ false
     → MovesRead (InBinary (shape c.kind) n s place) from to c old o new r → MovesCounted from to c flagged n s place old o new r
-counted-moved from to c flagged n s place old o new (Moved.Cell next e null') room h k m = record {
+counted-moved from to c flagged n s place old o new (Some r) room h k m = record {
   cell = shown_as from c m.es;
   reads = reads-elements c n s place room from flagged m.es h k m.reads.elements ∙ ap (λ (j : ℕ). good (shown_as from c m.es, drop j s)) (sym m.reads.next-is);
   onward = omega (arith, m.reads.next-is);
   inside = omega (arith, m.reads.next-is);
   put = m.put;
 }
-counted-moved from to c flagged n s place old o new Moved.Careful room h k m = m
+counted-moved from to c flagged n s place old o new None room h k m = m
 
-pub skipped-moved : (from to : Rows) (c : Column) (flagged : Bool) (n : ℕ) (s : List ℕ) (place next : ℕ) (old : List ℕ) (o : ℕ) (new : List ℕ) (r : Moved)
+pub skipped-moved : (from to : Rows) (c : Column) (flagged : Bool) (n : ℕ) (s : List ℕ) (place next : ℕ) (old : List ℕ) (o : ℕ) (new : List ℕ) (r : Option Moved)
     → next ≡ place + content_bytes (shape c.kind) n → place + content_bytes (shape c.kind) n ≤ length s → NotText from → skipped from flagged n ≡ true
     → PutsCell to c null next old o new r → MovesCounted from to c flagged n s place old o new r
-skipped-moved from to c flagged n s place next old o new (Moved.Cell next' e null') q room h k m = record {
+skipped-moved from to c flagged n s place next old o new (Some r) q room h k m = record {
   cell = null;
   reads = reads-null c n s place room from flagged h k ∙ ap (λ (j : ℕ). good (null, drop j s)) (sym (m.same_next ∙ q));
   onward = omega (arith, q, m.same_next);
   inside = omega (arith, q, m.same_next);
   put = record { bytes = m.bytes; writes = m.writes; puts = m.puts; same_next = refl; null_is = m.null_is };
 }
-skipped-moved from to c flagged n s place next old o new Moved.Careful q room h k m = m
+skipped-moved from to c flagged n s place next old o new None q room h k m = m
 
 -- with the count before it
-pub whole-moved : (from to : Rows) (c : Column) (flagged : Bool) (n : ℕ) (s : List ℕ) (place first : ℕ) (old : List ℕ) (o : ℕ) (new : List ℕ) (r : Moved) → NotText from
+pub whole-moved : (from to : Rows) (c : Column) (flagged : Bool) (n : ℕ) (s : List ℕ) (place first : ℕ) (old : List ℕ) (o : ℕ) (new : List ℕ) (r : Option Moved) → NotText from
     → count_in c.len (drop place s) ≡ good (n, drop first s) → place ≤ first → MovesCounted from to c flagged n s first old o new r → MovesCell from to c flagged s place old o new r
-whole-moved from to c flagged n s place first old o new (Moved.Cell next e null') h q lo m = record {
+whole-moved from to c flagged n s place first old o new (Some r) h q lo m = record {
   cell = m.cell;
   bytes = m.put.bytes;
   reads = cell-counted from c flagged (drop place s) (drop first s) n h q ∙ m.reads;
@@ -142,4 +143,4 @@ whole-moved from to c flagged n s place first old o new (Moved.Cell next e null'
   puts = m.put.puts;
   null_is = m.put.null_is;
 }
-whole-moved from to c flagged n s place first old o new Moved.Careful h q lo m = m
+whole-moved from to c flagged n s place first old o new None h q lo m = m

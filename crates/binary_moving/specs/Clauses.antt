@@ -1,5 +1,5 @@
 -- What the functions that move cells of BINARY and BINARY2 promise: a cell after its count.
-use Rattle.std.specs.Prelude.{◌≤◌, ℕ, Bool, false, List, [], ◌≡◌, eqb, drop, length}
+use Rattle.std.specs.Prelude.{◌≤◌, ℕ, Bool, false, List, [], ◌≡◌, eqb, drop, length, Option, Some, None}
 use Rattle.binary.specs.Reading.{read_counted}
 use Rattle.moving.specs.Cells.{CellPut}
 use Rattle.moving.specs.Puts.{Puts}
@@ -45,6 +45,6 @@ pub record CountedMoved (from to : Rows) (c : Column) (flagged : Bool) (n : ℕ)
   pub inside : next ≤ length s
   pub put : CellPut to c cell next old o new next e null
 
-abbrev pub MovesCounted : Rows → Rows → Column → Bool → ℕ → List ℕ → ℕ → List ℕ → ℕ → List ℕ → Moved → Type 0
-MovesCounted from to c flagged n s place old o new (Moved.Cell next e null) = CountedMoved from to c flagged n s place old o new next e null
-MovesCounted from to c flagged n s place old o new Moved.Careful = Puts old o [] new o
+abbrev pub MovesCounted : Rows → Rows → Column → Bool → ℕ → List ℕ → ℕ → List ℕ → ℕ → List ℕ → Option Moved → Type 0
+MovesCounted from to c flagged n s place old o new (Some r) = CountedMoved from to c flagged n s place old o new r.next r.end r.null
+MovesCounted from to c flagged n s place old o new None = Puts old o [] new o

@@ -26,7 +26,14 @@ use table::{Column, Rows, is_declared, same_integer};
 // ---- elements
 
 // As BINARY and BINARY2 have them, where there are some.
-fn pass_elements(column: Column, n: usize, s: &[u8], at: usize, row: &mut [u8], o: usize) -> Moved
+fn pass_elements(
+    column: Column,
+    n: usize,
+    s: &[u8],
+    at: usize,
+    row: &mut [u8],
+    o: usize,
+) -> Option<Moved>
     requires { (n ≤ most_elements) × (at + content_bytes (shape column.kind) n + 8 ≤ length s.now) × (o + most_room ≤ length row.old) }
     ensures moves_read { (from : Kinds) → NeverNull column → MovesRead (InBinary (shape column.kind) n s.now at) from Binary column row.old o row.new result }
     ensures moves_read_2 { (from : Kinds) → NeverNull column → MovesRead (InBinary (shape column.kind) n s.now at) from Binary2 column row.old o row.new result }
@@ -36,38 +43,45 @@ fn pass_elements(column: Column, n: usize, s: &[u8], at: usize, row: &mut [u8], 
     let bytes = binary::content_bytes(kind, n);
     let inner = o + count_size(len);
     if row.len() - inner < bytes + 8 {
-        return Moved::Careful;
+        return None;
     }
-    let Content::Elements(count, next, end) = pass_content(kind, n, s, at, row, inner) else {
-        return Moved::Careful;
-    };
+    let Content { count, next, end } = pass_content(kind, n, s, at, row, inner)?;
     if count == 0 {
-        return Moved::Careful;
+        return None;
     }
     if table::MOST_ELEMENTS < count {
-        return Moved::Careful;
+        return None;
     }
     fill_up(column, count, next, row, o, end)
 }
 
 // As text, where there are some.
-fn show_elements(column: Column, n: usize, s: &[u8], at: usize, row: &mut [u8], o: usize) -> Moved
+fn show_elements(
+    column: Column,
+    n: usize,
+    s: &[u8],
+    at: usize,
+    row: &mut [u8],
+    o: usize,
+) -> Option<Moved>
     requires { (n ≤ most_elements) × (at + content_bytes (shape column.kind) n + 8 ≤ length s.now) × (o + most_room ≤ length row.old) }
     ensures { (from : Kinds) → NeverNull column → MovesRead (InBinary (shape column.kind) n s.now at) from TableData column row.old o row.new result }
 {
     let kind = column.kind;
     let inner = put_open(row, o);
-    let Content::Elements(count, next, end) = show_content(kind, n, s, at, row, inner) else {
-        return Moved::Careful;
-    };
+    let Content { count, next, end } = show_content(kind, n, s, at, row, inner)?;
     if count == 0 {
-        return Moved::Careful;
+        return None;
     }
     if row.len() - end < 8 {
-        return Moved::Careful;
+        return None;
     }
     let e = put_close(row, end);
-    Moved::Cell(next, e, false)
+    Some(Moved {
+        next,
+        end: e,
+        null: false,
+    })
 }
 
 fn move_elements(
@@ -78,7 +92,7 @@ fn move_elements(
     at: usize,
     row: &mut [u8],
     o: usize,
-) -> Moved
+) -> Option<Moved>
     requires { (n ≤ most_elements) × (at + content_bytes (shape column.kind) n + 8 ≤ length s.now) × (o + most_room ≤ length row.old) }
     ensures { (from : Kinds) → NeverNull column → MovesRead (InBinary (shape column.kind) n s.now at) from to column row.old o row.new result }
 {
@@ -99,32 +113,39 @@ fn move_integer(
     at: usize,
     row: &mut [u8],
     o: usize,
-) -> Moved
+) -> Option<Moved>
     requires { (bound column.len ≤ most_elements) × (at + size integer ≤ length s.now) × (o + most_room ≤ length row.old) }
     ensures { (from : Kinds) → is_scalar column ≡ true → shape column.kind ≡ Whole (is_signed integer) (width_of integer) → MovesRead (InBinary (shape column.kind) 1 s.now at) from to column row.old o row.new result }
 {
-    let One::Element(z, next) = binary_integer(s, at, integer) else {
-        return Moved::Careful;
-    };
+    let One { value: z, next } = binary_integer(s, at, integer);
     let null = column.null;
     if is_declared(null, z) {
         return put_null(to, column, next, row, o);
     }
-    Moved::Careful
+    None
 }
 
-fn move_truth(to: Rows, column: Column, s: &[u8], at: usize, row: &mut [u8], o: usize) -> Moved
+fn move_truth(
+    to: Rows,
+    column: Column,
+    s: &[u8],
+    at: usize,
+    row: &mut [u8],
+    o: usize,
+) -> Option<Moved>
     requires { (bound column.len ≤ most_elements) × (at + 1 ≤ length s.now) × (o + most_room ≤ length row.old) }
     ensures { (from : Kinds) → is_scalar column ≡ true → shape column.kind ≡ Truths → MovesRead (InBinary (shape column.kind) 1 s.now at) from to column row.old o row.new result }
 {
-    let One::Element(z, next) = binary_truth(s, at) else {
-        return Moved::Careful;
-    };
+    let One { value: z, next } = binary_truth(s, at)?;
     if same_integer(z, 2) {
         return put_null(to, column, next, row, o);
     }
     let e = put_truth(to, z, row, o);
-    Moved::Cell(next, e, false)
+    Some(Moved {
+        next,
+        end: e,
+        null: false,
+    })
 }
 
 // ---- a cell
@@ -138,24 +159,24 @@ fn move_unflagged(
     at: usize,
     row: &mut [u8],
     o: usize,
-) -> Moved
+) -> Option<Moved>
     requires { (bound column.len ≤ most_elements) × (n ≤ most_elements) × (at + content_bytes (shape column.kind) n + 8 ≤ length s.now) × (o + most_room ≤ length row.old) }
     ensures { (from : Kinds) → MovesRead (InBinary (shape column.kind) n s.now at) from to column row.old o row.new result }
 {
     match scalar_of(column) {
-        Scalar::Integer(integer) => {
+        Some(Scalar::Integer(integer)) => {
             if n != 1 {
-                return Moved::Careful;
+                return None;
             }
             move_integer(to, column, integer, s, at, row, o)
         }
-        Scalar::Truth => {
+        Some(Scalar::Truth) => {
             if n != 1 {
-                return Moved::Careful;
+                return None;
             }
             move_truth(to, column, s, at, row, o)
         }
-        Scalar::Never => move_elements(to, column, n, s, at, row, o),
+        None => move_elements(to, column, n, s, at, row, o),
     }
 }
 
@@ -180,14 +201,14 @@ fn move_counted(
     at: usize,
     row: &mut [u8],
     o: usize,
-) -> Moved
+) -> Option<Moved>
     requires { (bound column.len ≤ most_elements) × (n ≤ most_elements) × (at ≤ length s.now) × (o + most_room ≤ length row.old) }
     ensures { NotText from → MovesCounted from to column flagged n s.now at row.old o row.new result }
 {
     let kind = column.kind;
     let bytes = binary::content_bytes(kind, n);
     if s.len() - at < bytes + 8 {
-        return Moved::Careful;
+        return None;
     }
     if is_skipped(from, flagged, n) {
         return put_null(to, column, at + bytes, row, o);
@@ -204,16 +225,16 @@ pub fn move_binary(
     at: usize,
     row: &mut [u8],
     o: usize,
-) -> Moved
+) -> Option<Moved>
     requires { (at ≤ length s.now) × (bound column.len ≤ most_elements) × (o ≤ length row.old) }
     ensures { NotText from → MovesCell from to column flagged s.now at row.old o row.new result }
 {
     if row.len() - o < cell_putting::ROOM {
-        return Moved::Careful;
+        return None;
     }
     let len = column.len;
-    let Count::Elements(n, next) = read_count(s, at, len) else {
-        return Moved::Careful;
+    let Ok(Count { elements: n, next }) = read_count(s, at, len) else {
+        return None;
     };
     move_counted(from, to, column, flagged, n, s, next, row, o)
 }

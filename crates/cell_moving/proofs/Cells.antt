@@ -1,7 +1,8 @@
 -- A cell that has a size has a form, and what was written of it is put; one with no size, or one that is longer than the room, cannot be put.
+use Rattle.std.specs.Prelude.{None, Option, Some, is_some, not}
 use Prim.Native.Nat.{◌+◌, ◌<◌, ◌≤◌, ℕ}
 use native.Mathlib.Omega.{arith}
-use mathlib.Core.Bool.{Bool, false, true}
+use mathlib.Core.Bool.{Bool, false, false≢true, true}
 use mathlib.Core.List.{List}
 use mathlib.Core.Path.{◌∙◌, ◌≡◌, ap, refl, subst, sym}
 use lib.IntN.{ℤ}
@@ -14,7 +15,7 @@ use Rattle.row_writing.specs.Clauses.{cell_bytes}
 use Rattle.rows.specs.Stream.{write_cell}
 use Rattle.table.proofs.Laws.{bad-good}
 use Rattle.table.specs.Cell.{Cell, is_null}
-use Rattle.table.specs.Clauses.{held, size_of}
+use Rattle.table.specs.Clauses.{shown_as, size_of}
 use Rattle.table.specs.Result.{Result, bad, good}
 use Rattle.table.specs.Wrote.{Wrote}
 use Rattle.table.specs.declared.Column.{Column}
@@ -50,8 +51,10 @@ module _ (to : Rows) (c : Column) (x : Cell) (old : List ℕ) (o : ℕ) where
       let k : n ≡ length b = let q : ◌≡◌ {A = Result ℕ ℕ} (good n) (good (length b)) = e ∙ ap size_of w in cc in
       omega (arith, k)
 
--- a cell that the code holds is null where it says so
-pub held-null : (b : Bool) (n : ℕ) (l : List ℤ) → b ≡ is_null (held b n l)
+-- what is found is null where it shows nothing
+pub shown-null : (b : Bool) (o : Option ℕ) (l : List ℤ) → is_some o ≡ not b → b ≡ is_null (shown_as l o)
 unfolding is_null
-held-null true n l = refl
-held-null false n l = refl
+shown-null true None l e = refl
+shown-null false None l e = absurd (false≢true e)
+shown-null true (Some n) l e = absurd (false≢true (sym e))
+shown-null false (Some n) l e = refl

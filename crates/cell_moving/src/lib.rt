@@ -4,14 +4,14 @@
 ghost use Rattle.std.specs.Prelude.{◌≡◌, ◌≤◌, length};
 ghost use Rattle.moving.specs.Cells.{MovesCell, SettlesCell, SettlesPut};
 ghost use Rattle.table.specs.Cell.{bound, most_elements};
-ghost use Rattle.table.specs.Clauses.{held};
+ghost use Rattle.table.specs.Clauses.{ShownUpTo, ShownWithin, shown_as};
 
 use binary_moving::move_binary;
 use cell_putting::is_text;
 use moving::Moved;
 use row_reading::read_cell;
 use row_writing::{size_cell, write_cell};
-use table::{Column, Found, Rows, Size};
+use table::{Column, Found, Rows};
 use text_moving::move_text;
 
 // ---- the careful way
@@ -20,27 +20,26 @@ use text_moving::move_text;
 fn put_cell(
     to: Rows,
     column: Column,
-    null: bool,
-    count: usize,
-    next: usize,
+    found: Found,
     scratch: &[i64],
     row: &mut [u8],
     o: usize,
-) -> Moved
-    requires { (bound column.len ≤ most_elements) × (count ≤ bound column.len) × (count ≤ length scratch.now) × (o ≤ length row.old) }
-    ensures { SettlesPut to column (held null count scratch.now) next row.old o row.new result }
+) -> Option<Moved>
+    requires { (bound column.len ≤ most_elements) × ShownUpTo (bound column.len) found.shown × ShownWithin scratch.now found.shown × (o ≤ length row.old) }
+    ensures { SettlesPut to column (shown_as scratch.now found.shown) found.next row.old o row.new result }
 {
-    let size = size_cell(to, column, null, count, scratch);
-    match size {
-        Size::NoForm(_n) => Moved::Careful,
-        Size::Bytes(b) => {
-            if row.len() - o < b {
-                return Moved::Careful;
-            }
-            let e = write_cell(to, column, null, count, scratch, row, o);
-            Moved::Cell(next, e, null)
-        }
+    let Ok(size) = size_cell(to, column, found.shown, scratch) else {
+        return None;
+    };
+    if row.len() - o < size {
+        return None;
     }
+    let end = write_cell(to, column, found.shown, scratch, row, o);
+    Some(Moved {
+        next: found.next,
+        end,
+        null: found.shown.is_none(),
+    })
 }
 
 // By the scratch: read as every cell can be, and written as every cell can be.
@@ -54,17 +53,15 @@ fn careful_cell(
     scratch: &mut [i64],
     row: &mut [u8],
     o: usize,
-) -> Moved
+) -> Option<Moved>
     requires { (at ≤ length s.now) × (bound column.len ≤ most_elements) × (most_elements ≤ length scratch.old) × (o ≤ length row.old) }
     ensures settles_cell { SettlesCell from to column flagged s.now at row.old o row.new result }
     ensures scratch_len_unchanged { length scratch.new ≡ length scratch.old }
 {
-    let found = read_cell(from, s, at, column, flagged, scratch);
-    match found {
-        Found::Refused(_n) => Moved::Careful,
-        Found::Null(next) => put_cell(to, column, true, 0, next, scratch, row, o),
-        Found::Shown(n, next) => put_cell(to, column, false, n, next, scratch, row, o),
-    }
+    let Ok(found) = read_cell(from, s, at, column, flagged, scratch) else {
+        return None;
+    };
+    put_cell(to, column, found, scratch, row, o)
 }
 
 // ---- the quick way
@@ -79,7 +76,7 @@ fn quick_cell(
     at: usize,
     row: &mut [u8],
     o: usize,
-) -> Moved
+) -> Option<Moved>
     requires { (at ≤ length s.now) × (bound column.len ≤ most_elements) × (o ≤ length row.old) }
     ensures { MovesCell from to column flagged s.now at row.old o row.new result }
 {
@@ -100,14 +97,14 @@ pub fn move_cell(
     scratch: &mut [i64],
     row: &mut [u8],
     o: usize,
-) -> Moved
+) -> Option<Moved>
     requires { (at ≤ length s.now) × (bound column.len ≤ most_elements) × (most_elements ≤ length scratch.old) × (o ≤ length row.old) }
     ensures settles_cell { SettlesCell from to column flagged s.now at row.old o row.new result }
     ensures scratch_len_unchanged { length scratch.new ≡ length scratch.old }
 {
     let quick = quick_cell(from, to, column, flagged, s, at, row, o);
     match quick {
-        Moved::Cell(next, e, null) => Moved::Cell(next, e, null),
-        Moved::Careful => careful_cell(from, to, column, flagged, s, at, scratch, row, o),
+        Some(_) => quick,
+        None => careful_cell(from, to, column, flagged, s, at, scratch, row, o),
     }
 }

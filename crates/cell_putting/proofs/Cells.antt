@@ -1,4 +1,5 @@
 -- What a cell is written as: null, one element of a scalar, elements with what stands around them.
+use Rattle.std.specs.Prelude.{Option}
 use Prim.Native.Nat.{◌+◌, ◌-◌, ◌≤◌, ℕ}
 use native.Mathlib.Nat.{sub_self}
 use native.Mathlib.Omega.{arith}
@@ -100,7 +101,7 @@ one-put to c k z next old o new e one q p h u =
     record { bytes = one_form to k z; writes = rw x (one_writes to c k z one q p); puts = u; same_next = refl; null_is = rw x }
 
 -- one that does: null was put
-pub null-put : (to : Rows) (c : Column) (k : Shape) (z : ℤ) (next : ℕ) (old : List ℕ) (o : ℕ) (new : List ℕ) (r : Moved) → is_scalar c ≡ true → shape c.kind ≡ k
+pub null-put : (to : Rows) (c : Column) (k : Shape) (z : ℤ) (next : ℕ) (old : List ℕ) (o : ℕ) (new : List ℕ) (r : Option Moved) → is_scalar c ≡ true → shape c.kind ≡ k
     → is_null_of_kind k c.null z ≡ true → PutsCell to c null next old o new r → PutsCell to c (show c (z ∷ [])) next old o new r
 null-put to c k z next old o new r one q h u = rw (shows-null c z one (rw q h)) u
 

@@ -1,9 +1,11 @@
 -- What elements show, and what that is written as: cited by everything that moves elements.
+use Rattle.std.specs.Prelude.{Option, Some, None}
 use Prim.Native.Nat.{◌≤◌, ℕ}
 use native.Mathlib.Omega.{arith}
 use mathlib.Core.Bool.{Bool, ◌&&◌, false, true}
 use mathlib.Core.List.{List, [], ◌∷◌}
-use mathlib.Core.Path.{◌≡◌, refl, subst, sym}
+use mathlib.Core.Logic.{◌⊎◌, inl, inr}
+use mathlib.Core.Path.{◌∙◌, ◌≡◌, ap, refl, subst, sym}
 use lib.IntN.{ℤ}
 use lib.ListN.{length}
 use Rattle.binary.specs.Binary.{elements_bytes, write_binary, write_binary2}
@@ -12,6 +14,8 @@ use Rattle.cell_putting.specs.Clauses.{PutsElements, one_form}
 use Rattle.moving.specs.Cells.{MovesRead, NeverNull, PutsCell, shown_as}
 use Rattle.moving.specs.Puts.{Puts}
 use Rattle.moving.specs.declared.Moved.{Moved}
+use Rattle.number.specs.Clauses.{shape_as}
+use Rattle.number.specs.declared.Elements.{Elements}
 use Rattle.rows.specs.Stream.{write_cell}
 use Rattle.table.specs.Cell.{empty_is_null, is_null, is_null_list, is_null_of_kind, is_scalar, null, show, shown, stands_for_null}
 use Rattle.table.specs.Result.{good}
@@ -46,6 +50,10 @@ bits-never c q = none-stands c (λ e. rw q (and-false (is_scalar c)))
 pub text-never : (c : Column) → shape c.kind ≡ Text → NeverNull c
 unfolding stands_for_null
 text-never c q = none-stands c (λ e. rw q (and-false (is_scalar c)))
+
+pub neither-never : (c : Column) (e : Elements) → (e ≡ Elements.Bits) ⊎ (e ≡ Elements.Text) → shape_as e ≡ shape c.kind → NeverNull c
+neither-never c e (inl h) q = bits-never c (sym q ∙ ap shape_as h)
+neither-never c e (inr h) q = text-never c (sym q ∙ ap shape_as h)
 
 -- ---- what they show
 
@@ -96,7 +104,7 @@ binary2-writes c es = refl
 module _ (Reads : ℕ → List ℤ → Type 0) (from : Rows) (c : Column) (never : NeverNull c) (old : List ℕ) (o : ℕ) (new : List ℕ) (next : ℕ) (es : List ℤ) (reads : Reads next es)
     (some : 1 ≤ length es) where
   -- as text between its tags
-  pub text-put : (t : List ℕ) (e : ℕ) → element_text (shape c.kind) es ≡ good t → Puts old o (tagged t) new e → MovesRead Reads from TableData c old o new (Moved.Cell next e false)
+  pub text-put : (t : List ℕ) (e : ℕ) → element_text (shape c.kind) es ≡ good t → Puts old o (tagged t) new e → MovesRead Reads from TableData c old o new (Some (record { next = next; end = e; null = false }))
   unfolding is_null
   text-put t e w u =
       let x : shown_as from c es ≡ shown es = shows-some from c es never some in
@@ -107,34 +115,34 @@ module _ (Reads : ℕ → List ℤ → Type 0) (from : Rows) (c : Column) (never
       }
 
   -- as bytes, with what stands around them
-  pub elements-put : (to : Rows) → write_cell to c (shown es) ≡ good (elements_bytes c es) → (r : Moved) → PutsElements c es next old o new r → MovesRead Reads from to c old o new r
+  pub elements-put : (to : Rows) → write_cell to c (shown es) ≡ good (elements_bytes c es) → (r : Option Moved) → PutsElements c es next old o new r → MovesRead Reads from to c old o new r
   unfolding is_null
-  elements-put to w (Moved.Cell next' e null') u =
+  elements-put to w (Some r) u =
       let x : shown_as from c es ≡ shown es = shows-some from c es never some in
       record {
         es = es;
         reads = subst (λ (k : ℕ). Reads k es) (sym u.same_next) reads;
         put = record { bytes = elements_bytes c es; writes = rw x w; puts = u.puts; same_next = refl; null_is = rw x u.not_null };
       }
-  elements-put to w Moved.Careful u = u
+  elements-put to w None u = u
 
 -- ---- one element by its value
 
-one-moved : (Reads : ℕ → List ℤ → Type 0) (from to : Rows) (c : Column) (z : ℤ) (old : List ℕ) (o : ℕ) (new : List ℕ) (next : ℕ) (r : Moved) → Reads next (z ∷ [])
+one-moved : (Reads : ℕ → List ℤ → Type 0) (from to : Rows) (c : Column) (z : ℤ) (old : List ℕ) (o : ℕ) (new : List ℕ) (next : ℕ) (r : Option Moved) → Reads next (z ∷ [])
     → PutsCell to c (show c (z ∷ [])) next old o new r → MovesRead Reads from to c old o new r
-one-moved Reads from to c z old o new next (Moved.Cell next' e null') h u = record {
+one-moved Reads from to c z old o new next (Some r) h u = record {
   es = z ∷ [];
   reads = subst (λ (k : ℕ). Reads k (z ∷ [])) (sym u.same_next) h;
   put = rw (shows-one from c z, u.same_next) (record { bytes = u.bytes; writes = u.writes; puts = u.puts; same_next = refl; null_is = u.null_is });
 }
-one-moved Reads from to c z old o new next Moved.Careful h u = u
+one-moved Reads from to c z old o new next None h u = u
 
 module _ (Reads : ℕ → List ℤ → Type 0) (from to : Rows) (c : Column) (k : Shape) (z : ℤ) (old : List ℕ) (o : ℕ) (new : List ℕ) (next : ℕ) (one : is_scalar c ≡ true) (q : shape c.kind ≡ k)
     (reads : Reads next (z ∷ [])) where
   -- it stands for null
-  pub null-moved : (r : Moved) → is_null_of_kind k c.null z ≡ true → PutsCell to c null next old o new r → MovesRead Reads from to c old o new r
+  pub null-moved : (r : Option Moved) → is_null_of_kind k c.null z ≡ true → PutsCell to c null next old o new r → MovesRead Reads from to c old o new r
   null-moved r h u = one-moved Reads from to c z old o new next r reads (null-put to c k z next old o new r one q h u)
 
   -- it does not
-  pub value-moved : (e : ℕ) → Plainly k → is_null_of_kind k c.null z ≡ false → Puts old o (one_form to k z) new e → MovesRead Reads from to c old o new (Moved.Cell next e false)
-  value-moved e p h u = one-moved Reads from to c z old o new next (Moved.Cell next e false) reads (one-put to c k z next old o new e one q p h u)
+  pub value-moved : (e : ℕ) → Plainly k → is_null_of_kind k c.null z ≡ false → Puts old o (one_form to k z) new e → MovesRead Reads from to c old o new (Some (record { next = next; end = e; null = false }))
+  value-moved e p h u = one-moved Reads from to c z old o new next (Some (record { next = next; end = e; null = false })) reads (one-put to c k z next old o new e one q p h u)

@@ -1,5 +1,5 @@
 -- What the functions that put a cell promise: one element, and what stands around elements.
-use Rattle.std.specs.Prelude.{◌+◌, ◌-◌, ℕ, Bool, cond, false, true, List, [], ◌∷◌, ◌≡◌, ℤ, length}
+use Rattle.std.specs.Prelude.{◌+◌, ◌-◌, ℕ, Bool, cond, false, true, List, [], ◌∷◌, ◌≡◌, ℤ, length, Option, Some, None}
 use Rattle.binary.specs.Binary.{count_bytes, elements_bytes}
 use Rattle.cell_putting.specs.declared.Scalar.{Scalar}
 use Rattle.moving.specs.Cells.{NeverNull}
@@ -34,10 +34,10 @@ is_text Binary2 = false
 
 -- ---- which columns may have an element that stands for null
 
-abbrev pub ScalarIs : Column → Scalar → Type 0
-ScalarIs c (Scalar.Integer kind) = (is_scalar c ≡ true) × (shape c.kind ≡ Whole (is_signed kind) (width_of kind))
-ScalarIs c Scalar.Truth = (is_scalar c ≡ true) × (shape c.kind ≡ Truths)
-ScalarIs c Scalar.Never = NeverNull c
+abbrev pub ScalarIs : Column → Option Scalar → Type 0
+ScalarIs c (Some (Scalar.Integer kind)) = (is_scalar c ≡ true) × (shape c.kind ≡ Whole (is_signed kind) (width_of kind))
+ScalarIs c (Some Scalar.Truth) = (is_scalar c ≡ true) × (shape c.kind ≡ Truths)
+ScalarIs c None = NeverNull c
 
 -- ---- elements of BINARY and BINARY2
 
@@ -50,11 +50,11 @@ pub record ElementsPut (c : Column) (es : List ℤ) (next : ℕ) (old : List ℕ
   pub same_next : next' ≡ next
   pub not_null : null' ≡ false
 
-abbrev pub PutsElements : Column → List ℤ → ℕ → List ℕ → ℕ → List ℕ → Moved → Type 0
-PutsElements c es next old o new (Moved.Cell next' e null') = ElementsPut c es next old o new next' e null'
-PutsElements c es next old o new Moved.Careful = Puts old o [] new o
+abbrev pub PutsElements : Column → List ℤ → ℕ → List ℕ → ℕ → List ℕ → Option Moved → Type 0
+PutsElements c es next old o new (Some r) = ElementsPut c es next old o new r.next r.end r.null
+PutsElements c es next old o new None = Puts old o [] new o
 
 -- elements whose bytes were put behind room for their count are a cell
-pub record FillsUp (c : Column) (count next : ℕ) (entry : List ℕ) (o end : ℕ) (exit : List ℕ) (r : Moved) : Type 0 where
+pub record FillsUp (c : Column) (count next : ℕ) (entry : List ℕ) (o end : ℕ) (exit : List ℕ) (r : Option Moved) : Type 0 where
   pub filled : (old : List ℕ) (es : List ℤ) → count ≡ length es → Puts old (o + length (count_bytes c.len count)) (content_form (shape c.kind) es) entry end
       → PutsElements c es next old o exit r

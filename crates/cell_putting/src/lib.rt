@@ -18,7 +18,7 @@ use content_showing::{show_integer, show_truth};
 use integers::{put_eight, put_four};
 use moving::Moved;
 use number::{Elements, Integer, elements_of};
-use table::{Column, Len, Rows, Size, is_char, is_scalar};
+use table::{Column, Len, Rows, is_char, is_scalar};
 
 // What a leaf may store in one go: where the buffer has less room, the cell is for the careful way.
 pub const ROOM: usize = 64;
@@ -54,44 +54,53 @@ fn put_empty(row: &mut [u8], o: usize) -> usize
 // ---- null
 
 // "Null in BINARY2: flag, zero bytes, count 0."
-fn put_flagged(column: Column, next: usize, row: &mut [u8], o: usize) -> Moved
+fn put_flagged(column: Column, next: usize, row: &mut [u8], o: usize) -> Option<Moved>
     requires { (bound column.len ≤ most_elements) × (o ≤ length row.old) }
     ensures { PutsCell Binary2 column null next row.old o row.new result }
 {
     if row.len() - o < room_size(column, 0) {
-        return Moved::Careful;
+        return None;
     }
-    let e = binary_writing::put_null(column, row, o);
-    Moved::Cell(next, e, true)
+    let end = binary_writing::put_null(column, row, o);
+    Some(Moved {
+        next,
+        end,
+        null: true,
+    })
 }
 
 // "Null in BINARY: the declared null, `?` for a scalar boolean, count 0 for bounded and free, NULs for fixed char; else 15."
-fn put_declared(column: Column, next: usize, row: &mut [u8], o: usize) -> Moved
+fn put_declared(column: Column, next: usize, row: &mut [u8], o: usize) -> Option<Moved>
     requires { (bound column.len ≤ most_elements) × (o ≤ length row.old) }
     ensures { PutsCell Binary column null next row.old o row.new result }
 {
-    let size = null_size(column);
-    match size {
-        Size::NoForm(_n) => Moved::Careful,
-        Size::Bytes(b) => {
-            if row.len() - o < b {
-                return Moved::Careful;
-            }
-            let e = put_binary_null(column, row, o);
-            Moved::Cell(next, e, true)
-        }
+    let Ok(size) = null_size(column) else {
+        return None;
+    };
+    if row.len() - o < size {
+        return None;
     }
+    let end = put_binary_null(column, row, o);
+    Some(Moved {
+        next,
+        end,
+        null: true,
+    })
 }
 
 // A null that ends at a place of the input.
-pub fn put_null(to: Rows, column: Column, next: usize, row: &mut [u8], o: usize) -> Moved
+pub fn put_null(to: Rows, column: Column, next: usize, row: &mut [u8], o: usize) -> Option<Moved>
     requires { (bound column.len ≤ most_elements) × (o + most_room ≤ length row.old) }
     ensures { PutsCell to column null next row.old o row.new result }
 {
     match to {
         Rows::TableData => {
-            let e = put_empty(row, o);
-            Moved::Cell(next, e, true)
+            let end = put_empty(row, o);
+            Some(Moved {
+                next,
+                end,
+                null: true,
+            })
         }
         Rows::Binary => put_declared(column, next, row, o),
         Rows::Binary2 => put_flagged(column, next, row, o),
@@ -104,11 +113,7 @@ pub fn put_null(to: Rows, column: Column, next: usize, row: &mut [u8], o: usize)
 pub fn is_text(rows: Rows) -> bool
     ensures { result ≡ is_text rows }
 {
-    match rows {
-        Rows::TableData => true,
-        Rows::Binary => false,
-        Rows::Binary2 => false,
-    }
+    matches!(rows, Rows::TableData)
 }
 
 // A number alone is handed back, since an answer with a place more would go by memory.
@@ -138,26 +143,25 @@ pub fn put_truth(to: Rows, z: i64, row: &mut [u8], o: usize) -> usize
 
 // ---- which columns may have an element that stands for null
 
-// A scalar integer, a scalar boolean, or a column that has none.
+// One integer, or one boolean.
 #[derive(Clone, Copy)]
 pub enum Scalar {
     Integer(Integer),
     Truth,
-    Never,
 }
 
-pub fn scalar_of(column: Column) -> Scalar
+// None for a column that has none.
+pub fn scalar_of(column: Column) -> Option<Scalar>
     ensures { ScalarIs column result }
 {
     if !is_scalar(column) {
-        return Scalar::Never;
+        return None;
     }
     let kind = column.kind;
     match elements_of(kind) {
-        Elements::Whole(integer) => Scalar::Integer(integer),
-        Elements::Truths => Scalar::Truth,
-        Elements::Bits => Scalar::Never,
-        Elements::Text => Scalar::Never,
+        Elements::Whole(integer) => Some(Scalar::Integer(integer)),
+        Elements::Truths => Some(Scalar::Truth),
+        Elements::Bits | Elements::Text => None,
     }
 }
 
@@ -198,16 +202,20 @@ pub fn fill_up(
     row: &mut [u8],
     o: usize,
     end: usize,
-) -> Moved
+) -> Option<Moved>
     requires { (count ≤ most_elements) × (o + 4 ≤ length row.old) × (end ≤ length row.old) }
     ensures { FillsUp column count next row.old o end row.new result }
 {
     let len = column.len;
     let fill = fill_size(column, count);
     if row.len() - end < fill {
-        return Moved::Careful;
+        return None;
     }
     put_count(len, count, row, o);
     let e = put_zeros(fill, row, end);
-    Moved::Cell(next, e, false)
+    Some(Moved {
+        next,
+        end: e,
+        null: false,
+    })
 }

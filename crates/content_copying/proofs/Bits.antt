@@ -6,8 +6,8 @@ use mathlib.Core.List.{List, [], ◌∷◌, map}
 use mathlib.Core.Path.{◌∙◌, ◌≡◌, ap, ap₂, refl, sym}
 use lib.IntN.{pos}
 use lib.ListN.{drop, length-map, take}
-use Rattle.content_copying.proofs.Runs.{pass-long}
-use Rattle.content_copying.specs.Passing.{PassTo}
+use Rattle.content_reading.proofs.Runs.{pass-long}
+use Rattle.content_reading.specs.Passing.{PassTo}
 use Rattle.integer_reading.proofs.Figures.{length-figures}
 use Rattle.content_reading.proofs.Packing.{bit_is, every-bit}
 use Rattle.integer_reading.proofs.Spelling.{spells-to}

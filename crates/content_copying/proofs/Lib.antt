@@ -1,5 +1,4 @@
 pub mod Quick
-pub mod Runs
 pub mod Texts
 pub mod Bits
 pub mod Spaced

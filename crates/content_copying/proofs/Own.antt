@@ -11,9 +11,10 @@ use lib.Dec.{lit<, lit≤}
 use lib.IntN.{pos}
 use lib.ListN.{drop, get_or, length, length-drop, set, take}
 use lib.Seq.{drop-cons, get_or-drop, get_or-take, length-take-le}
-use Rattle.content_copying.proofs.Runs.{pass-long}
-use Rattle.content_copying.specs.Passing.{PassTo}
-use Rattle.content_copying.specs.Wording.{InRange, Numeral, OwnWord, WordCopied, is_digit}
+use Rattle.content_reading.proofs.Runs.{pass-long}
+use Rattle.content_reading.specs.Passing.{PassTo}
+use Rattle.integer_reading.specs.Figures.{is_digit}
+use Rattle.content_copying.specs.Wording.{InRange, Numeral, OwnWord, WordCopied}
 use Rattle.integer_reading.proofs.Lanes.{both, differing, either, eight, marked, own, rest, sum, tops}
 use Rattle.content_copying.proofs.Quick.{quick-in-text}
 use Rattle.integer_reading.specs.Figures.{figures}

@@ -9,8 +9,8 @@ use lib.IntN.{pos, ℤ}
 use lib.ListN.{drop, get_or, length, length-append, length-map, take}
 use borrow.Author.Tests.{eqb-false, not-true}
 use Rattle.binary.proofs.Digits.{map-join}
-use Rattle.content_copying.proofs.Runs.{pass-long}
-use Rattle.content_copying.specs.Passing.{PassTo}
+use Rattle.content_reading.proofs.Runs.{pass-long}
+use Rattle.content_reading.specs.Passing.{PassTo}
 use Rattle.content_reading.proofs.Chars.{all-text}
 use Rattle.integer_reading.proofs.Spelling.{Itself, spells-none, spells_one, spells_then, spells-to}
 use Rattle.content_showing.proofs.Text.{Formed, itself-formed, reference-formed}

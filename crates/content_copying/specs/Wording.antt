@@ -1,18 +1,15 @@
 -- Words of integers that are written as they were read.
-use Rattle.std.specs.Prelude.{◌-◌, ◌<◌, ◌^◌, ◌≤◌, suc, ℕ, Bool, List, [], ◌++◌, ◌∷◌, ◌≡◌, ℤ, drop, get_or, take}
-use Rattle.content_copying.specs.Passing.{PassTo}
+use Rattle.std.specs.Prelude.{◌-◌, ◌<◌, ◌^◌, ◌≤◌, suc, ℕ, List, [], ◌++◌, ◌∷◌, ◌≡◌, ℤ, drop, get_or, take, Option, Some, None}
+use Rattle.content_reading.specs.Passing.{PassTo}
 use Rattle.content_copying.specs.declared.Word.{Word}
+use Rattle.integer_reading.specs.Figures.{is_digit}
 use Rattle.moving.specs.Contents.{InText}
 use Rattle.moving.specs.Puts.{Puts}
 use Rattle.number.specs.Clauses.{is_signed, width_of}
 use Rattle.number.specs.Number.{shortest}
 use Rattle.number.specs.declared.Integer.{Integer}
-use Rattle.table.specs.Bytes.{between, byte}
 use Rattle.table.specs.Shape.{Whole}
 use Rattle.words.specs.Clauses.{top}
-
-unfoldable pub is_digit : ℕ → Bool
-is_digit c = between (byte "0") (byte "9") c
 
 -- the numbers of so many digits are integers of the kind
 pub record InRange (k : Integer) (n : ℕ) : Type 0 where
@@ -46,6 +43,6 @@ pub record WordCopied (k : Integer) (s : List ℕ) (at : ℕ) (old : List ℕ) (
   pub reads : InText (Whole (is_signed k) (width_of k)) s at next (z ∷ [])
   pub puts : Puts old o (shortest z ++ (32 ∷ [])) new e
 
-abbrev pub CopiesWord : Integer → List ℕ → ℕ → List ℕ → ℕ → List ℕ → Word → Type 0
-CopiesWord k s at old o new (Word.Is next e) = WordCopied k s at old o new next e
-CopiesWord k s at old o new Word.Careful = Puts old o [] new o
+abbrev pub CopiesWord : Integer → List ℕ → ℕ → List ℕ → ℕ → List ℕ → Option Word → Type 0
+CopiesWord k s at old o new (Some r) = WordCopied k s at old o new r.next r.end
+CopiesWord k s at old o new None = Puts old o [] new o

@@ -2,59 +2,77 @@
 // to the careful way.
 #![tactic(auto)]
 
-ghost use Rattle.std.specs.Prelude.{◌+◌, ◌<◌, ◌≤◌, drop, length, take, true, [], ◌++◌, ◌∷◌, ◌≡◌};
-ghost use Rattle.content_copying.specs.Passing.{PassTo};
-ghost use Rattle.content_copying.specs.Wording.{CopiesWord, InRange, NumeralTo, OwnTo, is_digit};
-ghost use Rattle.integer_reading.specs.Figures.{is_bit};
+ghost use Rattle.std.specs.Prelude.{◌+◌, ◌<◌, ◌≤◌, length, true, [], ◌++◌, ◌∷◌, ◌≡◌};
+ghost use Rattle.content_copying.specs.Wording.{CopiesWord, InRange, NumeralTo, OwnTo};
+ghost use Rattle.integer_reading.specs.Figures.{is_bit, is_digit};
 ghost use Rattle.content_reading.specs.Letters.{LetterIs};
 ghost use Rattle.content_showing.specs.Showing.{is_itself};
-ghost use Rattle.eights.specs.Marks.{Marks, run};
 ghost use Rattle.moving.specs.Contents.{AsText, InText, MovesContent};
 ghost use Rattle.moving.specs.Puts.{Puts};
 ghost use Rattle.number.specs.Clauses.{is_signed, width_of};
 ghost use Rattle.table.specs.Shape.{Bits, Text, Truths, Whole, shape};
 ghost use Rattle.tabledata.specs.TableData.{truth_text};
 
-use content_reading::{Letter, letter_at, no_bits, text_truth};
+use content_reading::{Letter, Test, letter_at, no_bits, run_end, text_truth};
 use content_showing::{put_reference, put_word, show_truth, text_ahead};
 use eights::{copy_wide, first_of};
-use integer_reading::text_integer;
+use integer_reading::{no_digits, text_integer};
 use integers::eight_bytes;
 use moving::{Content, One};
 use number::{Elements, Integer, elements_of};
 use table::Kind;
 
-// ---- characters. The loops over eight bytes go on by eight and not by what was found, so that a turn need not wait for the one before.
+// ---- which bytes go as they stand
 
-// The end of the run of bytes that are read and written as themselves, or a place in the last eight bytes.
-fn itself_end(s: &[u8], from: usize) -> usize
-    requires { from ≤ length s.now }
-    ensures { PassTo is_itself s.now from result }
-{
-    let mut at = from;
-    while 8 <= s.len() - at {
-        let n = text_ahead(s, at);
-        if n < 8 {
-            return at + n;
-        }
-        at += 8;
+// The bytes that are read and written as themselves.
+struct Itself;
+
+impl Test for Itself {
+    ghost passes = { is_itself };
+
+    fn ahead(s: &[u8], at: usize) -> usize {
+        text_ahead(s, at)
     }
-    at
 }
 
+struct Bit;
+
+impl Test for Bit {
+    ghost passes = { is_bit };
+
+    fn ahead(s: &[u8], at: usize) -> usize {
+        first_of(no_bits(eight_bytes(s, at)))
+    }
+}
+
+struct Digit;
+
+impl Test for Digit {
+    ghost passes = { is_digit };
+
+    fn ahead(s: &[u8], at: usize) -> usize {
+        first_of(no_digits(eight_bytes(s, at)))
+    }
+}
+
+// ---- characters
+
 // What stands between runs: a reference, a tab, a line's end, or a `>`, which is itself in a cell and is written as a reference.
-fn other_letter(s: &[u8], at: usize) -> Letter
+fn other_letter(s: &[u8], at: usize) -> Option<Letter>
     requires { at + 8 ≤ length s.now }
     ensures { LetterIs s.now at result }
 {
     if s[at] == b'>' {
-        return Letter::Is(b'>', at + 1);
+        return Some(Letter {
+            byte: b'>',
+            next: at + 1,
+        });
     }
     letter_at(s, at)
 }
 
 // Runs of bytes that go as they stand, and what stands between them, up to the `<` of the end tag.
-fn copy_text(s: &[u8], from: usize, row: &mut [u8], first: usize) -> Content
+fn copy_text(s: &[u8], from: usize, row: &mut [u8], first: usize) -> Option<Content>
     requires { (from ≤ length s.now) × (first ≤ length row.old) }
     ensures { MovesContent (InText Text s.now from) (AsText Text) row.old first row.new result }
 {
@@ -62,28 +80,30 @@ fn copy_text(s: &[u8], from: usize, row: &mut [u8], first: usize) -> Content
     let mut o = first;
     let mut count: usize = 0;
     loop {
-        let end = itself_end(s, at);
+        let end = run_end::<Itself>(s, at);
         let n = end - at;
         if s.len() - end < 8 {
-            return Content::Careful;
+            return None;
         }
         if row.len() - o < n + 8 {
-            return Content::Careful;
+            return None;
         }
         let e = copy_wide(s, at, n, row, o);
         count += n;
         if s[end] == b'<' {
             if count == 0 {
-                return Content::Careful;
+                return None;
             }
-            return Content::Elements(count, end, e);
+            return Some(Content {
+                count,
+                next: end,
+                end: e,
+            });
         }
-        let Letter::Is(c, next) = other_letter(s, end) else {
-            return Content::Careful;
-        };
+        let Letter { byte: c, next } = other_letter(s, end)?;
         o = put_reference(c, row, e);
         if o == e {
-            return Content::Careful;
+            return None;
         }
         count += 1;
         at = next;
@@ -92,83 +112,31 @@ fn copy_text(s: &[u8], from: usize, row: &mut [u8], first: usize) -> Content
 
 // ---- bits
 
-// How many of the next eight bytes are bits, up to the first that is none.
-fn bits_ahead(s: &[u8], at: usize) -> usize
-    requires { at + 8 ≤ length s.now }
-    ensures { result ≡ run is_bit (take 8 (drop at s.now)) }
-{
-    first_of(no_bits(eight_bytes(s, at)))
-}
-
-// The end of the run of bits, or a place in the last eight bytes.
-fn bits_end(s: &[u8], from: usize) -> usize
-    requires { from ≤ length s.now }
-    ensures { PassTo is_bit s.now from result }
-{
-    let mut at = from;
-    while 8 <= s.len() - at {
-        let n = bits_ahead(s, at);
-        if n < 8 {
-            return at + n;
-        }
-        at += 8;
-    }
-    at
-}
-
 // A bit is written as the letter it was read from.
-fn copy_bits(s: &[u8], from: usize, row: &mut [u8], first: usize) -> Content
+fn copy_bits(s: &[u8], from: usize, row: &mut [u8], first: usize) -> Option<Content>
     requires { (from ≤ length s.now) × (first ≤ length row.old) }
     ensures { MovesContent (InText Bits s.now from) (AsText Bits) row.old first row.new result }
 {
-    let end = bits_end(s, from);
+    let end = run_end::<Bit>(s, from);
     let n = end - from;
     if n == 0 {
-        return Content::Careful;
+        return None;
     }
     if s.len() - end < 8 {
-        return Content::Careful;
+        return None;
     }
     if row.len() - first < n + 8 {
-        return Content::Careful;
+        return None;
     }
     let e = copy_wide(s, from, n, row, first);
-    Content::Elements(n, end, e)
+    Some(Content {
+        count: n,
+        next: end,
+        end: e,
+    })
 }
 
 // ---- integers: a word of digits that is the shortest of its integer goes as it stands, without its integer
-
-// The high bit of each byte that is no digit.
-fn no_digits(x: u64) -> u64
-    ensures { Marks is_digit x result }
-{
-    let t = x ^ 0x3030303030303030;
-    (((t & 0x7f7f7f7f7f7f7f7f) + 0x7676767676767676) | t) & 0x8080808080808080
-}
-
-// How many of the next eight bytes are digits, up to the first that is none.
-fn digits_ahead(s: &[u8], at: usize) -> usize
-    requires { at + 8 ≤ length s.now }
-    ensures { result ≡ run is_digit (take 8 (drop at s.now)) }
-{
-    first_of(no_digits(eight_bytes(s, at)))
-}
-
-// The end of the run of digits, or a place in the last eight bytes.
-fn digits_end(s: &[u8], from: usize) -> usize
-    requires { from ≤ length s.now }
-    ensures { PassTo is_digit s.now from result }
-{
-    let mut at = from;
-    while 8 <= s.len() - at {
-        let n = digits_ahead(s, at);
-        if n < 8 {
-            return at + n;
-        }
-        at += 8;
-    }
-    at
-}
 
 // So many digits are in the range of the kind, whichever they are.
 fn most_digits(integer: Integer) -> usize
@@ -199,7 +167,7 @@ fn numeral_end(s: &[u8], from: usize, most: usize) -> usize
     requires { from < length s.now }
     ensures { NumeralTo s.now from most result }
 {
-    let end = digits_end(s, from);
+    let end = run_end::<Digit>(s, from);
     let n = end - from;
     if most < n {
         return from;
@@ -231,31 +199,29 @@ fn word_end(integer: Integer, s: &[u8], at: usize) -> usize
     end
 }
 
-// A word's end, and the place after its bytes and a space behind them; or it is for the careful way.
+// A word's end, and the place after its bytes and a space behind them.
 #[derive(Clone, Copy)]
-enum Word {
-    Is(usize, usize),
-    Careful,
+struct Word {
+    next: usize,
+    end: usize,
 }
 
 // By its integer: what is not the shortest, or may be out of range.
-fn other_word(integer: Integer, s: &[u8], at: usize, row: &mut [u8], o: usize) -> Word
+fn other_word(integer: Integer, s: &[u8], at: usize, row: &mut [u8], o: usize) -> Option<Word>
     requires { (at ≤ length s.now) × (o + 40 ≤ length row.old) }
     ensures { CopiesWord integer s.now at row.old o row.new result }
 {
-    let One::Element(z, next) = text_integer(s, at, integer) else {
-        return Word::Careful;
-    };
+    let One { value: z, next } = text_integer(s, at, integer)?;
     let e = put_word(z, row, o);
-    Word::Is(next, e)
+    Some(Word { next, end: e })
 }
 
-fn copy_word(integer: Integer, s: &[u8], at: usize, row: &mut [u8], o: usize) -> Word
+fn copy_word(integer: Integer, s: &[u8], at: usize, row: &mut [u8], o: usize) -> Option<Word>
     requires { (at ≤ length s.now) × (o + 40 ≤ length row.old) }
     ensures { CopiesWord integer s.now at row.old o row.new result }
 {
     if s.len() - at < 32 {
-        return Word::Careful;
+        return None;
     }
     let end = word_end(integer, s, at);
     if end == at {
@@ -263,11 +229,20 @@ fn copy_word(integer: Integer, s: &[u8], at: usize, row: &mut [u8], o: usize) ->
     }
     let e = copy_wide(s, at, end - at, row, o);
     row[e] = 32;
-    Word::Is(end, e + 1)
+    Some(Word {
+        next: end,
+        end: e + 1,
+    })
 }
 
 // One space between; the space behind the last is left out.
-fn copy_integers(integer: Integer, s: &[u8], from: usize, row: &mut [u8], first: usize) -> Content
+fn copy_integers(
+    integer: Integer,
+    s: &[u8],
+    from: usize,
+    row: &mut [u8],
+    first: usize,
+) -> Option<Content>
     requires { (from ≤ length s.now) × (first ≤ length row.old) }
     ensures { MovesContent (InText (Whole (is_signed integer) (width_of integer)) s.now from) (AsText (Whole (is_signed integer) (width_of integer))) row.old first row.new result }
 {
@@ -276,17 +251,19 @@ fn copy_integers(integer: Integer, s: &[u8], from: usize, row: &mut [u8], first:
     let mut count: usize = 0;
     loop {
         if row.len() - o < 40 {
-            return Content::Careful;
+            return None;
         }
-        let Word::Is(next, e) = copy_word(integer, s, at, row, o) else {
-            return Content::Careful;
-        };
+        let Word { next, end: e } = copy_word(integer, s, at, row, o)?;
         count += 1;
         if s.len() <= next {
-            return Content::Careful;
+            return None;
         }
         if s[next] != b' ' {
-            return Content::Elements(count, next, e - 1);
+            return Some(Content {
+                count,
+                next,
+                end: e - 1,
+            });
         }
         o = e;
         at = next + 1;
@@ -305,7 +282,7 @@ fn put_truth(z: i64, row: &mut [u8], o: usize) -> usize
     next + 1
 }
 
-fn copy_truths(s: &[u8], from: usize, row: &mut [u8], first: usize) -> Content
+fn copy_truths(s: &[u8], from: usize, row: &mut [u8], first: usize) -> Option<Content>
     requires { (from ≤ length s.now) × (first ≤ length row.old) }
     ensures { MovesContent (InText Truths s.now from) (AsText Truths) row.old first row.new result }
 {
@@ -313,19 +290,21 @@ fn copy_truths(s: &[u8], from: usize, row: &mut [u8], first: usize) -> Content
     let mut o = first;
     let mut count: usize = 0;
     loop {
-        let One::Element(z, next) = text_truth(s, at) else {
-            return Content::Careful;
-        };
+        let One { value: z, next } = text_truth(s, at)?;
         if s.len() <= next {
-            return Content::Careful;
+            return None;
         }
         if row.len() - o < 2 {
-            return Content::Careful;
+            return None;
         }
         o = put_truth(z, row, o);
         count += 1;
         if s[next] != b' ' {
-            return Content::Elements(count, next, o - 1);
+            return Some(Content {
+                count,
+                next,
+                end: o - 1,
+            });
         }
         at = next + 1;
     }
@@ -333,7 +312,7 @@ fn copy_truths(s: &[u8], from: usize, row: &mut [u8], first: usize) -> Content
 
 // ---- a content
 
-pub fn copy_content(kind: Kind, s: &[u8], at: usize, row: &mut [u8], o: usize) -> Content
+pub fn copy_content(kind: Kind, s: &[u8], at: usize, row: &mut [u8], o: usize) -> Option<Content>
     requires { (at ≤ length s.now) × (o ≤ length row.old) }
     ensures { MovesContent (InText (shape kind) s.now at) (AsText (shape kind)) row.old o row.new result }
 {

@@ -1,7 +1,7 @@
 // Contents of cells that go from BINARY or BINARY2 to BINARY or BINARY2: most go as they stand.
 #![tactic(auto)]
 
-ghost use Rattle.std.specs.Prelude.{[], ◌∷◌, ◌≡◌, ◌*◌, ◌+◌, ◌<◌, ◌≤◌, drop, length, take};
+ghost use Rattle.std.specs.Prelude.{Some, [], ◌∷◌, ◌≡◌, ◌*◌, ◌+◌, ◌<◌, ◌≤◌, drop, length, take};
 ghost use Rattle.eights.specs.Marks.{is_letter, run};
 ghost use Rattle.moving.specs.Contents.{AsBinary, FindsOne, InBinary, MovesContent, content_form};
 ghost use Rattle.moving.specs.Puts.{Puts};
@@ -20,7 +20,7 @@ use table::Kind;
 // ---- booleans
 
 // The letter that a byte of a boolean is written as, 0 for a byte that is none. No branch, so that a loop over it is vector code.
-fn truth_letter(b: u8) -> u8
+pub fn truth_letter(b: u8) -> u8
     ensures { result ≡ letter_of (truth b) }
 {
     let is_true = (b == b'T') | (b == b't') | (b == b'1');
@@ -34,23 +34,29 @@ fn truth_letter(b: u8) -> u8
 // An integer by its value.
 pub fn binary_integer(s: &[u8], at: usize, integer: Integer) -> One
     requires { at + size integer ≤ length s.now }
-    ensures { FindsOne (InBinary (Whole (is_signed integer) (width_of integer)) 1 s.now at) result }
+    ensures { FindsOne (InBinary (Whole (is_signed integer) (width_of integer)) 1 s.now at) (Some result) }
 {
     let value = integers::read_integer(s, at, integer);
-    One::Element(value, at + number::integer_bytes(integer))
+    One {
+        value,
+        next: at + number::integer_bytes(integer),
+    }
 }
 
 // A boolean by its value.
-pub fn binary_truth(s: &[u8], at: usize) -> One
+pub fn binary_truth(s: &[u8], at: usize) -> Option<One>
     requires { at < length s.now }
     ensures { FindsOne (InBinary Truths 1 s.now at) result }
 {
     let letter = truth_letter(s[at]);
     if letter == 0 {
-        return One::Careful;
+        return None;
     }
     let value = ((letter == b'T') as u8) + ((letter == b'?') as u8) * 2;
-    One::Element(value as i64, at + 1)
+    Some(One {
+        value: value as i64,
+        next: at + 1,
+    })
 }
 
 // The low bytes of an integer, as many as its kind has.
@@ -77,10 +83,8 @@ fn copy_many(s: &[u8], from: usize, n: usize, row: &mut [u8], o: usize) -> usize
     requires { (from + n + 8 ≤ length s.now) × (o + n + 8 ≤ length row.old) }
     ensures { Puts row.old o (take n (drop from s.now)) row.new result }
 {
-    let mut k: usize = 0;
-    while k < n {
+    for k in 0..n {
         row[o + k] = s[from + k];
-        k += 1;
     }
     o + n
 }
@@ -104,13 +108,17 @@ fn pass_integers(
     at: usize,
     row: &mut [u8],
     o: usize,
-) -> Content
+) -> Option<Content>
     requires { (n ≤ most_elements) × (at + n * size integer + 8 ≤ length s.now) × (o + n * size integer + 8 ≤ length row.old) }
     ensures { Passes (Whole (is_signed integer) (width_of integer)) n s.now at row.old o row.new result }
 {
     let bytes = n * number::integer_bytes(integer);
     let end = copy(s, at, bytes, row, o);
-    Content::Elements(n, at + bytes, end)
+    Some(Content {
+        count: n,
+        next: at + bytes,
+        end,
+    })
 }
 
 // ---- characters
@@ -124,10 +132,7 @@ fn letters_in(n: usize, s: &[u8], at: usize) -> usize
     while k < n {
         let ahead = letters_ahead(s, at + k);
         if ahead < 8 {
-            if n < k + ahead {
-                return n;
-            }
-            return k + ahead;
+            return n.min(k + ahead);
         }
         k += 8;
     }
@@ -135,23 +140,27 @@ fn letters_in(n: usize, s: &[u8], at: usize) -> usize
 }
 
 // "A char cell shows the characters before the first NUL": a byte before it that is no letter is for the careful way.
-fn pass_text(n: usize, s: &[u8], at: usize, row: &mut [u8], o: usize) -> Content
+fn pass_text(n: usize, s: &[u8], at: usize, row: &mut [u8], o: usize) -> Option<Content>
     requires { (at + n + 8 ≤ length s.now) × (o + n + 8 ≤ length row.old) }
     ensures { Passes Text n s.now at row.old o row.new result }
 {
     let shown = letters_in(n, s, at);
     if (shown < n) & (s[at + shown] != 0) {
-        return Content::Careful;
+        return None;
     }
     let end = copy(s, at, shown, row, o);
-    Content::Elements(shown, at + n, end)
+    Some(Content {
+        count: shown,
+        next: at + n,
+        end,
+    })
 }
 
 // ---- bits
 
 // Are the bits behind the n-th 0?
-fn is_padded(n: usize, s: &[u8], at: usize) -> bool
-    requires { (n ≤ most_elements) × (at + bit_bytes n + 8 ≤ length s.now) }
+pub fn is_padded(n: usize, s: &[u8], at: usize) -> bool
+    requires { (n ≤ most_elements) × (at + bit_bytes n ≤ length s.now) }
     ensures { result ≡ all_zero (drop n (bits_of (take (bit_bytes n) (drop at s.now)))) }
 {
     let bytes = (n + 7) / 8;
@@ -164,43 +173,56 @@ fn is_padded(n: usize, s: &[u8], at: usize) -> bool
 }
 
 // A padding bit that is 1 is for the careful way.
-fn pass_bits(n: usize, s: &[u8], at: usize, row: &mut [u8], o: usize) -> Content
+fn pass_bits(n: usize, s: &[u8], at: usize, row: &mut [u8], o: usize) -> Option<Content>
     requires { (n ≤ most_elements) × (at + bit_bytes n + 8 ≤ length s.now) × (o + bit_bytes n + 8 ≤ length row.old) }
     ensures { Passes Bits n s.now at row.old o row.new result }
 {
     if !is_padded(n, s, at) {
-        return Content::Careful;
+        return None;
     }
     let bytes = (n + 7) / 8;
     let end = copy(s, at, bytes, row, o);
-    Content::Elements(n, at + bytes, end)
+    Some(Content {
+        count: n,
+        next: at + bytes,
+        end,
+    })
 }
 
 // ---- booleans in a row
 
 // A byte that has no letter is for the careful way: that there is one is found behind the loop, which is vector code.
-fn pass_truths(n: usize, s: &[u8], at: usize, row: &mut [u8], o: usize) -> Content
+fn pass_truths(n: usize, s: &[u8], at: usize, row: &mut [u8], o: usize) -> Option<Content>
     requires { (at + n + 8 ≤ length s.now) × (o + n + 8 ≤ length row.old) }
     ensures { Passes Truths n s.now at row.old o row.new result }
 {
     let mut none: u8 = 0;
-    let mut k: usize = 0;
-    while k < n {
+    for k in 0..n {
         let letter = truth_letter(s[at + k]);
         row[o + k] = letter;
         none = none | ((letter == 0) as u8);
-        k += 1;
     }
     if none == 0 {
-        return Content::Elements(n, at + n, o + n);
+        return Some(Content {
+            count: n,
+            next: at + n,
+            end: o + n,
+        });
     }
-    Content::Careful
+    None
 }
 
 // ---- a content
 
 // The elements of a cell, after its count and before what it is filled up with.
-pub fn pass_content(kind: Kind, n: usize, s: &[u8], at: usize, row: &mut [u8], o: usize) -> Content
+pub fn pass_content(
+    kind: Kind,
+    n: usize,
+    s: &[u8],
+    at: usize,
+    row: &mut [u8],
+    o: usize,
+) -> Option<Content>
     requires { (n ≤ most_elements) × (at + content_bytes (shape kind) n + 8 ≤ length s.now) × (o + content_bytes (shape kind) n + 8 ≤ length row.old) }
     ensures { MovesContent (InBinary (shape kind) n s.now at) (AsBinary (shape kind)) row.old o row.new result }
 {

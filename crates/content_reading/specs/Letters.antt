@@ -1,5 +1,5 @@
 -- What the contracts of the functions on letters say.
-use Rattle.std.specs.Prelude.{◌<◌, ℕ, ◌||◌, cond, true, List, [], ◌∷◌, ◌≡◌, eqb}
+use Rattle.std.specs.Prelude.{◌<◌, ℕ, ◌||◌, cond, true, List, [], ◌∷◌, ◌≡◌, eqb, Option, Some, None}
 use Rattle.content_reading.specs.declared.Letter.{Letter}
 use Rattle.moving.specs.Contents.{Spells}
 use Rattle.table.specs.Bytes.{byte}
@@ -13,6 +13,6 @@ truth_number c =
     (cond (eqb c (byte "?")) 2 3))
 
 -- a character that a cell may have, and the place after it
-abbrev pub LetterIs : List ℕ → ℕ → Letter → Type 0
-LetterIs s place (Letter.Is c next) = Spells s place next (c ∷ []) × (is_text c ≡ true) × (place < next)
-LetterIs s place Letter.Careful = Unit {0}
+abbrev pub LetterIs : List ℕ → ℕ → Option Letter → Type 0
+LetterIs s place (Some r) = Spells s place r.next (r.byte ∷ []) × (is_text r.byte ≡ true) × (place < r.next)
+LetterIs s place None = Unit {0}

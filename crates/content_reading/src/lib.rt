@@ -2,11 +2,11 @@
 // left to the careful way.
 #![tactic(auto)]
 
-ghost use Rattle.std.specs.Prelude.{false, ◌≡◌, ◌+◌, ◌-◌, ◌<◌, ◌≤◌, pos, length};
+ghost use Rattle.std.specs.Prelude.{Bool, ℕ, drop, false, take, ◌≡◌, ◌+◌, ◌<◌, ◌≤◌, pos, length};
 ghost use Rattle.content_reading.specs.Letters.{LetterIs, truth_number};
-ghost use Rattle.eights.specs.Marks.{Marks};
+ghost use Rattle.content_reading.specs.Passing.{PassTo};
+ghost use Rattle.eights.specs.Marks.{Marks, run};
 ghost use Rattle.integer_reading.specs.Figures.{BitByte, ReadIn, is_bit};
-ghost use Rattle.integer_reading.specs.Runs.{Passes};
 ghost use Rattle.moving.specs.Contents.{AsBinary, FindsOne, InText, MovesContent};
 ghost use Rattle.number.specs.Clauses.{is_signed, width_of};
 ghost use Rattle.table.specs.Cell.{truth_byte};
@@ -22,6 +22,35 @@ use moving::{Content, One};
 use number::{Elements, Integer, elements_of};
 use table::Kind;
 
+// ---- runs of bytes that pass a test
+
+// A test of bytes, eight at once.
+pub trait Test {
+    ghost passes: { ℕ → Bool };
+
+    // How many of the next eight bytes pass, up to the first that does not.
+    fn ahead(s: &[u8], at: usize) -> usize
+        requires { at + 8 ≤ length s.now }
+        ensures { result ≡ run passes (take 8 (drop at s.now)) };
+}
+
+// The end of the run of bytes that pass, or a place in the last eight bytes. The loop goes on by eight and not by what was found, so that a turn need
+// not wait for the one before.
+pub fn run_end<T: Test>(s: &[u8], from: usize) -> usize
+    requires { from ≤ length s.now }
+    ensures { PassTo T.passes s.now from result }
+{
+    let mut at = from;
+    while 8 <= s.len() - at {
+        let n = T::ahead(s, at);
+        if n < 8 {
+            return at + n;
+        }
+        at += 8;
+    }
+    at
+}
+
 // ---- one boolean by its value
 
 // 1 for true, 0 for false, 2 for unknown, 3 for none: sums of tests, and no branch.
@@ -35,18 +64,21 @@ fn truth_number(c: u8) -> u8
 }
 
 // One of `T t 1 F f 0 ?`; the byte after it is the caller's to look at.
-pub fn text_truth(s: &[u8], at: usize) -> One
+pub fn text_truth(s: &[u8], at: usize) -> Option<One>
     requires { at ≤ length s.now }
     ensures { FindsOne (InText Truths s.now at) result }
 {
     if s.len() <= at {
-        return One::Careful;
+        return None;
     }
     let z = truth_number(s[at]);
     if z == 3 {
-        return One::Careful;
+        return None;
     }
-    One::Element(z as i64, at + 1)
+    Some(One {
+        value: z as i64,
+        next: at + 1,
+    })
 }
 
 // ---- characters. The load that is tested must not also be what is stored: then neither is one instruction. So a run is found first, then copied.
@@ -62,99 +94,103 @@ fn no_plain(x: u64) -> u64
     ((fine ^ 0x8080808080808080) | x) & 0x8080808080808080
 }
 
-// How many of the next eight bytes stand for themselves, up to the first that does not.
-fn plain_ahead(s: &[u8], at: usize) -> usize
-    requires { at + 8 ≤ length s.now }
-    ensures { Passes is_plain s.now at result × (result ≤ 8) }
-{
-    first_of(no_plain(eight_bytes(s, at)))
-}
+// The bytes that stand for themselves.
+struct Plain;
 
-// The end of the run of bytes that stand for themselves, or a place in the last eight bytes.
-fn plain_end(s: &[u8], from: usize) -> usize
-    requires { from ≤ length s.now }
-    ensures { (from ≤ result) × Passes is_plain s.now from (result - from) }
-{
-    let mut at = from;
-    while 8 <= s.len() - at {
-        let n = plain_ahead(s, at);
-        if n < 8 {
-            return at + n;
-        }
-        at += 8;
+impl Test for Plain {
+    ghost passes = { is_plain };
+
+    fn ahead(s: &[u8], at: usize) -> usize {
+        first_of(no_plain(eight_bytes(s, at)))
     }
-    at
 }
 
-// A character and the place after it; or it is for the careful way.
+// A character and the place after it.
 #[derive(Clone, Copy)]
-pub enum Letter {
-    Is(u8, usize),
-    Careful,
+pub struct Letter {
+    pub byte: u8,
+    pub next: usize,
 }
 
 // A line's end or a tab, which stand for themselves too.
-fn line_end(s: &[u8], at: usize) -> Letter
+fn line_end(s: &[u8], at: usize) -> Option<Letter>
     requires { at + 1 ≤ length s.now }
     ensures { LetterIs s.now at result }
 {
     let c = s[at];
     if c == 10 {
-        return Letter::Is(10, at + 1);
+        return Some(Letter {
+            byte: 10,
+            next: at + 1,
+        });
     }
     if c == 9 {
-        return Letter::Is(9, at + 1);
+        return Some(Letter {
+            byte: 9,
+            next: at + 1,
+        });
     }
-    Letter::Careful
+    None
 }
 
 // The references that are written, and what else stands for itself.
-pub fn letter_at(s: &[u8], at: usize) -> Letter
+pub fn letter_at(s: &[u8], at: usize) -> Option<Letter>
     requires { at + 8 ≤ length s.now }
     ensures { LetterIs s.now at result }
 {
     let x = four_bytes(s, at);
     if x == 0x266c743b {
-        return Letter::Is(b'<', at + 4);
+        return Some(Letter {
+            byte: b'<',
+            next: at + 4,
+        });
     }
     if x == 0x2667743b {
-        return Letter::Is(b'>', at + 4);
+        return Some(Letter {
+            byte: b'>',
+            next: at + 4,
+        });
     }
     if x != 0x26616d70 {
         return line_end(s, at);
     }
     if s[at + 4] != b';' {
-        return Letter::Careful;
+        return None;
     }
-    Letter::Is(b'&', at + 5)
+    Some(Letter {
+        byte: b'&',
+        next: at + 5,
+    })
 }
 
 // Runs of bytes that stand for themselves, and what stands between them, up to the `<` of the end tag.
-fn read_text(s: &[u8], from: usize, row: &mut [u8], first: usize) -> Content
+fn read_text(s: &[u8], from: usize, row: &mut [u8], first: usize) -> Option<Content>
     requires { (from ≤ length s.now) × (first ≤ length row.old) }
     ensures { MovesContent (InText Text s.now from) (AsBinary Text) row.old first row.new result }
 {
     let mut at = from;
     let mut o = first;
     loop {
-        let end = plain_end(s, at);
+        let end = run_end::<Plain>(s, at);
         let n = end - at;
         if s.len() - end < 8 {
-            return Content::Careful;
+            return None;
         }
         if row.len() - o < n + 16 {
-            return Content::Careful;
+            return None;
         }
         o = copy_wide(s, at, n, row, o);
         if s[end] == b'<' {
             if o == first {
-                return Content::Careful;
+                return None;
             }
-            return Content::Elements(o - first, end, o);
+            return Some(Content {
+                count: o - first,
+                next: end,
+                end: o,
+            });
         }
-        let Letter::Is(c, next) = letter_at(s, end) else {
-            return Content::Careful;
-        };
+        let Letter { byte: c, next } = letter_at(s, end)?;
         row[o] = c;
         o += 1;
         at = next;
@@ -189,7 +225,7 @@ fn bit_byte(x: u64, n: usize) -> u8
 }
 
 // Eight bits make a byte; fewer than eight are the last.
-fn read_bits(s: &[u8], from: usize, row: &mut [u8], first: usize) -> Content
+fn read_bits(s: &[u8], from: usize, row: &mut [u8], first: usize) -> Option<Content>
     requires { (from ≤ length s.now) × (first ≤ length row.old) }
     ensures { MovesContent (InText Bits s.now from) (AsBinary Bits) row.old first row.new result }
 {
@@ -197,10 +233,10 @@ fn read_bits(s: &[u8], from: usize, row: &mut [u8], first: usize) -> Content
     let mut o = first;
     loop {
         if s.len() - at < 8 {
-            return Content::Careful;
+            return None;
         }
         if row.len() <= o {
-            return Content::Careful;
+            return None;
         }
         let x = eight_bytes(s, at);
         let n = first_of(no_bits(x));
@@ -209,22 +245,36 @@ fn read_bits(s: &[u8], from: usize, row: &mut [u8], first: usize) -> Content
         }
         if n < 8 {
             row[o] = bit_byte(x, n);
-            return Content::Elements(at + n - from, at + n, o + 1);
+            return Some(Content {
+                count: at + n - from,
+                next: at + n,
+                end: o + 1,
+            });
         }
         row[o] = bit_byte(x, 8);
         o += 1;
         at += 8;
     }
     if at == from {
-        return Content::Careful;
+        return None;
     }
-    Content::Elements(at - from, at, o)
+    Some(Content {
+        count: at - from,
+        next: at,
+        end: o,
+    })
 }
 
 // ---- words with one space between
 
 // Each word's integer in the bytes of its kind.
-fn read_integers(s: &[u8], from: usize, integer: Integer, row: &mut [u8], first: usize) -> Content
+fn read_integers(
+    s: &[u8],
+    from: usize,
+    integer: Integer,
+    row: &mut [u8],
+    first: usize,
+) -> Option<Content>
     requires { (from ≤ length s.now) × (first ≤ length row.old) }
     ensures { MovesContent (InText (Whole (is_signed integer) (width_of integer)) s.now from) (AsBinary (Whole (is_signed integer) (width_of integer))) row.old first row.new result }
 {
@@ -233,25 +283,27 @@ fn read_integers(s: &[u8], from: usize, integer: Integer, row: &mut [u8], first:
     let mut count: usize = 0;
     loop {
         if s.len() - at < 32 {
-            return Content::Careful;
+            return None;
         }
         if row.len() - o < 8 {
-            return Content::Careful;
+            return None;
         }
-        let One::Element(z, next) = array_integer(s, at, integer) else {
-            return Content::Careful;
-        };
+        let One { value: z, next } = array_integer(s, at, integer)?;
         o = write_integer(row, o, integer, z);
         count += 1;
         if s[next] != b' ' {
-            return Content::Elements(count, next, o);
+            return Some(Content {
+                count,
+                next,
+                end: o,
+            });
         }
         at = next + 1;
     }
 }
 
 // Each word's integer in a byte.
-fn read_bytes(s: &[u8], from: usize, row: &mut [u8], first: usize) -> Content
+fn read_bytes(s: &[u8], from: usize, row: &mut [u8], first: usize) -> Option<Content>
     requires { (from ≤ length s.now) × (first ≤ length row.old) }
     ensures { MovesContent (InText (Whole false W1) s.now from) (AsBinary (Whole false W1)) row.old first row.new result }
 {
@@ -260,32 +312,36 @@ fn read_bytes(s: &[u8], from: usize, row: &mut [u8], first: usize) -> Content
     let mut count: usize = 0;
     loop {
         if s.len() - at < 4 {
-            return Content::Careful;
+            return None;
         }
         if row.len() <= o {
-            return Content::Careful;
+            return None;
         }
         let run = three_at(s, at);
         let number = run.number;
         let digits = run.count;
         if digits == 0 {
-            return Content::Careful;
+            return None;
         }
         if 255 < number {
-            return Content::Careful;
+            return None;
         }
         row[o] = number as u8;
         o += 1;
         count += 1;
         if s[at + digits] != b' ' {
-            return Content::Elements(count, at + digits, o);
+            return Some(Content {
+                count,
+                next: at + digits,
+                end: o,
+            });
         }
         at = at + digits + 1;
     }
 }
 
 // Bytes are short, and have a way of their own.
-fn read_whole(s: &[u8], at: usize, integer: Integer, row: &mut [u8], o: usize) -> Content
+fn read_whole(s: &[u8], at: usize, integer: Integer, row: &mut [u8], o: usize) -> Option<Content>
     requires { (at ≤ length s.now) × (o ≤ length row.old) }
     ensures { MovesContent (InText (Whole (is_signed integer) (width_of integer)) s.now at) (AsBinary (Whole (is_signed integer) (width_of integer))) row.old o row.new result }
 {
@@ -306,7 +362,7 @@ fn truth_byte(number: u8) -> u8
 }
 
 // Each letter's byte.
-fn read_truths(s: &[u8], from: usize, row: &mut [u8], first: usize) -> Content
+fn read_truths(s: &[u8], from: usize, row: &mut [u8], first: usize) -> Option<Content>
     requires { (from ≤ length s.now) × (first ≤ length row.old) }
     ensures { MovesContent (InText Truths s.now from) (AsBinary Truths) row.old first row.new result }
 {
@@ -315,20 +371,24 @@ fn read_truths(s: &[u8], from: usize, row: &mut [u8], first: usize) -> Content
     let mut count: usize = 0;
     loop {
         if s.len() - at < 2 {
-            return Content::Careful;
+            return None;
         }
         if row.len() <= o {
-            return Content::Careful;
+            return None;
         }
         let z = truth_number(s[at]);
         if z == 3 {
-            return Content::Careful;
+            return None;
         }
         row[o] = truth_byte(z);
         o += 1;
         count += 1;
         if s[at + 1] != b' ' {
-            return Content::Elements(count, at + 1, o);
+            return Some(Content {
+                count,
+                next: at + 1,
+                end: o,
+            });
         }
         at += 2;
     }
@@ -337,7 +397,7 @@ fn read_truths(s: &[u8], from: usize, row: &mut [u8], first: usize) -> Content
 // ---- the elements of a cell
 
 // The elements of a kind from a place on, up to what ends them: the end tag, or what is for the careful way.
-pub fn read_content(kind: Kind, s: &[u8], at: usize, row: &mut [u8], o: usize) -> Content
+pub fn read_content(kind: Kind, s: &[u8], at: usize, row: &mut [u8], o: usize) -> Option<Content>
     requires { (at ≤ length s.now) × (o ≤ length row.old) }
     ensures { MovesContent (InText (shape kind) s.now at) (AsBinary (shape kind)) row.old o row.new result }
 {

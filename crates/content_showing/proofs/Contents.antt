@@ -1,4 +1,5 @@
 -- A content by its kind, and one that has no elements.
+use Rattle.std.specs.Prelude.{Option}
 use Prim.Native.Nat.{◌≤◌, ℕ}
 use native.Mathlib.Omega.{arith}
 use mathlib.Core.List.{List, []}
@@ -48,7 +49,7 @@ none-moved k n s at row o e h = record {
 }
 
 -- what is moved as one kind is moved as the kind that this is
-pub moved_as : (n at o : ℕ) (s old new : List ℕ) (r : Content) (k j : Shape) → j ≡ k
+pub moved_as : (n at o : ℕ) (s old new : List ℕ) (r : Option Content) (k j : Shape) → j ≡ k
     → MovesContent (InBinary k n s at) (AsText k) old o new r → MovesContent (InBinary j n s at) (AsText j) old o new r
 moved_as n at o s old new r k j e m = subst (λ (i : Shape). MovesContent (InBinary i n s at) (AsText i) old o new r) (sym e) m
 

@@ -14,6 +14,7 @@ use mir.Val.{bool_byte}
 use borrow.Author.Tests.{eq-eqb, eqb-true}
 use Rattle.binary.specs.Binary.{content_bytes, element, truth}
 use Rattle.binary_reading.proofs.Cells.{content-truths}
+use Rattle.content_passing.specs.Letters.{letter_of}
 use Rattle.content_showing.proofs.Text.{part-long}
 use Rattle.content_showing.proofs.Words.{puts-spaced, word}
 use Rattle.content_showing.specs.Showing.{IsTruth, TruthsPut, truth_letters, truth_shown}
@@ -29,12 +30,15 @@ use Rattle.tabledata.specs.TableData.{element_bytes, element_text, joined, truth
 
 -- ---- one byte
 
-abbrev letter_of : ℕ → ℕ
-letter_of b = bool_byte (eqb b 84 || eqb b 116 || eqb b 49) * 84 + bool_byte (eqb b 70 || eqb b 102 || eqb b 48) * 70 + bool_byte (eqb b 0 || eqb b 32 || eqb b 63) * 63
-
-pub letter-is : (b : ℕ) → b < 256 → letter_of b ≡ truth_shown b
-unfolding truth_shown
-letter-is b h = eqb-true _ _ (each_below (λ (b : ℕ). eqb (letter_of b) (truth_shown b)) 256 refl b h)
+pub letter-shown : (b : ℕ) → letter_of (truth b) ≡ truth_shown b
+unfolding letter_of truth truth_byte truth_shown
+letter-shown b = by (eqb b 84 || eqb b 116 || eqb b 49) (eqb b 70 || eqb b 102 || eqb b 48) (eqb b 0 || eqb b 32 || eqb b 63) refl refl refl
+  where
+    by : (x y z : Bool) → (eqb b 84 || eqb b 116 || eqb b 49) ≡ x → (eqb b 70 || eqb b 102 || eqb b 48) ≡ y → (eqb b 0 || eqb b 32 || eqb b 63) ≡ z → letter_of (truth b) ≡ truth_shown b
+    by true y z e f g = rw e refl
+    by false true z e f g = rw (e, f) refl
+    by false false true e f g = rw (e, f, g) refl
+    by false false false e f g = rw (e, f, g) refl
 
 -- the element that a byte is, by its letter
 record TruthIs (b : ℕ) : Type 0 where

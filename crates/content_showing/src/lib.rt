@@ -1,8 +1,8 @@
 // The contents of cells of BINARY and BINARY2 as the text of a cell of TABLEDATA, in a row's buffer.
 #![tactic(auto)]
 
-ghost use Rattle.std.specs.Prelude.{◌*◌, ◌+◌, ◌-◌, ◌<◌, ◌≤◌, nat_abs, drop, length, replicate, take, false, [], ◌++◌, ◌∷◌, ◌≡◌};
-ghost use Rattle.binary.specs.Binary.{all_zero, bit_bytes, bits_of, content_bytes};
+ghost use Rattle.std.specs.Prelude.{◌*◌, ◌+◌, ◌-◌, ◌<◌, ◌≤◌, drop, length, replicate, take, false, [], ◌++◌, ◌∷◌, ◌≡◌};
+ghost use Rattle.binary.specs.Binary.{bit_bytes, content_bytes};
 ghost use Rattle.content_showing.specs.Showing.{TruthsPut, bit_letters, byte_word, filled, first_part, is_itself, middle_part, reference, sign, truth_shown};
 ghost use Rattle.decimals.specs.Clauses.{numerals};
 ghost use Rattle.eights.specs.Marks.{Marks, run};
@@ -13,6 +13,7 @@ ghost use Rattle.number.specs.Number.{digits, shortest, to_digits};
 ghost use Rattle.table.specs.Cell.{most_elements, truth_byte};
 ghost use Rattle.table.specs.Shape.{Bits, Text, Truths, W1, Whole, shape};
 
+use content_passing::{is_padded, truth_letter};
 use eights::{copy_wide, eight_digits, first_of};
 use integers::{eight_bytes, put_eight, put_four, read_integer};
 use moving::Content;
@@ -102,17 +103,6 @@ fn put_number(v: u64, row: &mut [u8], o: usize) -> usize
     put_long(v, row, o)
 }
 
-// z without its sign.
-fn magnitude(z: i64) -> u64
-    ensures { result ≡ nat_abs z }
-{
-    if 0 <= z {
-        z as u64
-    } else {
-        ((-1 - z) as u64) + 1
-    }
-}
-
 // The sign is stored whether it counts or not, so that nothing is branched on.
 fn put_sign(z: i64, row: &mut [u8], o: usize) -> usize
     requires { o + 1 ≤ length row.old }
@@ -127,7 +117,7 @@ pub fn show_integer(z: i64, row: &mut [u8], o: usize) -> usize
     ensures { Puts row.old o (shortest z) row.new result }
 {
     let next = put_sign(z, row, o);
-    put_number(magnitude(z), row, next)
+    put_number(z.unsigned_abs(), row, next)
 }
 
 // ---- "Booleans are `T`, `F`, `?`"
@@ -162,12 +152,6 @@ pub fn text_ahead(s: &[u8], at: usize) -> usize
     first_of(no_text(eight_bytes(s, at)))
 }
 
-fn smaller(a: usize, b: usize) -> usize
-    ensures { (result ≤ a) × (result ≤ b) }
-{
-    if a < b { a } else { b }
-}
-
 // How many of the next n bytes are, eight at a time.
 fn text_run(s: &[u8], at: usize, n: usize) -> usize
     requires { at + n + 8 ≤ length s.now }
@@ -177,7 +161,7 @@ fn text_run(s: &[u8], at: usize, n: usize) -> usize
     while k < n {
         let ahead = text_ahead(s, at + k);
         if ahead < 8 {
-            return smaller(k + ahead, n);
+            return n.min(k + ahead);
         }
         k += 8;
     }
@@ -215,7 +199,7 @@ pub fn put_reference(b: u8, row: &mut [u8], o: usize) -> usize
     o + reference_size(b)
 }
 
-fn show_text(n: usize, s: &[u8], at: usize, row: &mut [u8], o: usize) -> Content
+fn show_text(n: usize, s: &[u8], at: usize, row: &mut [u8], o: usize) -> Option<Content>
     requires { (at + n + 8 ≤ length s.now) × (o ≤ length row.old) }
     ensures { MovesContent (InBinary Text n s.now at) (AsText Text) row.old o row.new result }
 {
@@ -224,20 +208,28 @@ fn show_text(n: usize, s: &[u8], at: usize, row: &mut [u8], o: usize) -> Content
     loop {
         let run = text_run(s, at + k, n - k);
         if row.len() - e < run + 16 {
-            return Content::Careful;
+            return None;
         }
         e = copy_wide(s, at + k, run, row, e);
         k += run;
         if k == n {
-            return Content::Elements(k, at + n, e);
+            return Some(Content {
+                count: k,
+                next: at + n,
+                end: e,
+            });
         }
         let b = s[at + k];
         if b == 0 {
-            return Content::Elements(k, at + n, e);
+            return Some(Content {
+                count: k,
+                next: at + n,
+                end: e,
+            });
         }
         let next = put_reference(b, row, e);
         if next == e {
-            return Content::Careful;
+            return None;
         }
         e = next;
         k += 1;
@@ -264,23 +256,25 @@ fn show_integers(
     at: usize,
     row: &mut [u8],
     o: usize,
-) -> Content
+) -> Option<Content>
     requires { (0 < n) × (at + n * size integer ≤ length s.now) × (o ≤ length row.old) }
     ensures { MovesContent (InBinary (Whole (is_signed integer) (width_of integer)) n s.now at) (AsText (Whole (is_signed integer) (width_of integer))) row.old o row.new result }
 {
     let width = integer_bytes(integer);
     let mut from = at;
     let mut e = o;
-    let mut k: usize = 0;
-    while k < n {
+    for _ in 0..n {
         if row.len() - e < 40 {
-            return Content::Careful;
+            return None;
         }
         e = put_word(read_integer(s, from, integer), row, e);
         from += width;
-        k += 1;
     }
-    Content::Elements(n, from, e - 1)
+    Some(Content {
+        count: n,
+        next: from,
+        end: e - 1,
+    })
 }
 
 // The digits of a byte and a space, as four bytes; none stands before the first digit.
@@ -307,23 +301,32 @@ fn put_byte(b: u8, row: &mut [u8], o: usize) -> usize
     o + byte_size(b)
 }
 
-fn show_bytes(n: usize, s: &[u8], at: usize, row: &mut [u8], o: usize) -> Content
+fn show_bytes(n: usize, s: &[u8], at: usize, row: &mut [u8], o: usize) -> Option<Content>
     requires { (0 < n) × (n ≤ most_elements) × (at + n ≤ length s.now) × (o ≤ length row.old) }
     ensures { MovesContent (InBinary (Whole false W1) n s.now at) (AsText (Whole false W1)) row.old o row.new result }
 {
     if row.len() - o < 4 * n {
-        return Content::Careful;
+        return None;
     }
     let mut e = o;
-    let mut k: usize = 0;
-    while k < n {
+    for k in 0..n {
         e = put_byte(s[at + k], row, e);
-        k += 1;
     }
-    Content::Elements(n, at + n, e - 1)
+    Some(Content {
+        count: n,
+        next: at + n,
+        end: e - 1,
+    })
 }
 
-fn show_whole(integer: Integer, n: usize, s: &[u8], at: usize, row: &mut [u8], o: usize) -> Content
+fn show_whole(
+    integer: Integer,
+    n: usize,
+    s: &[u8],
+    at: usize,
+    row: &mut [u8],
+    o: usize,
+) -> Option<Content>
     requires { (0 < n) × (n ≤ most_elements) × (at + n * size integer ≤ length s.now) × (o ≤ length row.old) }
     ensures { MovesContent (InBinary (Whole (is_signed integer) (width_of integer)) n s.now at) (AsText (Whole (is_signed integer) (width_of integer))) row.old o row.new result }
 {
@@ -348,53 +351,35 @@ fn bit_word(b: u8) -> u64
     z + 0x3030303030303030
 }
 
-// Is each bit after the n-th 0?
-fn is_padded(n: usize, s: &[u8], at: usize) -> bool
-    requires { (0 < n) × (n ≤ most_elements) × (at + bit_bytes n ≤ length s.now) }
-    ensures { result ≡ all_zero (drop n (bits_of (take (bit_bytes n) (drop at s.now)))) }
-{
-    let size = (n + 7) / 8;
-    let last = s[at + size - 1] as u64;
-    last % (1u64 << (8 * size - n)) == 0
-}
-
 fn put_bits(size: usize, s: &[u8], at: usize, row: &mut [u8], o: usize)
     requires { (at + size ≤ length s.now) × (o + 8 * size ≤ length row.old) }
     ensures { Puts row.old o (bit_letters (take size (drop at s.now))) row.new (o + 8 * size) }
 {
-    let mut k: usize = 0;
-    while k < size {
+    for k in 0..size {
         put_eight(row, o + 8 * k, bit_word(s[at + k]));
-        k += 1;
     }
 }
 
-fn show_bits(n: usize, s: &[u8], at: usize, row: &mut [u8], o: usize) -> Content
+fn show_bits(n: usize, s: &[u8], at: usize, row: &mut [u8], o: usize) -> Option<Content>
     requires { (0 < n) × (n ≤ most_elements) × (at + bit_bytes n ≤ length s.now) × (o ≤ length row.old) }
     ensures { MovesContent (InBinary Bits n s.now at) (AsText Bits) row.old o row.new result }
 {
     let size = (n + 7) / 8;
     if row.len() - o < 8 * size {
-        return Content::Careful;
+        return None;
     }
     if !is_padded(n, s, at) {
-        return Content::Careful;
+        return None;
     }
     put_bits(size, s, at, row, o);
-    Content::Elements(n, at + size, o + n)
+    Some(Content {
+        count: n,
+        next: at + size,
+        end: o + n,
+    })
 }
 
 // ---- booleans
-
-// The letter that a boolean's byte is written as, and 0 for a byte that is none. No test is a branch.
-fn truth_letter(b: u8) -> u8
-    ensures { result ≡ truth_shown b }
-{
-    let truth = ((b == 84) | (b == 116) | (b == 49)) as u8;
-    let falsehood = ((b == 70) | (b == 102) | (b == 48)) as u8;
-    let unknown = ((b == 0) | (b == 32) | (b == 63)) as u8;
-    truth * 84 + falsehood * 70 + unknown * 63
-}
 
 // A letter and a space behind it.
 fn put_truth(b: u8, row: &mut [u8], o: usize) -> u8
@@ -413,37 +398,50 @@ fn put_truths(n: usize, s: &[u8], at: usize, row: &mut [u8], o: usize) -> u8
     ensures { TruthsPut (take n (drop at s.now)) row.old o row.new (o + 2 * n) result }
 {
     let mut bad: u8 = 0;
-    let mut k: usize = 0;
-    while k < n {
+    for k in 0..n {
         let letter = put_truth(s[at + k], row, o + 2 * k);
         bad = bad | ((letter == 0) as u8);
-        k += 1;
     }
     bad
 }
 
 // The space behind the last is left out.
-fn show_truths(n: usize, s: &[u8], at: usize, row: &mut [u8], o: usize) -> Content
+fn show_truths(n: usize, s: &[u8], at: usize, row: &mut [u8], o: usize) -> Option<Content>
     requires { (0 < n) × (n ≤ most_elements) × (at + n ≤ length s.now) × (o ≤ length row.old) }
     ensures { MovesContent (InBinary Truths n s.now at) (AsText Truths) row.old o row.new result }
 {
     if row.len() - o < 2 * n {
-        return Content::Careful;
+        return None;
     }
     if put_truths(n, s, at, row, o) != 0 {
-        return Content::Careful;
+        return None;
     }
-    Content::Elements(n, at + n, o + 2 * n - 1)
+    Some(Content {
+        count: n,
+        next: at + n,
+        end: o + 2 * n - 1,
+    })
 }
 
 // ---- a content
 
-pub fn show_content(kind: Kind, n: usize, s: &[u8], at: usize, row: &mut [u8], o: usize) -> Content
+pub fn show_content(
+    kind: Kind,
+    n: usize,
+    s: &[u8],
+    at: usize,
+    row: &mut [u8],
+    o: usize,
+) -> Option<Content>
     requires { (n ≤ most_elements) × (at + content_bytes (shape kind) n + 8 ≤ length s.now) × (o ≤ length row.old) }
     ensures { MovesContent (InBinary (shape kind) n s.now at) (AsText (shape kind)) row.old o row.new result }
 {
     if n == 0 {
-        return Content::Elements(0, at, o);
+        return Some(Content {
+            count: 0,
+            next: at,
+            end: o,
+        });
     }
     match elements_of(kind) {
         Elements::Truths => show_truths(n, s, at, row, o),

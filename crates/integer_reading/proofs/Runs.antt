@@ -55,12 +55,19 @@ unfolding run
 run-le test [] = le_refl 0
 run-le test (b ∷ l) = cond_cases (λ (n : ℕ). n ≤ suc (length l)) (test b) (suc (run test l)) 0 (λ _. omega (arith, run-le test l)) (λ _. omega arith)
 
+pub run-marked : {test : ℕ → Bool} (s : List ℕ) (at : ℕ) {x m n : ℕ} → AreBytes s → at + 8 ≤ length s → x ≡ of_digits 256 0 (take 8 (drop at s)) → Marks test x m → FirstIs m n
+    → n ≡ run test (take 8 (drop at s))
+run-marked {test} s at a h e marks first =
+    let p : List ℕ = take 8 (drop at s) in
+    let l : length p ≡ 8 = length-take-le 8 (drop at s) (simp length-drop (omega arith)) in
+    first.first test p l (marks.marked p l (all_take _ 8 (drop at s) (all_drop _ at s a)) e)
+
 pub passes-ahead : {test : ℕ → Bool} (s : List ℕ) (at : ℕ) {x m n : ℕ} → AreBytes s → at + 8 ≤ length s → x ≡ of_digits 256 0 (take 8 (drop at s)) → Marks test x m → FirstIs m n
     → Passes test s at n × (n ≤ 8)
 passes-ahead {test} s at {n = n} a h e marks first =
     let p : List ℕ = take 8 (drop at s) in
     let l : length p ≡ 8 = length-take-le 8 (drop at s) (simp length-drop (omega arith)) in
-    let q : n ≡ run test p = first.first test p l (marks.marked p l (all_take _ 8 (drop at s) (all_drop _ at s a)) e) in
+    let q : n ≡ run test p = run-marked s at a h e marks first in
     let few : n ≤ 8 = omega (arith, q, run-le test p) in (
       record {
         inside = omega (arith, few);

@@ -1,5 +1,5 @@
 -- What the contracts of the functions on eight characters say: digits, and the number that they spell.
-use Rattle.std.specs.Prelude.{◌+◌, ◌-◌, ◌<◌, ◌≤◌, ℕ, Bool, true, List, ◌++◌, map, ◌≡◌, drop, get_or, length, replicate, take}
+use Rattle.std.specs.Prelude.{◌+◌, ◌-◌, ◌<◌, ◌≤◌, ℕ, Bool, true, List, ◌++◌, map, ◌≡◌, drop, get_or, length, replicate, take, Option, Some, None}
 use Rattle.std.specs.Int.Bits.{bit_xor}
 use Rattle.integer_reading.specs.Runs.{Passes}
 use Rattle.eights.specs.Lowest.{of_lowest}
@@ -56,6 +56,6 @@ pub record ShortRun (x : ℕ) (rest : List ℕ) (count number : ℕ) : Type 0 wh
   pub few : count ≤ 15
 
 -- what is found ends before the end
-abbrev pub EndsBefore : ℕ → One → Type 0
-EndsBefore n (One.Element z next) = next < n
-EndsBefore n One.Careful = Unit {0}
+abbrev pub EndsBefore : ℕ → Option One → Type 0
+EndsBefore n (Some r) = r.next < n
+EndsBefore n None = Unit {0}

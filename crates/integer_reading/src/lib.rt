@@ -37,7 +37,7 @@ fn few_figures(x: u64, n: usize) -> u64
 }
 
 // The high bit of each byte that is no digit.
-fn no_digits(x: u64) -> u64
+pub fn no_digits(x: u64) -> u64
     ensures { Marks is_digit x result }
 {
     let t = x ^ 0x3030303030303030;
@@ -53,7 +53,7 @@ fn decimal_of(t: u64) -> u64
     b - (b >> 32) * 4294957296
 }
 
-// A run of digits: their number, and how many they are.
+// A run of digits: their number, and how many they are. No Option where none is taken: a count of 0 is found without a branch of its own.
 #[derive(Clone, Copy)]
 pub struct Run {
     pub number: u64,
@@ -149,24 +149,27 @@ fn with_sign(minus: bool, number: u64) -> i64
 }
 
 // A word of digits, with a minus before it or not; the byte after it is the caller's to look at.
-pub fn text_integer(s: &[u8], at: usize, integer: Integer) -> One
+pub fn text_integer(s: &[u8], at: usize, integer: Integer) -> Option<One>
     requires { at ≤ length s.now }
     ensures { FindsOne (InText (Whole (is_signed integer) (width_of integer)) s.now at) result }
 {
     if s.len() - at < 32 {
-        return One::Careful;
+        return None;
     }
     let first = after_minus(s, at, is_signed(integer));
     let run = digits_at(s, first);
     let number = run.number;
     let count = run.count;
     if count == 0 {
-        return One::Careful;
+        return None;
     }
     if top_of(integer) < number {
-        return One::Careful;
+        return None;
     }
-    One::Element(with_sign(first != at, number), first + count)
+    Some(One {
+        value: with_sign(first != at, number),
+        next: first + count,
+    })
 }
 
 // ---- a word among others
@@ -201,22 +204,20 @@ fn short_run(x: u64, s: &[u8], behind: usize) -> Run
 }
 
 // A word that is not short.
-fn long_integer(s: &[u8], at: usize, integer: Integer) -> One
+fn long_integer(s: &[u8], at: usize, integer: Integer) -> Option<One>
     requires { at ≤ length s.now }
     ensures { FindsOne (InText (Whole (is_signed integer) (width_of integer)) s.now at) result × EndsBefore (length s.now) result }
 {
-    let One::Element(z, end) = text_integer(s, at, integer) else {
-        return One::Careful;
-    };
-    if s.len() <= end {
-        return One::Careful;
+    let one = text_integer(s, at, integer)?;
+    if s.len() <= one.next {
+        return None;
     }
-    One::Element(z, end)
+    Some(one)
 }
 
 // A word among others, which does not wait for its sign: a minus counts as a zero before its digits. Called in one place, so that the compiler
 // makes one loop of it.
-pub fn array_integer(s: &[u8], at: usize, integer: Integer) -> One
+pub fn array_integer(s: &[u8], at: usize, integer: Integer) -> Option<One>
     requires { at + 32 ≤ length s.now }
     ensures { FindsOne (InText (Whole (is_signed integer) (width_of integer)) s.now at) result × EndsBefore (length s.now) result }
 {
@@ -229,9 +230,12 @@ pub fn array_integer(s: &[u8], at: usize, integer: Integer) -> One
         return long_integer(s, at, integer);
     }
     if top_of(integer) < number {
-        return One::Careful;
+        return None;
     }
-    One::Element(with_sign(first != at, number), at + count)
+    Some(One {
+        value: with_sign(first != at, number),
+        next: at + count,
+    })
 }
 
 // ---- words of one to three digits, without a branch on how many

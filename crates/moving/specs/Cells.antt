@@ -1,5 +1,5 @@
 -- A cell moved from the input into a row's buffer.
-use Rattle.std.specs.Prelude.{◌+◌, ◌<◌, ◌≤◌, ℕ, Bool, false, List, [], ◌≡◌, ℤ, drop, length}
+use Rattle.std.specs.Prelude.{◌+◌, ◌<◌, ◌≤◌, ℕ, Bool, false, List, [], ◌≡◌, ℤ, drop, length, Option, Some, None}
 use Rattle.moving.specs.Puts.{Puts}
 use Rattle.moving.specs.declared.Moved.{Moved}
 use Rattle.rows.specs.Stream.{read_cell, write_cell}
@@ -21,9 +21,9 @@ pub record CellMoved (from to : Rows) (c : Column) (flagged : Bool) (s : List �
   pub null_is : null ≡ is_null cell
 
 -- what is not moved leaves what stands before its place
-abbrev pub MovesCell : Rows → Rows → Column → Bool → List ℕ → ℕ → List ℕ → ℕ → List ℕ → Moved → Type 0
-MovesCell from to c flagged s place old o new (Moved.Cell next e null) = CellMoved from to c flagged s place old o new next e null
-MovesCell from to c flagged s place old o new Moved.Careful = Puts old o [] new o
+abbrev pub MovesCell : Rows → Rows → Column → Bool → List ℕ → ℕ → List ℕ → ℕ → List ℕ → Option Moved → Type 0
+MovesCell from to c flagged s place old o new (Some r) = CellMoved from to c flagged s place old o new r.next r.end r.null
+MovesCell from to c flagged s place old o new None = Puts old o [] new o
 
 -- a cell x has no form, or no room behind a place of a buffer
 abbrev pub CellUnfit : Rows → Column → Cell → List ℕ → ℕ → Type 0
@@ -35,9 +35,9 @@ pub record CellLeft (from to : Rows) (c : Column) (flagged : Bool) (s : List ℕ
   pub unfit : (x : Cell) (rest : List ℕ) → read_cell from c flagged (drop place s) ≡ good (x, rest) → CellUnfit to c x old o
 
 -- a cell is moved wherever one can be
-abbrev pub SettlesCell : Rows → Rows → Column → Bool → List ℕ → ℕ → List ℕ → ℕ → List ℕ → Moved → Type 0
-SettlesCell from to c flagged s place old o new (Moved.Cell next e null) = CellMoved from to c flagged s place old o new next e null
-SettlesCell from to c flagged s place old o new Moved.Careful = CellLeft from to c flagged s place old o new
+abbrev pub SettlesCell : Rows → Rows → Column → Bool → List ℕ → ℕ → List ℕ → ℕ → List ℕ → Option Moved → Type 0
+SettlesCell from to c flagged s place old o new (Some r) = CellMoved from to c flagged s place old o new r.next r.end r.null
+SettlesCell from to c flagged s place old o new None = CellLeft from to c flagged s place old o new
 
 -- a cell x that ends at a place of the input, put as it is written
 pub record CellPut (to : Rows) (c : Column) (x : Cell) (next : ℕ) (old : List ℕ) (o : ℕ) (new : List ℕ) (next' e : ℕ) (null' : Bool) : Type 0 where
@@ -47,14 +47,14 @@ pub record CellPut (to : Rows) (c : Column) (x : Cell) (next : ℕ) (old : List 
   pub same_next : next' ≡ next
   pub null_is : null' ≡ is_null x
 
-abbrev pub PutsCell : Rows → Column → Cell → ℕ → List ℕ → ℕ → List ℕ → Moved → Type 0
-PutsCell to c x next old o new (Moved.Cell next' e null') = CellPut to c x next old o new next' e null'
-PutsCell to c x next old o new Moved.Careful = Puts old o [] new o
+abbrev pub PutsCell : Rows → Column → Cell → ℕ → List ℕ → ℕ → List ℕ → Option Moved → Type 0
+PutsCell to c x next old o new (Some r) = CellPut to c x next old o new r.next r.end r.null
+PutsCell to c x next old o new None = Puts old o [] new o
 
 -- a cell x is put wherever it can be
-abbrev pub SettlesPut : Rows → Column → Cell → ℕ → List ℕ → ℕ → List ℕ → Moved → Type 0
-SettlesPut to c x next old o new (Moved.Cell next' e null') = CellPut to c x next old o new next' e null'
-SettlesPut to c x next old o new Moved.Careful = Puts old o [] new o × CellUnfit to c x old o
+abbrev pub SettlesPut : Rows → Column → Cell → ℕ → List ℕ → ℕ → List ℕ → Option Moved → Type 0
+SettlesPut to c x next old o new (Some r) = CellPut to c x next old o new r.next r.end r.null
+SettlesPut to c x next old o new None = Puts old o [] new o × CellUnfit to c x old o
 
 -- ---- elements that were read
 
@@ -74,6 +74,6 @@ pub record ReadMoved (Reads : ℕ → List ℤ → Type 0) (from to : Rows) (c :
   pub reads : Reads next es
   pub put : CellPut to c (shown_as from c es) next old o new next e null
 
-abbrev pub MovesRead : (ℕ → List ℤ → Type 0) → Rows → Rows → Column → List ℕ → ℕ → List ℕ → Moved → Type 0
-MovesRead Reads from to c old o new (Moved.Cell next e null) = ReadMoved Reads from to c old o new next e null
-MovesRead Reads from to c old o new Moved.Careful = Puts old o [] new o
+abbrev pub MovesRead : (ℕ → List ℤ → Type 0) → Rows → Rows → Column → List ℕ → ℕ → List ℕ → Option Moved → Type 0
+MovesRead Reads from to c old o new (Some r) = ReadMoved Reads from to c old o new r.next r.end r.null
+MovesRead Reads from to c old o new None = Puts old o [] new o

@@ -1,5 +1,5 @@
 -- The elements of a cell, moved from the input into a row's buffer: which elements stand in the input, and which bytes they are put as.
-use Rattle.std.specs.Prelude.{◌+◌, ◌≤◌, ℕ, List, [], ◌++◌, ◌∷◌, map, ◌≡◌, ℤ, drop, length, take}
+use Rattle.std.specs.Prelude.{◌+◌, ◌≤◌, ℕ, List, [], ◌++◌, ◌∷◌, map, ◌≡◌, ℤ, drop, length, take, Option, Some, None}
 use Rattle.binary.specs.Binary.{bytes_of, content, content_bytes, number}
 use Rattle.moving.specs.Puts.{Puts}
 use Rattle.moving.specs.declared.Content.{Content}
@@ -56,11 +56,11 @@ pub record ContentMoved (Reads : ℕ → List ℤ → Type 0) (Writes : List ℤ
   pub count-is : count ≡ length es
 
 -- what is not moved leaves what stands before its place
-abbrev pub MovesContent : (ℕ → List ℤ → Type 0) → (List ℤ → List ℕ → Type 0) → List ℕ → ℕ → List ℕ → Content → Type 0
-MovesContent Reads Writes old o new (Content.Elements count next e) = ContentMoved Reads Writes old o new count next e
-MovesContent Reads Writes old o new Content.Careful = Puts old o [] new o
+abbrev pub MovesContent : (ℕ → List ℤ → Type 0) → (List ℤ → List ℕ → Type 0) → List ℕ → ℕ → List ℕ → Option Content → Type 0
+MovesContent Reads Writes old o new (Some r) = ContentMoved Reads Writes old o new r.count r.next r.end
+MovesContent Reads Writes old o new None = Puts old o [] new o
 
 -- one element by its value
-abbrev pub FindsOne : (ℕ → List ℤ → Type 0) → One → Type 0
-FindsOne Reads (One.Element z next) = Reads next (z ∷ [])
-FindsOne Reads One.Careful = Unit {0}
+abbrev pub FindsOne : (ℕ → List ℤ → Type 0) → Option One → Type 0
+FindsOne Reads (Some r) = Reads r.next (r.value ∷ [])
+FindsOne Reads None = Unit {0}

@@ -1,25 +1,26 @@
 // What moving a cell from the input into a row's buffer means. A row is made in a buffer of its own and goes to the output whole, once all of it is
-// known to be good and to fit. What stands in that buffer behind the place reached does not count.
+// known to be good and to fit. What stands in that buffer behind the place reached does not count. None is what is left to the careful way.
 #![tactic(auto)]
 
-// A cell: the place after it in the input, the place after its bytes in the buffer, and whether it is null; or it is for the careful way.
+// A cell that was moved: the place after it in the input, the place after its bytes in the buffer, and whether it is null.
 #[derive(Clone, Copy)]
-pub enum Moved {
-    Cell(usize, usize, bool),
-    Careful,
+pub struct Moved {
+    pub next: usize,
+    pub end: usize,
+    pub null: bool,
 }
 
-// The elements of a cell: how many they are, the place after them in the input, and the place after their bytes in the buffer; or they are for
-// the careful way.
+// The elements of a cell: how many they are, the place after them in the input, and the place after their bytes in the buffer.
 #[derive(Clone, Copy)]
-pub enum Content {
-    Elements(usize, usize, usize),
-    Careful,
+pub struct Content {
+    pub count: usize,
+    pub next: usize,
+    pub end: usize,
 }
 
-// One element by its value and the place after it in the input; or it is for the careful way.
+// One element by its value, and the place after it in the input.
 #[derive(Clone, Copy)]
-pub enum One {
-    Element(i64, usize),
-    Careful,
+pub struct One {
+    pub value: i64,
+    pub next: usize,
 }

@@ -1,5 +1,6 @@
 -- What a step says of its column, and that a cell moved as its step says is moved as its column wants: a step that wants something is of a fixed
 -- column, whose cells have no count; bytes that go as they stand are the bytes that their elements are written as.
+use Rattle.std.specs.Prelude.{Option, Some, None}
 use Prim.Native.Nat.{◌%◌, ◌*◌, ◌+◌, ◌≤◌, ℕ}
 use native.Mathlib.Nat.{le_refl}
 use native.Mathlib.Omega.{arith}
@@ -50,20 +51,20 @@ neither true b h = absurd (false≢true (sym h))
 
 -- ---- wants that are told apart
 
-abbrev pub wants_bytes : Want → Bool
-wants_bytes Want.Other = false
-wants_bytes Want.Bytes = true
-wants_bytes (Want.Integer integer) = false
+abbrev pub wants_bytes : Option Want → Bool
+wants_bytes None = false
+wants_bytes (Some Want.Bytes) = true
+wants_bytes (Some (Want.Integer integer)) = false
 
-abbrev pub wants_integer : Want → Bool
-wants_integer Want.Other = false
-wants_integer Want.Bytes = false
-wants_integer (Want.Integer integer) = true
+abbrev pub wants_integer : Option Want → Bool
+wants_integer None = false
+wants_integer (Some Want.Bytes) = false
+wants_integer (Some (Want.Integer integer)) = true
 
-abbrev integer_in : Want → Integer
-integer_in Want.Other = Integer.Long
-integer_in Want.Bytes = Integer.Long
-integer_in (Want.Integer integer) = integer
+abbrev integer_in : Option Want → Integer
+integer_in None = Integer.Long
+integer_in (Some Want.Bytes) = Integer.Long
+integer_in (Some (Want.Integer integer)) = integer
 
 -- ---- a step that wants something is of a fixed column
 
@@ -74,7 +75,7 @@ pub record OfFixed (c : Column) : Type 0 where
   pub bytes-is : (step_of c).bytes ≡ content_bytes (shape c.kind) n
   pub null_is : (step_of c).null ≡ c.null
 
-pub of-fixed : (c : Column) (w : Want) → (step_of c).want ≡ w → (Want.Other ≡ w → ⊥) → OfFixed c
+pub of-fixed : (c : Column) (w : Option Want) → (step_of c).want ≡ w → (None ≡ w → ⊥) → OfFixed c
 unfolding step_for
 of-fixed c w e other = go c.len refl
   where
@@ -84,15 +85,15 @@ of-fixed c w e other = go c.len refl
     go Free q = absurd (other (sym (ap (λ (l : Len). (step_for c.kind l c.null).want) q) ∙ e))
 
 -- one integer: a scalar of that kind
-one_of : (b : Bool) (j integer : Integer) → cond b (Want.Integer j) Want.Bytes ≡ Want.Integer integer → (b ≡ true) × (j ≡ integer)
+one_of : (b : Bool) (j integer : Integer) → cond b (Some (Want.Integer j)) (Some Want.Bytes) ≡ Some (Want.Integer integer) → (b ≡ true) × (j ≡ integer)
 one_of true j integer h = (refl, ap integer_in h)
 one_of false j integer h = absurd (false≢true (ap wants_integer h))
 
-bits-want : (b : Bool) (integer : Integer) → cond b Want.Bytes Want.Other ≡ Want.Integer integer → ⊥
+bits-want : (b : Bool) (integer : Integer) → cond b (Some Want.Bytes) None ≡ Some (Want.Integer integer) → ⊥
 bits-want true integer h = false≢true (ap wants_integer h)
 bits-want false integer h = false≢true (ap wants_integer h)
 
-pub integer-wanted : (kind : Kind) (n : ℕ) (integer : Integer) → want_of (shape kind) n ≡ Want.Integer integer → (n ≡ 1) × (shape kind ≡ Whole (is_signed integer) (width_of integer))
+pub integer-wanted : (kind : Kind) (n : ℕ) (integer : Integer) → want_of (shape kind) n ≡ Some (Want.Integer integer) → (n ≡ 1) × (shape kind ≡ Whole (is_signed integer) (width_of integer))
 unfolding want_of
 integer-wanted Kind.Boolean n integer h = absurd (false≢true (ap wants_integer h))
 integer-wanted Kind.Bit n integer h = absurd (bits-want (eqb (n % 8) 0) integer h)
@@ -109,14 +110,14 @@ fixed-form : (c : Column) (n : ℕ) (es : List ℤ) → c.len ≡ Fixed n → is
 unfolding count_bytes fill_size
 fixed-form c n es q k = sym (elements-around c es (length es) refl ∙ rw (q, k, append-nil))
 
-not-one : (v : Width) (b : Bool) → cond b (one_integer v) Want.Bytes ≡ Want.Bytes → b ≡ false
+not-one : (v : Width) (b : Bool) → cond b (Some (one_integer v)) (Some Want.Bytes) ≡ Some Want.Bytes → b ≡ false
 not-one v false h = refl
 not-one W1 true h = absurd (false≢true (ap wants_bytes h))
 not-one W2 true h = absurd (false≢true (ap wants_bytes h))
 not-one W4 true h = absurd (false≢true (ap wants_bytes h))
 not-one W8 true h = absurd (false≢true (ap wants_bytes h))
 
-all-bits : (b : Bool) → cond b Want.Bytes Want.Other ≡ Want.Bytes → b ≡ true
+all-bits : (b : Bool) → cond b (Some Want.Bytes) None ≡ Some Want.Bytes → b ≡ true
 all-bits true h = refl
 all-bits false h = absurd (false≢true (ap wants_bytes h))
 
@@ -126,12 +127,12 @@ record Passing (c : Column) (n m : ℕ) (s old : List ℕ) (at o : ℕ) (new : L
   no_char : is_char (shape c.kind) ≡ false
   moved : ContentMoved (InBinary (shape c.kind) n s at) (AsBinary (shape c.kind)) old o new n (at + m) e
 
-passing : (c : Column) (n m : ℕ) (s old : List ℕ) (at o : ℕ) (new : List ℕ) (e : ℕ) → c.len ≡ Fixed n → want_of (shape c.kind) n ≡ Want.Bytes → m ≡ content_bytes (shape c.kind) n
+passing : (c : Column) (n m : ℕ) (s old : List ℕ) (at o : ℕ) (new : List ℕ) (e : ℕ) → c.len ≡ Fixed n → want_of (shape c.kind) n ≡ Some Want.Bytes → m ≡ content_bytes (shape c.kind) n
     → AreBytes s → at + m ≤ length s → Puts old o (take m (drop at s)) new e → Passing c n m s old at o new e
 unfolding want_of content_bytes bit_bytes
 passing c n m s old at o new e q w size a h u = go (shape c.kind) refl w size
   where
-    go : (k : Shape) → shape c.kind ≡ k → want_of k n ≡ Want.Bytes → m ≡ content_bytes k n → Passing c n m s old at o new e
+    go : (k : Shape) → shape c.kind ≡ k → want_of k n ≡ Some Want.Bytes → m ≡ content_bytes k n → Passing c n m s old at o new e
     go Truths k w size = absurd (false≢true (ap wants_bytes w))
     go Text k w size = absurd (false≢true (ap wants_bytes w))
     go Bits k w size =
@@ -151,14 +152,14 @@ passing c n m s old at o new e q w size a h u = go (shape c.kind) refl w size
 no-text-writes : (to : Rows) (c : Column) (es : List ℤ) → is_text to ≡ false → 1 ≤ length es → write_cell to c (shown es) ≡ good (elements_bytes c es)
 no-text-writes to c es t k = no_text (λ (rows : Rows). write_cell rows c (shown es) ≡ good (elements_bytes c es)) to t (binary-writes c es k) (binary2-writes c es)
 
-pub bytes-moved : (from to : Rows) (c : Column) (n m : ℕ) (s old : List ℕ) (at o : ℕ) (new : List ℕ) (e : ℕ) → is_text to ≡ false → c.len ≡ Fixed n → 1 ≤ n → want_of (shape c.kind) n ≡ Want.Bytes
+pub bytes-moved : (from to : Rows) (c : Column) (n m : ℕ) (s old : List ℕ) (at o : ℕ) (new : List ℕ) (e : ℕ) → is_text to ≡ false → c.len ≡ Fixed n → 1 ≤ n → want_of (shape c.kind) n ≡ Some Want.Bytes
     → m ≡ content_bytes (shape c.kind) n → AreBytes s → at + m ≤ length s → Puts old o (take m (drop at s)) new e
-    → MovesRead (InBinary (shape c.kind) n s at) from to c old o new (Moved.Cell (at + m) e false)
+    → MovesRead (InBinary (shape c.kind) n s at) from to c old o new (Some (record { next = at + m; end = e; null = false }))
 bytes-moved from to c n m s old at o new e t q some w size a h u =
     let p = passing c n m s old at o new e q w size a h u in
     let x = p.moved in
     let k : 1 ≤ length x.es = omega (arith, x.count-is) in
-    elements-put (InBinary (shape c.kind) n s at) from c p.never old o new (at + m) x.es x.reads k to (no-text-writes to c x.es t k) (Moved.Cell (at + m) e false)
+    elements-put (InBinary (shape c.kind) n s at) from c p.never old o new (at + m) x.es x.reads k to (no-text-writes to c x.es t k) (Some (record { next = at + m; end = e; null = false }))
     (record { puts = puts-as (x.writes ∙ fixed-form c n x.es q p.no_char) x.puts; same_next = refl; not_null = refl })
 
 -- ---- a cell with no count, and no flag
@@ -170,7 +171,7 @@ unskipped : (from : Rows) (n : ℕ) → 1 ≤ n → is_text from ≡ false → s
 unfolding skipped
 unskipped from n k h = no_text (λ (rows : Rows). skipped rows false n ≡ false) from h (ne_eqb n 0 (λ z. omega arith)) refl
 
-pub fixed_moved : (from to : Rows) (c : Column) (n : ℕ) (s : List ℕ) (place : ℕ) (old : List ℕ) (o : ℕ) (new : List ℕ) (r : Moved) → is_text from ≡ false → c.len ≡ Fixed n → 1 ≤ n
+pub fixed_moved : (from to : Rows) (c : Column) (n : ℕ) (s : List ℕ) (place : ℕ) (old : List ℕ) (o : ℕ) (new : List ℕ) (r : Option Moved) → is_text from ≡ false → c.len ≡ Fixed n → 1 ≤ n
     → place + content_bytes (shape c.kind) n ≤ length s → MovesRead (InBinary (shape c.kind) n s place) from to c old o new r → MovesCell from to c false s place old o new r
 unfolding count_in
 fixed_moved from to c n s place old o new r h q k room m =
@@ -178,11 +179,11 @@ fixed_moved from to c n s place old o new r h q k room m =
     (counted-moved from to c false n s place old o new r room (not-text from h) (unskipped from n k h) m)
 
 -- bytes that went as they stand
-pub passed-moved : (from to : Rows) (c : Column) (n m : ℕ) (s : List ℕ) (place : ℕ) (old : List ℕ) (o : ℕ) (new : List ℕ) (r : Moved) → is_text from ≡ false → c.len ≡ Fixed n → 1 ≤ n
-    → want_of (shape c.kind) n ≡ Want.Bytes → m ≡ content_bytes (shape c.kind) n → AreBytes s → place + m ≤ length s → PassesBytes to m s place old o new r
+pub passed-moved : (from to : Rows) (c : Column) (n m : ℕ) (s : List ℕ) (place : ℕ) (old : List ℕ) (o : ℕ) (new : List ℕ) (r : Option Moved) → is_text from ≡ false → c.len ≡ Fixed n → 1 ≤ n
+    → want_of (shape c.kind) n ≡ Some Want.Bytes → m ≡ content_bytes (shape c.kind) n → AreBytes s → place + m ≤ length s → PassesBytes to m s place old o new r
     → MovesCell from to c false s place old o new r
-passed-moved from to c n m s place old o new (Moved.Cell next e null) t q some w size a h p =
+passed-moved from to c n m s place old o new (Some r) t q some w size a h p =
     let there : place + content_bytes (shape c.kind) n ≤ length s = omega (arith, size) in
-    fixed_moved from to c n s place old o new (Moved.Cell next e null) t q some there
-    (rw (p.1, p.2) (bytes-moved from to c n m s old place o new e p.0 q some w size a h p.3))
-passed-moved from to c n m s place old o new Moved.Careful t q some w size a h p = p
+    fixed_moved from to c n s place old o new (Some r) t q some there
+    (rw (p.1, p.2) (bytes-moved from to c n m s old place o new r.end p.0 q some w size a h p.3))
+passed-moved from to c n m s place old o new None t q some w size a h p = p

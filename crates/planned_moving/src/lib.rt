@@ -30,44 +30,53 @@ fn move_integer(
     at: usize,
     row: &mut [u8],
     o: usize,
-) -> Moved
+) -> Option<Moved>
     requires { (at + size integer ≤ length s.now) × (o + most_room ≤ length row.old) }
     ensures { (from : Kinds) (c : Declared) → is_scalar c ≡ true → shape c.kind ≡ Whole (is_signed integer) (width_of integer) → c.null ≡ null → MovesRead (InBinary (shape c.kind) 1 s.now at) from to c row.old o row.new result }
 {
-    let One::Element(z, next) = binary_integer(s, at, integer) else {
-        return Moved::Careful;
-    };
+    let One { value: z, next } = binary_integer(s, at, integer);
     if is_declared(null, z) {
-        return Moved::Careful;
+        return None;
     }
     let e = put_integer(to, integer, z, row, o);
-    Moved::Cell(next, e, false)
+    Some(Moved {
+        next,
+        end: e,
+        null: false,
+    })
 }
 
 // Bytes as they stand; not to text.
-fn move_bytes(to: Rows, bytes: usize, s: &[u8], at: usize, row: &mut [u8], o: usize) -> Moved
+fn move_bytes(
+    to: Rows,
+    bytes: usize,
+    s: &[u8],
+    at: usize,
+    row: &mut [u8],
+    o: usize,
+) -> Option<Moved>
     requires { (at + bytes + 8 ≤ length s.now) × (o + bytes + 8 ≤ length row.old) }
     ensures { PassesBytes to bytes s.now at row.old o row.new result }
 {
     if is_text(to) {
-        return Moved::Careful;
+        return None;
     }
     let e = copy(s, at, bytes, row, o);
-    Moved::Cell(at + bytes, e, false)
+    Some(Moved {
+        next: at + bytes,
+        end: e,
+        null: false,
+    })
 }
 
 // A cell of BINARY or BINARY2 that is not flagged, has its bytes and some more behind them, and room in the buffer.
-fn move_wanted(to: Rows, step: Step, s: &[u8], at: usize, row: &mut [u8], o: usize) -> Moved
+fn move_wanted(to: Rows, step: Step, s: &[u8], at: usize, row: &mut [u8], o: usize) -> Option<Moved>
     requires { (at + step.bytes + 8 ≤ length s.now) × (o + step.bytes + most_room ≤ length row.old) }
     ensures { (from : Kinds) (c : Declared) → is_text from ≡ false → Bounded c → step ≡ step_of c → MovesCell from to c false s.now at row.old o row.new result }
 {
-    let want = step.want;
-    let null = step.null;
-    let bytes = step.bytes;
-    match want {
-        Want::Other => Moved::Careful,
-        Want::Bytes => move_bytes(to, bytes, s, at, row, o),
-        Want::Integer(integer) => move_integer(to, integer, null, s, at, row, o),
+    match step.want? {
+        Want::Bytes => move_bytes(to, step.bytes, s, at, row, o),
+        Want::Integer(integer) => move_integer(to, integer, step.null, s, at, row, o),
     }
 }
 
@@ -81,16 +90,16 @@ pub fn move_planned(
     at: usize,
     row: &mut [u8],
     o: usize,
-) -> Moved
+) -> Option<Moved>
     requires { (at ≤ length s.now) × (o ≤ length row.old) × (step.bytes ≤ most_bytes) }
     ensures { (c : Declared) → Bounded c → step ≡ step_of c → MovesCell from to c flagged s.now at row.old o row.new result }
 {
     let bytes = step.bytes;
     if is_text(from) | flagged {
-        return Moved::Careful;
+        return None;
     }
     if (s.len() - at < bytes + 8) | (row.len() - o < bytes + cell_putting::ROOM) {
-        return Moved::Careful;
+        return None;
     }
     move_wanted(to, step, s, at, row, o)
 }

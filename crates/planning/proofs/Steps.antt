@@ -1,5 +1,7 @@
 -- A plan's steps: what a column of so many elements wants, by what its elements are; and the steps of a list, one by one. Cited by want_of, plan_of
 -- and by whoever moves cells by a plan.
+use Rattle.std.specs.Prelude.{None}
+use mathlib.Core.Logic.{◌⊎◌, inl, inr}
 use Prim.Native.Nat.{◌-◌, ◌<◌, ◌≤◌, suc, zero, ℕ}
 use native.Mathlib.Nat.{le_refl}
 use native.Mathlib.Omega.{arith}
@@ -38,6 +40,12 @@ one-integer Integer.Long = refl
 
 pub want-by : (e r : Elements) (kind : Kind) (n : ℕ) → r ≡ e → shape_as r ≡ shape kind → want_of (shape_as e) n ≡ want_of (shape kind) n
 want-by e r kind n g q = ap (λ k. want_of k n) (sym (ap shape_as g) ∙ q)
+
+-- neither booleans nor characters have a step
+pub wants-none : (r : Elements) (kind : Kind) (n : ℕ) → (r ≡ Elements.Truths) ⊎ (r ≡ Elements.Text) → shape_as r ≡ shape kind → None ≡ want_of (shape kind) n
+unfolding want_of
+wants-none r kind n (inl g) q = want-by Elements.Truths r kind n g q
+wants-none r kind n (inr g) q = want-by Elements.Text r kind n g q
 
 -- ---- the columns that are declared, each within its bounds
 

@@ -1,5 +1,5 @@
 -- A plan: "what the cells of each column want", for those that are moved by it from BINARY or BINARY2.
-use Rattle.std.specs.Prelude.{◌%◌, ◌-◌, ℕ, cond, List, ◌++◌, map, eqb, length, replicate, Option, None, ℤ}
+use Rattle.std.specs.Prelude.{◌%◌, ◌-◌, ℕ, cond, List, ◌++◌, map, eqb, length, replicate, Option, Some, None, ℤ}
 use Rattle.binary.specs.Binary.{content_bytes}
 use Rattle.number.specs.declared.Integer.{Integer}
 use Rattle.planning.specs.declared.Plan.{Plan}
@@ -18,15 +18,15 @@ one_integer W4 = Want.Integer Integer.Int
 one_integer W8 = Want.Integer Integer.Long
 
 -- n elements, and no more nor fewer: a scalar integer may stand for null, integers in a row never do; bits that fill their bytes have no padding
-unfoldable pub want_of : Shape → ℕ → Want
-want_of Truths n = Want.Other
-want_of Bits n = cond (eqb (n % 8) 0) Want.Bytes Want.Other
-want_of Text n = Want.Other
-want_of (Whole signed w) n = cond (eqb n 1) (one_integer w) Want.Bytes
+unfoldable pub want_of : Shape → ℕ → Option Want
+want_of Truths n = None
+want_of Bits n = cond (eqb (n % 8) 0) (Some Want.Bytes) None
+want_of Text n = None
+want_of (Whole signed w) n = cond (eqb n 1) (Some (one_integer w)) (Some Want.Bytes)
 
 -- a column with no step of its own
 abbrev pub no_step : Step
-no_step = record { want = Want.Other; bytes = 0; null = None }
+no_step = record { want = None; bytes = 0; null = None }
 
 unfoldable pub step_for : Kind → Len → Option ℤ → Step
 step_for kind (Len.Fixed n) null = record { want = want_of (shape kind) n; bytes = content_bytes (shape kind) n; null = null }

@@ -13,18 +13,17 @@ use binary::content_bytes;
 use number::{Elements, Integer, elements_of};
 use table::{Column, Columns, Kind, Len};
 
-// One integer, which may stand for null; bytes that go as they stand among BINARY and BINARY2; or neither.
+// One integer, which may stand for null; or bytes that go as they stand among BINARY and BINARY2.
 #[derive(Clone, Copy)]
 pub enum Want {
-    Other,
     Bytes,
     Integer(Integer),
 }
 
-// What a column's cells want, the bytes of a cell, and the declared null.
+// What a column's cells want, where they have a step of their own, the bytes of a cell, and the declared null.
 #[derive(Clone, Copy)]
 pub struct Step {
-    pub want: Want,
+    pub want: Option<Want>,
     pub bytes: usize,
     pub null: Option<i64>,
 }
@@ -35,23 +34,22 @@ pub struct Plan {
     pub list: [Step; 64],
 }
 
-fn want_of(kind: Kind, n: usize) -> Want
+fn want_of(kind: Kind, n: usize) -> Option<Want>
     ensures { result ≡ want_of (shape kind) n }
 {
     match elements_of(kind) {
-        Elements::Truths => Want::Other,
+        Elements::Truths | Elements::Text => None,
         Elements::Bits => {
             if n % 8 == 0 {
-                return Want::Bytes;
+                return Some(Want::Bytes);
             }
-            Want::Other
+            None
         }
-        Elements::Text => Want::Other,
         Elements::Whole(integer) => {
             if n == 1 {
-                return Want::Integer(integer);
+                return Some(Want::Integer(integer));
             }
-            Want::Bytes
+            Some(Want::Bytes)
         }
     }
 }
@@ -78,7 +76,7 @@ fn no_step() -> Step
     ensures { result ≡ no_step }
 {
     Step {
-        want: Want::Other,
+        want: None,
         bytes: 0,
         null: None,
     }
@@ -90,10 +88,8 @@ pub fn plan_of(cols: Columns) -> Plan
 {
     let none = no_step();
     let mut list = [none; 64];
-    let mut i: usize = 0;
-    while i < cols.count {
+    for i in 0..cols.count {
         list[i] = step_of(cols.list[i]);
-        i += 1;
     }
     Plan { list }
 }

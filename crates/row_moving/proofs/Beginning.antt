@@ -1,4 +1,5 @@
 -- How a row begins, by the number of the bytes there: `<TR>` by four of them, the flags by the front of eight.
+use Rattle.std.specs.Prelude.{Ok}
 use Prim.Native.Nat.{◌%◌, ◌*◌, ◌+◌, ◌-◌, ◌/◌, ◌<◌, ◌^◌, ◌≤◌, ℕ}
 use native.Mathlib.Numerals.{add-one}
 use native.Mathlib.Omega.{arith}
@@ -36,13 +37,13 @@ unfolding read_start tag after ends skip_white is_white open-TR
 line-start count r = refl
 
 module _ (count : ℕ) (s : List ℕ) (at : ℕ) (a : AreBytes s) (h : at + 8 ≤ length s) (x : ℕ) (k : x ≡ 1012159038) where
-  pub begins-bare : x ≡ of_digits 256 0 (take 4 (drop at s)) → Begins TableData count s at (Begin.Row 0 (at + 4))
+  pub begins-bare : x ≡ of_digits 256 0 (take 4 (drop at s)) → Begins TableData count s at (Ok (record { flags = 0; cells = at + 4 }))
   unfolding flags_in
   begins-bare e =
       let four : drop at s ≡ bytes "<TR>" ++ drop (at + 4) s = begins-four s (bytes "<TR>") at a refl refl (omega arith) (unfold of_digits in sym k ∙ e) in
       record { begun = ap (read_start TableData count) four ∙ bare-start count (drop (at + 4) s); within = (omega arith, omega arith) }
 
-  pub begins-line : get_or s at 0 ≡ 10 → x ≡ of_digits 256 0 (take 4 (drop (at + 1) s)) → Begins TableData count s at (Begin.Row 0 (at + 1 + 4))
+  pub begins-line : get_or s at 0 ≡ 10 → x ≡ of_digits 256 0 (take 4 (drop (at + 1) s)) → Begins TableData count s at (Ok (record { flags = 0; cells = at + 1 + 4 }))
   unfolding flags_in
   begins-line b e =
       let four : drop (at + 1) s ≡ bytes "<TR>" ++ drop (at + 1 + 4) s = begins-four s (bytes "<TR>") (at + 1) a refl refl (omega arith) (unfold of_digits in sym k ∙ e) in
@@ -71,12 +72,11 @@ module _ (count n at : ℕ) (s : List ℕ) (e : n ≡ bit_bytes count) (few : n 
   first = ap (λ (y : ℕ). y / 2 ^ (64 - 8 * n)) q ∙ front (drop at s) n (all_drop _ at s a) (simp length-drop (omega arith)) few
 
   pub begins-flags : (x / 2 ^ (64 - 8 * n)) % ((1 * 2 ^ (8 * n - count)) % 2 ^ 64) ≡ 0
-      → Begins Binary2 count s at (Begin.Row (x / 2 ^ (64 - 8 * n) / ((1 * 2 ^ (8 * n - count)) % 2 ^ 64)) (at + n))
+      → Begins Binary2 count s at (Ok (record { flags = x / 2 ^ (64 - 8 * n) / ((1 * 2 ^ (8 * n - count)) % 2 ^ 64); cells = at + n }))
   begins-flags z =
       let m : n ≤ length s - at = omega arith in
-      begun-binary2 s at count (Flags.Are _ _)
+      begun-binary2 s at count (record { word = _; next = _ })
       (record {
         found = start-good count at n s e m (x / 2 ^ (64 - 8 * n)) first a z;
         within = (omega arith, omega arith, start-few count at n s e m (x / 2 ^ (64 - 8 * n)) first a);
       })
-      _ _ refl

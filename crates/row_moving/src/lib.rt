@@ -15,12 +15,11 @@ ghost use Rattle.table.specs.declared.Rows.TheVariants.{Binary2, TableData};
 use cell_moving::move_cell;
 use flags::add_flag;
 use integers::{eight_bytes, four_bytes, put_eight};
-use moving::Moved;
 use planned_moving::move_planned;
 use planning::plan_of;
-use row_reading::{Begin, Close, begin_row, end_row, flag_of};
+use row_reading::{Begin, begin_row, end_row, flag_of};
 use row_writing::{start_size, write_end, write_start};
-use table::{Columns, Rows};
+use table::{Columns, Reason, Rows};
 use text::put_bytes;
 
 // Rows that are done: the place in the input where they end, how many they are, and the bytes written.
@@ -31,30 +30,22 @@ pub struct Done {
     pub bytes: usize,
 }
 
-// A row as it stands in the buffer, of so many bytes; or the buffer has no room for it.
-#[derive(Clone, Copy)]
-pub enum Framed {
-    Row(usize),
-    TooLong,
-}
-
 // Room for what stands around a row's cells.
 const MOST_FRAME_BYTES: usize = 8;
 
 // A row above this is copied by vectors.
 const MOST_BY_EIGHTS: usize = 128;
 
-// What begins a row and what ends it, around its cells, which end at a place of the buffer.
-fn frame_row(to: Rows, count: usize, nulls: u64, row: &mut [u8], end: usize) -> Framed
+// What begins a row and what ends it, around its cells, which end at a place of the buffer: the bytes of the row, unless the buffer has no room for it.
+fn frame_row(to: Rows, count: usize, nulls: u64, row: &mut [u8], end: usize) -> Option<usize>
     requires { (count ≤ 64) × (most_frame_bytes ≤ length row.old) × (end ≤ length row.old) }
     ensures { FramesRow to count nulls row.old end row.new result }
 {
     if row.len() - end < MOST_FRAME_BYTES {
-        return Framed::TooLong;
+        return None;
     }
     write_start(to, count, nulls, row, 0);
-    let size = write_end(to, row, end);
-    Framed::Row(size)
+    Some(write_end(to, row, end))
 }
 
 // ---- the first bytes of the buffer, to the output, and not a byte more
@@ -64,10 +55,8 @@ fn put_few(row: &[u8], size: usize, out: &mut [u8], at: usize) -> usize
     requires { (size ≤ length row.now) × (at + size ≤ length out.old) }
     ensures { Wrote out.old at (take size row.now) out.new result }
 {
-    let mut k: usize = 0;
-    while k < size {
+    for k in 0..size {
         out[at + k] = row[k];
-        k += 1;
     }
     at + size
 }
@@ -104,20 +93,23 @@ fn put_row(row: &[u8], size: usize, out: &mut [u8], at: usize) -> usize
 // ---- the start of a row: what is plain is told from eight bytes at once, all else by `begin_row`
 
 // A bare `<TR>`, behind a line's end or not.
-fn begin_text(s: &[u8], at: usize, count: usize) -> Begin
+fn begin_text(s: &[u8], at: usize, count: usize) -> Result<Begin, Reason>
     requires { (at + 8 ≤ length s.now) × (1 ≤ count) × (count ≤ 64) }
     ensures { Begins TableData count s.now at result }
 {
     let start = if s[at] == 10 { at + 1 } else { at };
     if four_bytes(s, start) == 0x3c54523e {
-        Begin::Row(0, start + 4)
+        Ok(Begin {
+            flags: 0,
+            cells: start + 4,
+        })
     } else {
         begin_row(Rows::TableData, s, at, count)
     }
 }
 
 // The flags, of which the spare ones are 0.
-fn begin_flags(s: &[u8], at: usize, count: usize) -> Begin
+fn begin_flags(s: &[u8], at: usize, count: usize) -> Result<Begin, Reason>
     requires { (at + 8 ≤ length s.now) × (1 ≤ count) × (count ≤ 64) }
     ensures { Begins Binary2 count s.now at result }
 {
@@ -125,14 +117,17 @@ fn begin_flags(s: &[u8], at: usize, count: usize) -> Begin
     let x = eight_bytes(s, at) >> (64 - 8 * n);
     let unit = 1u64 << (8 * n - count);
     if x % unit == 0 {
-        Begin::Row(x / unit, at + n)
+        Ok(Begin {
+            flags: x / unit,
+            cells: at + n,
+        })
     } else {
         begin_row(Rows::Binary2, s, at, count)
     }
 }
 
 // As `begin_row`, which it calls where the row does not begin plainly.
-fn begin_quickly(from: Rows, s: &[u8], at: usize, count: usize) -> Begin
+fn begin_quickly(from: Rows, s: &[u8], at: usize, count: usize) -> Result<Begin, Reason>
     requires { (at ≤ length s.now) × (1 ≤ count) × (count ≤ 64) }
     ensures { Begins from count s.now at result }
 {
@@ -141,7 +136,10 @@ fn begin_quickly(from: Rows, s: &[u8], at: usize, count: usize) -> Begin
     }
     match from {
         Rows::TableData => begin_text(s, at, count),
-        Rows::Binary => Begin::Row(0, at),
+        Rows::Binary => Ok(Begin {
+            flags: 0,
+            cells: at,
+        }),
         Rows::Binary2 => begin_flags(s, at, count),
     }
 }
@@ -172,48 +170,45 @@ pub fn move_rows(
     let mut rows = start.rows;
     let mut bytes = start.bytes;
     'rows: loop {
-        let b = begin_quickly(from, s, place, count);
-        let flags: u64;
-        let body: usize;
-        match b {
-            Begin::Refused(_n) => break 'rows,
-            Begin::Row(f, a) => {
-                flags = f;
-                body = a;
-            }
-        }
-        let mut at = body;
+        let Ok(begun) = begin_quickly(from, s, place, count) else {
+            break 'rows;
+        };
+        let mut at = begun.cells;
         let mut end = first;
         let mut nulls: u64 = 0;
         let mut i: usize = 0;
         while i < count {
-            let flagged = flag_of(from, flags, count, i);
+            let flagged = flag_of(from, begun.flags, count, i);
             let step = plan.list[i];
             let planned = move_planned(from, to, step, flagged, s, at, row, end);
-            match planned {
-                Moved::Cell(next, e, null) => {
-                    at = next;
-                    end = e;
-                    nulls = add_flag(nulls, i, null);
-                }
-                Moved::Careful => {
-                    let c = cols.list[i];
-                    let Moved::Cell(next, e, null) = move_cell(
-                        from, to, c, flagged, s, at, scratch, row, end,
+            let moved = match planned {
+                Some(moved) => moved,
+                None => {
+                    let Some(moved) = move_cell(
+                        from,
+                        to,
+                        cols.list[i],
+                        flagged,
+                        s,
+                        at,
+                        scratch,
+                        row,
+                        end,
                     ) else {
                         break 'rows;
                     };
-                    at = next;
-                    end = e;
-                    nulls = add_flag(nulls, i, null);
+                    moved
                 }
-            }
+            };
+            at = moved.next;
+            end = moved.end;
+            nulls = add_flag(nulls, i, moved.null);
             i += 1;
         }
-        let Close::Closed(next) = end_row(from, s, at) else {
+        let Ok(next) = end_row(from, s, at) else {
             break 'rows;
         };
-        let Framed::Row(size) = frame_row(to, count, nulls, row, end) else {
+        let Some(size) = frame_row(to, count, nulls, row, end) else {
             break 'rows;
         };
         if out.len() - bytes < size {

@@ -1,4 +1,5 @@
 -- What a cell of TABLEDATA reads as, from how it begins, its elements and its end tag.
+use Rattle.std.specs.Prelude.{Option, Some, None}
 use Prim.Native.Nat.{◌+◌, ◌≤◌, ℕ}
 use native.Mathlib.Nat.{le_refl}
 use native.Mathlib.Omega.{arith}
@@ -77,26 +78,26 @@ one-counts c h = go c.len refl h
 
 module _ (c : Column) (s : List ℕ) (place : ℕ) where
   -- "`<TD/>` is empty." "In TABLEDATA and BINARY an empty cell is null"
-  pub empty-reads : (next : ℕ) → OpensAs s place (Opening.Empty next) → read_text c (drop place s) ≡ good (null, drop next s)
+  pub empty-reads : (next : ℕ) → OpensAs s place (Some (Opening.Empty next)) → read_text c (drop place s) ≡ good (null, drop next s)
   unfolding read_text text_cell count_fits show empty_is_null
   empty-reads next o = rw (o.0, nil-elements, nil-not-null)
 
-  pub text-reads : (from next : ℕ) (es : List ℤ) → OpensAs s place (Opening.Content from) → TextRead c s from next es
+  pub text-reads : (from next : ℕ) (es : List ℤ) → OpensAs s place (Some (Opening.Content from)) → TextRead c s from next es
       → read_text c (drop place s) ≡ good (shown_as TableData c es, drop next s)
   unfolding read_text text_cell shown_as before
   text-reads from next es o t = rw (o.0, t.text.spells.spelled, t.closes.closed, append-nil, t.text.elements, t.fits, t.next-is)
 
-  module _ (to : Rows) (flagged : Bool) (old : List ℕ) (o : ℕ) (new : List ℕ) (r : Moved) where
-    pub empty-moved : (next : ℕ) → OpensAs s place (Opening.Empty next) → PutsCell to c null next old o new r → MovesCell TableData to c flagged s place old o new r
+  module _ (to : Rows) (flagged : Bool) (old : List ℕ) (o : ℕ) (new : List ℕ) (r : Option Moved) where
+    pub empty-moved : (next : ℕ) → OpensAs s place (Some (Opening.Empty next)) → PutsCell to c null next old o new r → MovesCell TableData to c flagged s place old o new r
     empty-moved next p u = cell-moved TableData to c flagged s place null next old o new r (unfold read_cell in empty-reads next p) p.1 p.2 u
 
-  pub text-moved : (to : Rows) (flagged : Bool) (old : List ℕ) (o : ℕ) (new : List ℕ) (r : Moved) (from : ℕ) → OpensAs s place (Opening.Content from)
+  pub text-moved : (to : Rows) (flagged : Bool) (old : List ℕ) (o : ℕ) (new : List ℕ) (r : Option Moved) (from : ℕ) → OpensAs s place (Some (Opening.Content from))
       → MovesRead (TextRead c s from) TableData to c old o new r → MovesCell TableData to c flagged s place old o new r
-  text-moved to flagged old o new (Moved.Cell next e null') from p m =
+  text-moved to flagged old o new (Some r) from p m =
       let t = m.reads in
-      cell-moved TableData to c flagged s place (shown_as TableData c m.es) next old o new (Moved.Cell next e null') (unfold read_cell in text-reads from next m.es p t)
+      cell-moved TableData to c flagged s place (shown_as TableData c m.es) r.next old o new (Some r) (unfold read_cell in text-reads from r.next m.es p t)
       (omega (arith, p.1, t.text.spells.onward, t.next-is)) (omega (arith, t.closes.inside, t.next-is)) m.put
-  text-moved to flagged old o new Moved.Careful from p m = m
+  text-moved to flagged old o new None from p m = m
 
 -- ---- its elements
 
@@ -118,7 +119,7 @@ module _ (c : Column) (never : NeverNull c) (s : List ℕ) (from : ℕ) where
       text-put (TextRead c s from) TableData c never old o l₃ (end + 5) m.es (text-read c m.reads h n) n.some m.bytes e₃ m.writes (tagged-put u m.puts w)
 
   -- as bytes, with what stands around them
-  pub filled_in : {old mid exit : List ℕ} {o size count end last : ℕ} (r : Moved) → Counts c count → ((m : ℕ) → length (count_bytes c.len m) ≡ size)
+  pub filled_in : {old mid exit : List ℕ} {o size count end last : ℕ} (r : Option Moved) → Counts c count → ((m : ℕ) → length (count_bytes c.len m) ≡ size)
       → ContentMoved (InText (shape c.kind) s from) (AsBinary (shape c.kind)) old (o + size) mid count end last → ClosesAt s end → FillsUp c count (end + 5) mid o last exit r
       → MovesRead (TextRead c s from) TableData Binary c old o exit r × MovesRead (TextRead c s from) TableData Binary2 c old o exit r
   filled_in {old} {mid} {exit} {o} {size} {count} {end} {last} r k z m h f =

@@ -1,4 +1,5 @@
 -- A cell's tags, by the number of their first four bytes: how it begins, and that it ends.
+use Rattle.std.specs.Prelude.{Some}
 use Prim.Native.Nat.{◌+◌, ◌≤◌, ℕ}
 use native.Mathlib.Nat.{le_refl}
 use native.Mathlib.Omega.{arith}
@@ -73,13 +74,13 @@ bare-end r = refl
 
 module _ (s : List ℕ) (at place x : ℕ) (a : AreBytes s) (w : Skipped s at place) (h : place + 5 ≤ length s) (e : x ≡ of_digits 256 0 (take 4 (drop place s))) where
   -- `<TD>`
-  pub opens-content : x ≡ 1012155454 → OpensAs s at (Opening.Content (place + 4))
+  pub opens-content : x ≡ 1012155454 → OpensAs s at (Some (Opening.Content (place + 4)))
   opens-content k =
       let d : drop place s ≡ bytes "<TD>" ++ drop (place + 4) s = begins-four s (bytes "<TD>") place a refl refl (omega arith) (unfold of_digits in sym k ∙ e) in
       (after-white (drop at s) (drop place s) w.rest (ap skip_white d ∙ bare-stays _ ∙ sym d) ∙ ap cell_text d ∙ bare-start (drop (place + 4) s), omega (arith, w.low), omega arith)
 
   -- `<TD/>`
-  pub opens-empty : x ≡ 1012155439 → get_or s (place + 4) 0 ≡ 62 → OpensAs s at (Opening.Empty (place + 5))
+  pub opens-empty : x ≡ 1012155439 → get_or s (place + 4) 0 ≡ 62 → OpensAs s at (Some (Opening.Empty (place + 5)))
   opens-empty k f =
       let d : drop place s ≡ bytes "<TD/>" ++ drop (place + 5) s = begins-five s (bytes "<TD/") place a refl refl (omega arith) (unfold of_digits in sym k ∙ e) 62 h f in
       (after-white (drop at s) (drop place s) w.rest (ap skip_white d ∙ bare-stays _ ∙ sym d) ∙ ap cell_text d ∙ bare-empty (drop (place + 5) s), omega (arith, w.low), omega arith)

@@ -1,5 +1,5 @@
 -- What the contracts of the functions on a cell of TABLEDATA say.
-use Rattle.std.specs.Prelude.{◌+◌, ◌≤◌, ℕ, true, List, [], ◌≡◌, ℤ, drop, length}
+use Rattle.std.specs.Prelude.{◌+◌, ◌≤◌, ℕ, true, List, [], ◌≡◌, ℤ, drop, length, Option, Some, None}
 use Rattle.moving.specs.Contents.{InText}
 use Rattle.table.specs.Cell.{bound}
 use Rattle.table.specs.Result.{good}
@@ -9,10 +9,10 @@ use Rattle.tabledata.specs.TableData.{cell_text, characters, count_fits, plain}
 use Rattle.text_moving.specs.declared.Opening.{Opening}
 
 -- how a cell begins, and its characters from there on
-abbrev pub OpensAs : List ℕ → ℕ → Opening → Type 0
-OpensAs s place (Opening.Empty next) = (cell_text (drop place s) ≡ good ([], drop next s)) × (place ≤ next) × (next ≤ length s)
-OpensAs s place (Opening.Content from) = (cell_text (drop place s) ≡ characters plain (drop from s)) × (place ≤ from) × (from ≤ length s)
-OpensAs s place Opening.Careful = Unit {0}
+abbrev pub OpensAs : List ℕ → ℕ → Option Opening → Type 0
+OpensAs s place (Some (Opening.Empty next)) = (cell_text (drop place s) ≡ good ([], drop next s)) × (place ≤ next) × (next ≤ length s)
+OpensAs s place (Some (Opening.Content from)) = (cell_text (drop place s) ≡ characters plain (drop from s)) × (place ≤ from) × (from ≤ length s)
+OpensAs s place None = Unit {0}
 
 -- a bare end tag
 pub record ClosesAt (s : List ℕ) (place : ℕ) : Type 0 where

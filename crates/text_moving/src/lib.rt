@@ -27,12 +27,11 @@ use text::skip_white;
 
 // ---- tags
 
-// How a cell begins: `<TD/>` or `<TD>`, and the place after it; or it is for the careful way.
+// How a cell begins: `<TD/>` or `<TD>`, and the place after it.
 #[derive(Clone, Copy)]
 pub enum Opening {
     Empty(usize),
     Content(usize),
-    Careful,
 }
 
 // The place after white space: mostly there is none.
@@ -46,28 +45,28 @@ fn cell_place(s: &[u8], at: usize) -> usize
     skip_white(s, at)
 }
 
-fn open_cell(s: &[u8], at: usize) -> Opening
+fn open_cell(s: &[u8], at: usize) -> Option<Opening>
     requires { at ≤ length s.now }
     ensures { OpensAs s.now at result }
 {
     if s.len() <= at {
-        return Opening::Careful;
+        return None;
     }
     let place = cell_place(s, at);
     if s.len() - place < 5 {
-        return Opening::Careful;
+        return None;
     }
     let x = four_bytes(s, place);
     if x == 0x3c54443e {
-        return Opening::Content(place + 4);
+        return Some(Opening::Content(place + 4));
     }
     if x != 0x3c54442f {
-        return Opening::Careful;
+        return None;
     }
     if s[place + 4] != b'>' {
-        return Opening::Careful;
+        return None;
     }
-    Opening::Empty(place + 5)
+    Some(Opening::Empty(place + 5))
 }
 
 // Does a bare `</TD>` stand here?
@@ -94,39 +93,56 @@ fn move_integer(
     from: usize,
     row: &mut [u8],
     o: usize,
-) -> Moved
+) -> Option<Moved>
     requires { (from ≤ length s.now) × (bound column.len ≤ most_elements) × (o + most_room ≤ length row.old) }
     ensures { is_scalar column ≡ true → shape column.kind ≡ Whole (is_signed integer) (width_of integer) → MovesRead (TextRead column s.now from) TableData to column row.old o row.new result }
 {
-    let One::Element(z, end) = text_integer(s, from, integer) else {
-        return Moved::Careful;
-    };
+    let One {
+        value: z,
+        next: end,
+    } = text_integer(s, from, integer)?;
     if !closes(s, end) {
-        return Moved::Careful;
+        return None;
     }
     let null = column.null;
     if is_declared(null, z) {
         return put_null(to, column, end + 5, row, o);
     }
     let e = put_integer(to, integer, z, row, o);
-    Moved::Cell(end + 5, e, false)
+    Some(Moved {
+        next: end + 5,
+        end: e,
+        null: false,
+    })
 }
 
-fn move_truth(to: Rows, column: Column, s: &[u8], from: usize, row: &mut [u8], o: usize) -> Moved
+fn move_truth(
+    to: Rows,
+    column: Column,
+    s: &[u8],
+    from: usize,
+    row: &mut [u8],
+    o: usize,
+) -> Option<Moved>
     requires { (from ≤ length s.now) × (bound column.len ≤ most_elements) × (o + most_room ≤ length row.old) }
     ensures { is_scalar column ≡ true → shape column.kind ≡ Truths → MovesRead (TextRead column s.now from) TableData to column row.old o row.new result }
 {
-    let One::Element(z, end) = text_truth(s, from) else {
-        return Moved::Careful;
-    };
+    let One {
+        value: z,
+        next: end,
+    } = text_truth(s, from)?;
     if !closes(s, end) {
-        return Moved::Careful;
+        return None;
     }
     if same_integer(z, 2) {
         return put_null(to, column, end + 5, row, o);
     }
     let e = put_truth(to, z, row, o);
-    Moved::Cell(end + 5, e, false)
+    Some(Moved {
+        next: end + 5,
+        end: e,
+        null: false,
+    })
 }
 
 // ---- elements none of which stands for null
@@ -154,49 +170,64 @@ fn count_fits(column: Column, count: usize) -> bool
 }
 
 // As text: the tags around what is copied.
-fn copy_elements(column: Column, s: &[u8], from: usize, row: &mut [u8], o: usize) -> Moved
+fn copy_elements(column: Column, s: &[u8], from: usize, row: &mut [u8], o: usize) -> Option<Moved>
     requires { (from ≤ length s.now) × (bound column.len ≤ most_elements) × (o + most_room ≤ length row.old) }
     ensures { NeverNull column → MovesRead (TextRead column s.now from) TableData TableData column row.old o row.new result }
 {
     let kind = column.kind;
     let inner = put_open(row, o);
-    let Content::Elements(count, end, last) = copy_content(kind, s, from, row, inner) else {
-        return Moved::Careful;
-    };
+    let Content {
+        count,
+        next: end,
+        end: last,
+    } = copy_content(kind, s, from, row, inner)?;
     if !closes(s, end) {
-        return Moved::Careful;
+        return None;
     }
     if !count_fits(column, count) {
-        return Moved::Careful;
+        return None;
     }
     if row.len() - last < 8 {
-        return Moved::Careful;
+        return None;
     }
     let e = put_close(row, last);
-    Moved::Cell(end + 5, e, false)
+    Some(Moved {
+        next: end + 5,
+        end: e,
+        null: false,
+    })
 }
 
 // As bytes: room for the count, which is known only behind them.
-fn read_elements(column: Column, s: &[u8], from: usize, row: &mut [u8], o: usize) -> Moved
+fn read_elements(column: Column, s: &[u8], from: usize, row: &mut [u8], o: usize) -> Option<Moved>
     requires { (from ≤ length s.now) × (bound column.len ≤ most_elements) × (o + most_room ≤ length row.old) }
     ensures { NeverNull column → MovesRead (TextRead column s.now from) TableData Binary column row.old o row.new result × MovesRead (TextRead column s.now from) TableData Binary2 column row.old o row.new result }
 {
     let kind = column.kind;
     let len = column.len;
     let inner = o + count_size(len);
-    let Content::Elements(count, end, last) = read_content(kind, s, from, row, inner) else {
-        return Moved::Careful;
-    };
+    let Content {
+        count,
+        next: end,
+        end: last,
+    } = read_content(kind, s, from, row, inner)?;
     if !closes(s, end) {
-        return Moved::Careful;
+        return None;
     }
     if !count_fits(column, count) {
-        return Moved::Careful;
+        return None;
     }
     fill_up(column, count, end + 5, row, o, last)
 }
 
-fn move_elements(to: Rows, column: Column, s: &[u8], from: usize, row: &mut [u8], o: usize) -> Moved
+fn move_elements(
+    to: Rows,
+    column: Column,
+    s: &[u8],
+    from: usize,
+    row: &mut [u8],
+    o: usize,
+) -> Option<Moved>
     requires { (from ≤ length s.now) × (bound column.len ≤ most_elements) × (o + most_room ≤ length row.old) }
     ensures { NeverNull column → MovesRead (TextRead column s.now from) TableData to column row.old o row.new result }
 {
@@ -210,27 +241,40 @@ fn move_elements(to: Rows, column: Column, s: &[u8], from: usize, row: &mut [u8]
 
 // A scalar integer or boolean may stand for null, and goes by its value. Each of the three ways is called here alone, so that the compiler makes
 // one function of all.
-fn move_content(to: Rows, column: Column, s: &[u8], from: usize, row: &mut [u8], o: usize) -> Moved
+fn move_content(
+    to: Rows,
+    column: Column,
+    s: &[u8],
+    from: usize,
+    row: &mut [u8],
+    o: usize,
+) -> Option<Moved>
     requires { (from ≤ length s.now) × (bound column.len ≤ most_elements) × (o + most_room ≤ length row.old) }
     ensures { MovesRead (TextRead column s.now from) TableData to column row.old o row.new result }
 {
     match scalar_of(column) {
-        Scalar::Integer(integer) => move_integer(to, column, integer, s, from, row, o),
-        Scalar::Truth => move_truth(to, column, s, from, row, o),
-        Scalar::Never => move_elements(to, column, s, from, row, o),
+        Some(Scalar::Integer(integer)) => move_integer(to, column, integer, s, from, row, o),
+        Some(Scalar::Truth) => move_truth(to, column, s, from, row, o),
+        None => move_elements(to, column, s, from, row, o),
     }
 }
 
 // A cell at a place, white space before it or not.
-pub fn move_text(to: Rows, column: Column, s: &[u8], at: usize, row: &mut [u8], o: usize) -> Moved
+pub fn move_text(
+    to: Rows,
+    column: Column,
+    s: &[u8],
+    at: usize,
+    row: &mut [u8],
+    o: usize,
+) -> Option<Moved>
     requires { (at ≤ length s.now) × (bound column.len ≤ most_elements) × (o ≤ length row.old) }
     ensures { (flagged : Bool) → MovesCell TableData to column flagged s.now at row.old o row.new result }
 {
     if row.len() - o < cell_putting::ROOM {
-        return Moved::Careful;
+        return None;
     }
-    match open_cell(s, at) {
-        Opening::Careful => Moved::Careful,
+    match open_cell(s, at)? {
         Opening::Empty(next) => put_null(to, column, next, row, o),
         Opening::Content(from) => move_content(to, column, s, from, row, o),
     }

@@ -16,12 +16,12 @@ returns-in_default c = λ h. puts_none c.args.row.now c.args.o c.requires.2
 
 pub move_counted-requires : goal.move_counted-requires
 move_counted-requires c =
-    let w = subst (CountWithin c.args.s.now c.args.at (bound c.args.column.len)) c.in-Elements.is c.read_count.ensures.within in
+    let w = subst (CountWithin c.args.s.now c.args.at (bound c.args.column.len)) c.in-Ok.is c.read_count.ensures.within in
     (c.requires.1, omega (arith, w.2, c.requires.1), w.1, omega (arith, c.if-row-o-lt-ROOM.false, c.requires.2))
 
 pub returns : goal.returns
 returns c =
-    let q = c.in-Elements.is in
+    let q = c.in-Ok.is in
     let r = c.read_count.ensures in
     let w = subst (CountWithin c.args.s.now c.args.at (bound c.args.column.len)) q r.within in
     let m = c.move_counted in

@@ -15,16 +15,12 @@ use borrow.Author.Rules.{rules}
 use native.Mathlib.Omega.{arith}
 use Rattle.binary_moving.proofs.move_integer.Goals as goal
 
-pub returns-in_default : goal.returns-in_default
-returns-in_default c = λ from one q. puts_none c.args.row.now c.args.o (omega (arith, c.requires.2))
-
 pub returns-then-is_declared : goal.returns-then-is_declared
 returns-then-is_declared c =
-    let value : ℤ = c.in-Element.z in
-    let next : ℕ = c.in-Element.next in
+    let value : ℤ = c.binary_integer-z.result.value in
+    let next : ℕ = c.binary_integer-z.result.next in
     let stands : InBinary (Whole (is_signed c.args.integer) (width_of c.args.integer)) 1 c.args.s.now c.args.at next (value ∷ []) =
-    (subst (FindsOne (InBinary (Whole (is_signed c.args.integer) (width_of c.args.integer)) 1 c.args.s.now c.args.at)) c.in-Element.is
-    c.binary_integer.ensures) in
+    c.binary_integer-z.ensures in
     let fits : to_z w64 (of_z w64 value) ≡ value = search rules in
     let p = c.put_null in
     λ from one q. null-moved (InBinary (shape c.args.column.kind) 1 c.args.s.now c.args.at) from c.args.to c.args.column

@@ -16,14 +16,14 @@ use borrow.Author.Rules.{rules}
 use native.Mathlib.Omega.{arith}
 use Rattle.binary_moving.proofs.move_truth.Goals as goal
 
-pub returns-in_default : goal.returns-in_default
-returns-in_default c = λ from one q. puts_none c.args.row.now c.args.o (omega (arith, c.requires.2))
+pub returns-in_err-z : goal.returns-in_err-z
+returns-in_err-z c = rw c.from_residual.ensures (λ from one q. puts_none c.args.row.now c.args.o (omega (arith, c.requires.2)))
 
 pub returns-then-same_integer : goal.returns-then-same_integer
 returns-then-same_integer c =
-    let value : ℤ = c.in-Element.z in
-    let next : ℕ = c.in-Element.next in
-    let stands : InBinary Truths 1 c.args.s.now c.args.at next (value ∷ []) = subst (FindsOne (InBinary Truths 1 c.args.s.now c.args.at)) c.in-Element.is c.binary_truth.ensures in
+    let value : ℤ = c.in_ok-z.field-0.value in
+    let next : ℕ = c.in_ok-z.field-0.next in
+    let stands : InBinary Truths 1 c.args.s.now c.args.at next (value ∷ []) = c.in_ok-z.ensures in
     let fits : to_z w64 (of_z w64 value) ≡ value = search rules in
     let p = c.put_null in
     λ from one q. null-moved (InBinary (shape c.args.column.kind) 1 c.args.s.now c.args.at) from c.args.to c.args.column Truths value c.args.row.now c.args.o
@@ -32,9 +32,9 @@ returns-then-same_integer c =
 
 pub returns : goal.returns
 returns c =
-    let value : ℤ = c.in-Element.z in
-    let next : ℕ = c.in-Element.next in
-    let stands : InBinary Truths 1 c.args.s.now c.args.at next (value ∷ []) = subst (FindsOne (InBinary Truths 1 c.args.s.now c.args.at)) c.in-Element.is c.binary_truth.ensures in
+    let value : ℤ = c.in_ok-z.field-0.value in
+    let next : ℕ = c.in_ok-z.field-0.next in
+    let stands : InBinary Truths 1 c.args.s.now c.args.at next (value ∷ []) = c.in_ok-z.ensures in
     let fits : to_z w64 (of_z w64 value) ≡ value = search rules in
     let p = c.put_truth-e in
     λ from one q. value-moved (InBinary (shape c.args.column.kind) 1 c.args.s.now c.args.at) from c.args.to c.args.column Truths value c.args.row.now c.args.o

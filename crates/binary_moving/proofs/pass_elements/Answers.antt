@@ -28,9 +28,7 @@ fill_up-requires c =
     let inner : ℕ = c.args.o + c.count_size.result in
     let mid : List ℕ = c.pass_content.new.row in
     let moved : let a = c.args in ContentMoved (InBinary (shape a.column.kind) a.n a.s.now a.at)
-    (AsBinary (shape a.column.kind)) a.row.now inner mid c.in-Elements.count c.in-Elements.next c.in-Elements.end = (let a = c.args in
-    subst (MovesContent (InBinary (shape a.column.kind) a.n a.s.now a.at) (AsBinary (shape a.column.kind)) a.row.now inner mid) c.in-Elements.is
-    c.pass_content.ensures) in
+    (AsBinary (shape a.column.kind)) a.row.now inner mid c.in_ok-count.field-0.count c.in_ok-count.field-0.next c.in_ok-count.field-0.end = c.in_ok-count.ensures in
     let x = moved.puts in
     (c.if-count-gt-MOST_ELEMENTS.false, omega (arith, x.long, c.requires.2), omega (arith, x.long, x.room))
 
@@ -39,12 +37,10 @@ returns c =
     let inner : ℕ = c.args.o + c.count_size.result in
     let mid : List ℕ = c.pass_content.new.row in
     let moved : let a = c.args in ContentMoved (InBinary (shape a.column.kind) a.n a.s.now a.at)
-    (AsBinary (shape a.column.kind)) a.row.now inner mid c.in-Elements.count c.in-Elements.next c.in-Elements.end = (let a = c.args in
-    subst (MovesContent (InBinary (shape a.column.kind) a.n a.s.now a.at) (AsBinary (shape a.column.kind)) a.row.now inner mid) c.in-Elements.is
-    c.pass_content.ensures) in
+    (AsBinary (shape a.column.kind)) a.row.now inner mid c.in_ok-count.field-0.count c.in_ok-count.field-0.next c.in_ok-count.field-0.end = c.in_ok-count.ensures in
     let a = c.args in
-    let n = c.count_size.ensures.1 c.in-Elements.count in
-    let some : 1 ≤ c.in-Elements.count = omega (arith, c.if-count-eq0.false) in
+    let n = c.count_size.ensures.1 c.in_ok-count.field-0.count in
+    let some : 1 ≤ c.in_ok-count.field-0.count = omega (arith, c.if-count-eq0.false) in
     let f = c.fill_up in
     record {
       moves_read = λ from never. bytes-moved (InBinary (shape a.column.kind) a.n a.s.now a.at) from a.column never a.row.now a.o inner Binary mid f.new.row _
@@ -55,30 +51,28 @@ returns c =
           (λ es m. binary2-writes a.column es) moved refl n some f.ensures;
     }
 
-pub shape_of-row-in_default : goal.shape_of-row-in_default
-shape_of-row-in_default c =
+pub shape_of-row-in_err-count : goal.shape_of-row-in_err-count
+shape_of-row-in_err-count c =
     let declined : Puts c.args.row.now c.args.o [] c.pass_content.new.row c.args.o = (let x = subst (MovesContent _ _ c.args.row.now (c.args.o + c.count_size.result)
-    c.pass_content.new.row) c.in_default.is
+    c.pass_content.new.row) c.in_err-count.was
     c.pass_content.ensures in
     puts_lower x (omega arith)) in
     declined.long
 
-pub returns-in_default : goal.returns-in_default
-returns-in_default c =
+pub returns-in_err-count : goal.returns-in_err-count
+returns-in_err-count c =
     let declined : Puts c.args.row.now c.args.o [] c.pass_content.new.row c.args.o = (let x = subst (MovesContent _ _ c.args.row.now (c.args.o + c.count_size.result)
-    c.pass_content.new.row) c.in_default.is
+    c.pass_content.new.row) c.in_err-count.was
     c.pass_content.ensures in
     puts_lower x (omega arith)) in
-    record { moves_read = λ from never. declined; moves_read_2 = λ from never. declined }
+    rw c.from_residual.ensures (record { moves_read = λ from never. declined; moves_read_2 = λ from never. declined })
 
 pub shape_of-row-then-count-eq0 : goal.shape_of-row-then-count-eq0
 shape_of-row-then-count-eq0 c =
     let inner : ℕ = c.args.o + c.count_size.result in
     let mid : List ℕ = c.pass_content.new.row in
     let moved : let a = c.args in ContentMoved (InBinary (shape a.column.kind) a.n a.s.now a.at)
-    (AsBinary (shape a.column.kind)) a.row.now inner mid c.in-Elements.count c.in-Elements.next c.in-Elements.end = (let a = c.args in
-    subst (MovesContent (InBinary (shape a.column.kind) a.n a.s.now a.at) (AsBinary (shape a.column.kind)) a.row.now inner mid) c.in-Elements.is
-    c.pass_content.ensures) in
+    (AsBinary (shape a.column.kind)) a.row.now inner mid c.in_ok-count.field-0.count c.in_ok-count.field-0.next c.in_ok-count.field-0.end = c.in_ok-count.ensures in
     let unfilled : Puts c.args.row.now c.args.o [] mid c.args.o = puts_lower moved.puts (omega arith) in
     unfilled.long
 
@@ -87,9 +81,7 @@ returns-then-count-eq0 c =
     let inner : ℕ = c.args.o + c.count_size.result in
     let mid : List ℕ = c.pass_content.new.row in
     let moved : let a = c.args in ContentMoved (InBinary (shape a.column.kind) a.n a.s.now a.at)
-    (AsBinary (shape a.column.kind)) a.row.now inner mid c.in-Elements.count c.in-Elements.next c.in-Elements.end = (let a = c.args in
-    subst (MovesContent (InBinary (shape a.column.kind) a.n a.s.now a.at) (AsBinary (shape a.column.kind)) a.row.now inner mid) c.in-Elements.is
-    c.pass_content.ensures) in
+    (AsBinary (shape a.column.kind)) a.row.now inner mid c.in_ok-count.field-0.count c.in_ok-count.field-0.next c.in_ok-count.field-0.end = c.in_ok-count.ensures in
     let unfilled : Puts c.args.row.now c.args.o [] mid c.args.o = puts_lower moved.puts (omega arith) in
     record { moves_read = λ from never. unfilled; moves_read_2 = λ from never. unfilled }
 
@@ -98,9 +90,7 @@ shape_of-row-then-count-gt-MOST_ELEMENTS c =
     let inner : ℕ = c.args.o + c.count_size.result in
     let mid : List ℕ = c.pass_content.new.row in
     let moved : let a = c.args in ContentMoved (InBinary (shape a.column.kind) a.n a.s.now a.at)
-    (AsBinary (shape a.column.kind)) a.row.now inner mid c.in-Elements.count c.in-Elements.next c.in-Elements.end = (let a = c.args in
-    subst (MovesContent (InBinary (shape a.column.kind) a.n a.s.now a.at) (AsBinary (shape a.column.kind)) a.row.now inner mid) c.in-Elements.is
-    c.pass_content.ensures) in
+    (AsBinary (shape a.column.kind)) a.row.now inner mid c.in_ok-count.field-0.count c.in_ok-count.field-0.next c.in_ok-count.field-0.end = c.in_ok-count.ensures in
     let unfilled : Puts c.args.row.now c.args.o [] mid c.args.o = puts_lower moved.puts (omega arith) in
     unfilled.long
 
@@ -109,8 +99,6 @@ returns-then-count-gt-MOST_ELEMENTS c =
     let inner : ℕ = c.args.o + c.count_size.result in
     let mid : List ℕ = c.pass_content.new.row in
     let moved : let a = c.args in ContentMoved (InBinary (shape a.column.kind) a.n a.s.now a.at)
-    (AsBinary (shape a.column.kind)) a.row.now inner mid c.in-Elements.count c.in-Elements.next c.in-Elements.end = (let a = c.args in
-    subst (MovesContent (InBinary (shape a.column.kind) a.n a.s.now a.at) (AsBinary (shape a.column.kind)) a.row.now inner mid) c.in-Elements.is
-    c.pass_content.ensures) in
+    (AsBinary (shape a.column.kind)) a.row.now inner mid c.in_ok-count.field-0.count c.in_ok-count.field-0.next c.in_ok-count.field-0.end = c.in_ok-count.ensures in
     let unfilled : Puts c.args.row.now c.args.o [] mid c.args.o = puts_lower moved.puts (omega arith) in
     record { moves_read = λ from never. unfilled; moves_read_2 = λ from never. unfilled }

@@ -22,9 +22,7 @@ overflow_sub-row c =
     let inner : ℕ = c.put_open-inner.result in
     let mid : List ℕ = c.show_content.new.row in
     let moved : let a = c.args in ContentMoved (InBinary (shape a.column.kind) a.n a.s.now a.at)
-    (AsText (shape a.column.kind)) opened inner mid c.in-Elements.count c.in-Elements.next c.in-Elements.end = (let a = c.args in
-    subst (MovesContent (InBinary (shape a.column.kind) a.n a.s.now a.at) (AsText (shape a.column.kind)) opened inner mid) c.in-Elements.is
-    c.show_content.ensures) in
+    (AsText (shape a.column.kind)) opened inner mid c.in_ok-count.field-0.count c.in_ok-count.field-0.next c.in_ok-count.field-0.end = c.in_ok-count.ensures in
     let x = moved.puts in omega (arith, x.long, x.room)
 
 pub put_close-e-requires : goal.put_close-e-requires
@@ -33,9 +31,7 @@ put_close-e-requires c =
     let inner : ℕ = c.put_open-inner.result in
     let mid : List ℕ = c.show_content.new.row in
     let moved : let a = c.args in ContentMoved (InBinary (shape a.column.kind) a.n a.s.now a.at)
-    (AsText (shape a.column.kind)) opened inner mid c.in-Elements.count c.in-Elements.next c.in-Elements.end = (let a = c.args in
-    subst (MovesContent (InBinary (shape a.column.kind) a.n a.s.now a.at) (AsText (shape a.column.kind)) opened inner mid) c.in-Elements.is
-    c.show_content.ensures) in
+    (AsText (shape a.column.kind)) opened inner mid c.in_ok-count.field-0.count c.in_ok-count.field-0.next c.in_ok-count.field-0.end = c.in_ok-count.ensures in
     let x = moved.puts in omega (arith, c.if-row-end-lt8.false, x.long, x.room)
 
 pub returns : goal.returns
@@ -44,29 +40,27 @@ returns c =
     let inner : ℕ = c.put_open-inner.result in
     let mid : List ℕ = c.show_content.new.row in
     let moved : let a = c.args in ContentMoved (InBinary (shape a.column.kind) a.n a.s.now a.at)
-    (AsText (shape a.column.kind)) opened inner mid c.in-Elements.count c.in-Elements.next c.in-Elements.end = (let a = c.args in
-    subst (MovesContent (InBinary (shape a.column.kind) a.n a.s.now a.at) (AsText (shape a.column.kind)) opened inner mid) c.in-Elements.is
-    c.show_content.ensures) in
+    (AsText (shape a.column.kind)) opened inner mid c.in_ok-count.field-0.count c.in_ok-count.field-0.next c.in_ok-count.field-0.end = c.in_ok-count.ensures in
     let a = c.args in
     λ from never. text-moved (InBinary (shape a.column.kind) a.n a.s.now a.at) from a.column never a.row.now a.o inner opened mid _ _ _ _ _
     c.put_open-inner.ensures moved (omega (arith, c.if-count-eq0.false))
     c.put_close-e.ensures
 
-pub shape_of-row-in_default : goal.shape_of-row-in_default
-shape_of-row-in_default c =
+pub shape_of-row-in_err-count : goal.shape_of-row-in_err-count
+shape_of-row-in_err-count c =
     let declined : Puts c.args.row.now c.args.o [] c.show_content.new.row c.args.o = (let u = c.put_open-inner in
-    let x = subst (MovesContent _ _ u.new.row u.result c.show_content.new.row) c.in_default.is
+    let x = subst (MovesContent _ _ u.new.row u.result c.show_content.new.row) c.in_err-count.was
     c.show_content.ensures in
     puts-before (puts_then u.ensures x)) in
     declined.long
 
-pub returns-in_default : goal.returns-in_default
-returns-in_default c =
+pub returns-in_err-count : goal.returns-in_err-count
+returns-in_err-count c =
     let declined : Puts c.args.row.now c.args.o [] c.show_content.new.row c.args.o = (let u = c.put_open-inner in
-    let x = subst (MovesContent _ _ u.new.row u.result c.show_content.new.row) c.in_default.is
+    let x = subst (MovesContent _ _ u.new.row u.result c.show_content.new.row) c.in_err-count.was
     c.show_content.ensures in
     puts-before (puts_then u.ensures x)) in
-    λ from never. declined
+    rw c.from_residual.ensures (λ from never. declined)
 
 pub shape_of-row-then-count-eq0 : goal.shape_of-row-then-count-eq0
 shape_of-row-then-count-eq0 c =
@@ -74,9 +68,7 @@ shape_of-row-then-count-eq0 c =
     let inner : ℕ = c.put_open-inner.result in
     let mid : List ℕ = c.show_content.new.row in
     let moved : let a = c.args in ContentMoved (InBinary (shape a.column.kind) a.n a.s.now a.at)
-    (AsText (shape a.column.kind)) opened inner mid c.in-Elements.count c.in-Elements.next c.in-Elements.end = (let a = c.args in
-    subst (MovesContent (InBinary (shape a.column.kind) a.n a.s.now a.at) (AsText (shape a.column.kind)) opened inner mid) c.in-Elements.is
-    c.show_content.ensures) in
+    (AsText (shape a.column.kind)) opened inner mid c.in_ok-count.field-0.count c.in_ok-count.field-0.next c.in_ok-count.field-0.end = c.in_ok-count.ensures in
     let unclosed : Puts c.args.row.now c.args.o [] mid c.args.o = puts-before (puts_then c.put_open-inner.ensures moved.puts) in
     unclosed.long
 
@@ -86,9 +78,7 @@ returns-then-count-eq0 c =
     let inner : ℕ = c.put_open-inner.result in
     let mid : List ℕ = c.show_content.new.row in
     let moved : let a = c.args in ContentMoved (InBinary (shape a.column.kind) a.n a.s.now a.at)
-    (AsText (shape a.column.kind)) opened inner mid c.in-Elements.count c.in-Elements.next c.in-Elements.end = (let a = c.args in
-    subst (MovesContent (InBinary (shape a.column.kind) a.n a.s.now a.at) (AsText (shape a.column.kind)) opened inner mid) c.in-Elements.is
-    c.show_content.ensures) in
+    (AsText (shape a.column.kind)) opened inner mid c.in_ok-count.field-0.count c.in_ok-count.field-0.next c.in_ok-count.field-0.end = c.in_ok-count.ensures in
     let unclosed : Puts c.args.row.now c.args.o [] mid c.args.o = puts-before (puts_then c.put_open-inner.ensures moved.puts) in
     λ from never. unclosed
 
@@ -98,9 +88,7 @@ shape_of-row-then-row-end-lt8 c =
     let inner : ℕ = c.put_open-inner.result in
     let mid : List ℕ = c.show_content.new.row in
     let moved : let a = c.args in ContentMoved (InBinary (shape a.column.kind) a.n a.s.now a.at)
-    (AsText (shape a.column.kind)) opened inner mid c.in-Elements.count c.in-Elements.next c.in-Elements.end = (let a = c.args in
-    subst (MovesContent (InBinary (shape a.column.kind) a.n a.s.now a.at) (AsText (shape a.column.kind)) opened inner mid) c.in-Elements.is
-    c.show_content.ensures) in
+    (AsText (shape a.column.kind)) opened inner mid c.in_ok-count.field-0.count c.in_ok-count.field-0.next c.in_ok-count.field-0.end = c.in_ok-count.ensures in
     let unclosed : Puts c.args.row.now c.args.o [] mid c.args.o = puts-before (puts_then c.put_open-inner.ensures moved.puts) in
     unclosed.long
 
@@ -110,8 +98,6 @@ returns-then-row-end-lt8 c =
     let inner : ℕ = c.put_open-inner.result in
     let mid : List ℕ = c.show_content.new.row in
     let moved : let a = c.args in ContentMoved (InBinary (shape a.column.kind) a.n a.s.now a.at)
-    (AsText (shape a.column.kind)) opened inner mid c.in-Elements.count c.in-Elements.next c.in-Elements.end = (let a = c.args in
-    subst (MovesContent (InBinary (shape a.column.kind) a.n a.s.now a.at) (AsText (shape a.column.kind)) opened inner mid) c.in-Elements.is
-    c.show_content.ensures) in
+    (AsText (shape a.column.kind)) opened inner mid c.in_ok-count.field-0.count c.in_ok-count.field-0.next c.in_ok-count.field-0.end = c.in_ok-count.ensures in
     let unclosed : Puts c.args.row.now c.args.o [] mid c.args.o = puts-before (puts_then c.put_open-inner.ensures moved.puts) in
     λ from never. unclosed

@@ -1,4 +1,5 @@
 -- cell_moving::move_cell: what the quick way moves is moved; what it declines leaves what stands before its place, and the careful way goes on there.
+use Rattle.std.specs.Prelude.{None}
 use mathlib.Core.Path.{refl, subst}
 use native.Mathlib.Omega.{arith}
 use borrow.Author.Rules.{rules}
@@ -7,28 +8,28 @@ use Rattle.moving.specs.Cells.{MovesCell}
 use Rattle.moving.specs.declared.Moved.{Moved}
 use Rattle.cell_moving.proofs.move_cell.Goals as goal
 
-pub returns-in-Cell : goal.returns-in-Cell
-returns-in-Cell c =
+pub returns-in-Some : goal.returns-in-Some
+returns-in-Some c =
     let a = c.args in
     let q = c.quick_cell-quick in
     record {
-      settles_cell = subst (MovesCell a.from a.to a.column a.flagged a.s.now a.at a.row.now a.o q.new.row) c.in-Cell.is q.ensures;
+      settles_cell = rw c.in-Some.is (subst (MovesCell a.from a.to a.column a.flagged a.s.now a.at a.row.now a.o q.new.row) c.in-Some.is q.ensures);
       scratch_len_unchanged = refl;
     }
 
 pub careful_cell-requires : goal.careful_cell-requires
 careful_cell-requires c =
-    let declined : let a = c.args in MovesCell a.from a.to a.column a.flagged a.s.now a.at a.row.now a.o c.quick_cell-quick.new.row Moved.Careful = (let a = c.args in
+    let declined : let a = c.args in MovesCell a.from a.to a.column a.flagged a.s.now a.at a.row.now a.o c.quick_cell-quick.new.row None = (let a = c.args in
     let q = c.quick_cell-quick in
-    subst (MovesCell a.from a.to a.column a.flagged a.s.now a.at a.row.now a.o q.new.row) c.in-Careful.is q.ensures) in
+    subst (MovesCell a.from a.to a.column a.flagged a.s.now a.at a.row.now a.o q.new.row) c.in-None.is q.ensures) in
     let u = declined in
     (c.requires.0, c.requires.1, c.requires.2, omega (arith, u.long, c.requires.3))
 
-pub returns-in-Careful : goal.returns-in-Careful
-returns-in-Careful c =
-    let declined : let a = c.args in MovesCell a.from a.to a.column a.flagged a.s.now a.at a.row.now a.o c.quick_cell-quick.new.row Moved.Careful = (let a = c.args in
+pub returns-in-None : goal.returns-in-None
+returns-in-None c =
+    let declined : let a = c.args in MovesCell a.from a.to a.column a.flagged a.s.now a.at a.row.now a.o c.quick_cell-quick.new.row None = (let a = c.args in
     let q = c.quick_cell-quick in
-    subst (MovesCell a.from a.to a.column a.flagged a.s.now a.at a.row.now a.o q.new.row) c.in-Careful.is q.ensures) in
+    subst (MovesCell a.from a.to a.column a.flagged a.s.now a.at a.row.now a.o q.new.row) c.in-None.is q.ensures) in
     let a = c.args in
     let m = c.careful_cell in
     let u = declined in

@@ -12,8 +12,8 @@ use Rattle.cell_putting.proofs.put_flagged.Goals as goal
 pub returns-then-row-o : goal.returns-then-row-o
 returns-then-row-o c = puts_none _ _ c.requires.1
 
-pub put_null-e-requires : goal.put_null-e-requires
-put_null-e-requires c =
+pub put_null-end-requires : goal.put_null-end-requires
+put_null-end-requires c =
     (c.requires.0, omega (arith, zeros-length c.args.column, c.room_size.ensures, c.if-row-o.false, c.requires.1))
 
 pub returns : goal.returns
@@ -22,7 +22,7 @@ returns c =
     record {
       bytes = _;
       writes = refl;
-      puts = puts-wrote c.put_null-e.ensures (omega (
+      puts = puts-wrote c.put_null-end.ensures (omega (
         arith,
         zeros-length
             c.args.column,

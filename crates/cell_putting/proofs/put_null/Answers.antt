@@ -10,7 +10,7 @@ use Rattle.cell_putting.proofs.put_null.Goals as goal
 pub returns-in-TableData : goal.returns-in-TableData
 unfolding write_cell write_text is_null
 returns-in-TableData c =
-    rw c.in-TableData.is (record { bytes = _; writes = refl; puts = c.put_empty-e.ensures; same_next = refl; null_is = refl })
+    rw c.in-TableData.is (record { bytes = _; writes = refl; puts = c.put_empty-end.ensures; same_next = refl; null_is = refl })
 
 pub returns-in-Binary : goal.returns-in-Binary
 returns-in-Binary c = rw c.in-Binary.is c.put_declared.ensures

@@ -1,7 +1,7 @@
 -- cell_putting::scalar_of: by its length, then by its kind.
 use mathlib.Core.Path.{◌∙◌, ap, sym}
 use borrow.Author.Tests.{not-false, not-true}
-use Rattle.cell_putting.proofs.Elements.{array-never, bits-never, text-never}
+use Rattle.cell_putting.proofs.Elements.{array-never, neither-never}
 use Rattle.number.specs.Clauses.{shape_as}
 use borrow.Author.Rules.{rules}
 use native.Mathlib.Omega.{arith}
@@ -25,7 +25,4 @@ returns-in-Truths c = (
 )
 
 pub returns-in-Bits : goal.returns-in-Bits
-returns-in-Bits c = bits-never c.args.column (sym c.elements_of.ensures ∙ ap shape_as c.in-Bits.is)
-
-pub returns-in-Text : goal.returns-in-Text
-returns-in-Text c = text-never c.args.column (sym c.elements_of.ensures ∙ ap shape_as c.in-Text.is)
+returns-in-Bits c = neither-never c.args.column _ c.in-Bits.is c.elements_of.ensures

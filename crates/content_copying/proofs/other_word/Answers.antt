@@ -10,18 +10,18 @@ use Rattle.number.specs.Number.{shortest}
 use borrow.Author.Rules.{rules}
 use Rattle.content_copying.proofs.other_word.Goals as goal
 
-pub returns-in_default : goal.returns-in_default
-returns-in_default c = puts_none _ _ (omega arith)
+pub returns-in_err-z : goal.returns-in_err-z
+returns-in_err-z c = rw c.from_residual.ensures (puts_none _ _ (omega arith))
 
 pub shape_of-row : goal.shape_of-row
 shape_of-row c = c.put_word-e.ensures.long
 
 pub returns : goal.returns
 returns c =
-    let z : ℤ = c.in-Element.z in
+    let z : ℤ = c.in_ok-z.field-0.value in
     let e : to_z w64 (of_z w64 z) ≡ z = search rules in
     record {
-      z = c.in-Element.z;
-      reads = c.in-Element.ensures;
+      z = c.in_ok-z.field-0.value;
+      reads = c.in_ok-z.ensures;
       puts = puts-as (ap (λ (y : ℤ). shortest y ++ (32 ∷ [])) e) c.put_word-e.ensures;
     }

@@ -13,13 +13,6 @@ use Rattle.content_passing.proofs.letters_in.Goals as goal
 pub loop-k-init : goal.loop-k-init
 loop-k-init c = let a = c.args in (omega arith, omega (arith, ap (λ (j : ℕ). run is_letter (drop j a.s.now)) (add-zero a.at)))
 
-pub returns-then-n-k : goal.returns-then-n-k
-returns-then-n-k c =
-    let eight : let a = c.args in c.letters_ahead-ahead.result ≡ min 8 (run is_letter (drop (a.at + c.loop-k.k) a.s.now)) = let a = c.args in
-    c.letters_ahead-ahead.ensures ∙ run_take is_letter 8 (drop (a.at + c.loop-k.k) a.s.now) in
-    let a = c.args in
-    omega (arith, eight, run_take is_letter a.n (drop a.at a.s.now))
-
 pub returns-then-ahead-lt8 : goal.returns-then-ahead-lt8
 returns-then-ahead-lt8 c =
     let eight : let a = c.args in c.letters_ahead-ahead.result ≡ min 8 (run is_letter (drop (a.at + c.loop-k.k) a.s.now)) = let a = c.args in

@@ -1,5 +1,5 @@
 -- `content_passing::pass_truths` meets its contract: before each turn the letters of the first k bytes are put, and 0 stands for all having one.
-use Prim.Native.Nat.{◌+◌, ◌-◌, ◌≤◌}
+use Prim.Native.Nat.{◌+◌}
 use mathlib.Core.List.{map}
 use mathlib.Core.Path.{◌≡◌}
 use lib.ListN.{drop, take}
@@ -10,7 +10,4 @@ use Rattle.content_passing.proofs.pass_truths.Given as goal
 
 abbrev pub invariant-loop-k : goal.invariant-loop-k
 invariant-loop-k l =
-    (l.k ≤ l.n) × Puts l.initial.row l.o (map letter (take l.k (drop l.at l.s))) l.row (l.o + l.k) × (l.none ≡ 0 → All HasLetter (take l.k (drop l.at l.s)))
-
-abbrev pub decreases-loop-k : goal.decreases-loop-k
-decreases-loop-k l = l.n - l.k
+    Puts l.initial.row l.o (map letter (take l.k (drop l.at l.s))) l.row (l.o + l.k) × (l.none ≡ 0 → All HasLetter (take l.k (drop l.at l.s)))

@@ -45,11 +45,11 @@ returns-then-row-o-lt8 c = puts-before c.loop-at.invariant.puts
 pub array_integer-requires : goal.array_integer-requires
 array_integer-requires c = omega (arith, c.loop-at.invariant.spells.inside)
 
-pub shape_of-row-in_default : goal.shape_of-row-in_default
-shape_of-row-in_default c = c.loop-at.invariant.puts.long
+pub shape_of-row-in_err-z : goal.shape_of-row-in_err-z
+shape_of-row-in_err-z c = c.loop-at.invariant.puts.long
 
-pub returns-in_default : goal.returns-in_default
-returns-in_default c = puts-before c.loop-at.invariant.puts
+pub returns-in_err-z : goal.returns-in_err-z
+returns-in_err-z c = rw c.from_residual.ensures (puts-before c.loop-at.invariant.puts)
 
 pub write_integer-o-requires : goal.write_integer-o-requires
 write_integer-o-requires c =
@@ -62,13 +62,13 @@ overflow_add-count c =
 
 pub bounds-s-next : goal.bounds-s-next
 bounds-s-next c =
-    let next : ℕ = c.in-Element.next in
-    let inside : next < length c.args.s.now = c.in-Element.ensures.1 in
+    let next : ℕ = c.in_ok-z.field-0.next in
+    let inside : next < length c.args.s.now = c.in_ok-z.ensures.1 in
     let h = inside in search rules
 
 pub shape_of-row-then-s-next-ne32 : goal.shape_of-row-then-s-next-ne32
 shape_of-row-then-s-next-ne32 c =
-    let z : ℤ = c.in-Element.z in
+    let z : ℤ = c.in_ok-z.field-0.value in
     let k : Integer = c.args.integer in
     let put : Puts c.loop-at.row c.loop-at.o (to_digits 256 (size k) (number (Whole (is_signed k) (width_of k)) z)) c.write_integer-o.new.out c.write_integer-o.result = (let l = c.loop-at in
     let e : to_z w64 (of_z w64 z) ≡ z = search rules in
@@ -79,10 +79,10 @@ shape_of-row-then-s-next-ne32 c =
 
 pub returns-then-s-next-ne32 : goal.returns-then-s-next-ne32
 returns-then-s-next-ne32 c =
-    let z : ℤ = c.in-Element.z in
-    let next : ℕ = c.in-Element.next in
+    let z : ℤ = c.in_ok-z.field-0.value in
+    let next : ℕ = c.in_ok-z.field-0.next in
     let k : Integer = c.args.integer in
-    let found : InText (Whole (is_signed k) (width_of k)) c.args.s.now c.loop-at.at next (z ∷ []) = c.in-Element.ensures.0 in
+    let found : InText (Whole (is_signed k) (width_of k)) c.args.s.now c.loop-at.at next (z ∷ []) = c.in_ok-z.ensures.0 in
     let put : Puts c.loop-at.row c.loop-at.o (to_digits 256 (size k) (number (Whole (is_signed k) (width_of k)) z)) c.write_integer-o.new.out c.write_integer-o.result = (let l = c.loop-at in
     let e : to_z w64 (of_z w64 z) ≡ z = search rules in
     whole-puts (is_signed k) (width_of k) z
@@ -93,25 +93,25 @@ returns-then-s-next-ne32 c =
 
 pub overflow_add-at : goal.overflow_add-at
 overflow_add-at c =
-    let next : ℕ = c.in-Element.next in
-    let inside : next < length c.args.s.now = c.in-Element.ensures.1 in
+    let next : ℕ = c.in_ok-z.field-0.next in
+    let inside : next < length c.args.s.now = c.in_ok-z.ensures.1 in
     let h = inside in search rules
 
 pub loop-at-smaller : goal.loop-at-smaller
 loop-at-smaller c =
-    let z : ℤ = c.in-Element.z in
-    let next : ℕ = c.in-Element.next in
+    let z : ℤ = c.in_ok-z.field-0.value in
+    let next : ℕ = c.in_ok-z.field-0.next in
     let k : Integer = c.args.integer in
-    let found : InText (Whole (is_signed k) (width_of k)) c.args.s.now c.loop-at.at next (z ∷ []) = c.in-Element.ensures.0 in
+    let found : InText (Whole (is_signed k) (width_of k)) c.args.s.now c.loop-at.at next (z ∷ []) = c.in_ok-z.ensures.0 in
     omega (arith, found.spells.onward)
 
 pub loop-at-preserved : goal.loop-at-preserved
 loop-at-preserved c =
-    let z : ℤ = c.in-Element.z in
-    let next : ℕ = c.in-Element.next in
+    let z : ℤ = c.in_ok-z.field-0.value in
+    let next : ℕ = c.in_ok-z.field-0.next in
     let k : Integer = c.args.integer in
-    let found : InText (Whole (is_signed k) (width_of k)) c.args.s.now c.loop-at.at next (z ∷ []) = c.in-Element.ensures.0 in
-    let inside : next < length c.args.s.now = c.in-Element.ensures.1 in
+    let found : InText (Whole (is_signed k) (width_of k)) c.args.s.now c.loop-at.at next (z ∷ []) = c.in_ok-z.ensures.0 in
+    let inside : next < length c.args.s.now = c.in_ok-z.ensures.1 in
     let put : Puts c.loop-at.row c.loop-at.o (to_digits 256 (size k) (number (Whole (is_signed k) (width_of k)) z)) c.write_integer-o.new.out c.write_integer-o.result = (let l = c.loop-at in
     let e : to_z w64 (of_z w64 z) ≡ z = search rules in
     whole-puts (is_signed k) (width_of k) z

@@ -9,33 +9,33 @@ use native.Mathlib.Omega.{arith}
 use Rattle.content_showing.proofs.put_bits.Goals as goal
 
 pub loop-k-init : goal.loop-k-init
-loop-k-init c = let a = c.args in (omega arith, bits-start a.s.now a.row.now a.at a.o (omega (arith, c.requires.1)))
+loop-k-init c = let a = c.args in bits-start a.s.now a.row.now a.at a.o (omega (arith, c.requires.1))
 
 pub overflow_mul-k : goal.overflow_mul-k
-overflow_mul-k c = record { fits = omega (arith, c.requires.1, c.loop-k-test.true) }
+overflow_mul-k c = record { fits = omega (arith, c.requires.1) }
 
 pub overflow_add-o : goal.overflow_add-o
-overflow_add-o c = record { fits = omega (arith, c.requires.1, c.loop-k-test.true) }
+overflow_add-o c = record { fits = omega (arith, c.requires.1) }
 
 pub put_eight-requires : goal.put_eight-requires
 put_eight-requires c =
-    omega (arith, c.requires.1, c.loop-k-test.true, c.loop-k.invariant.1.long)
+    omega (arith, c.requires.1, c.loop-k.invariant.long)
 
 pub loop-k-preserved : goal.loop-k-preserved
 loop-k-preserved c =
     let a = c.args in
     let l = c.loop-k in
-    let more : l.k < a.size = c.loop-k-test.true in
+    let more : l.k < a.size = omega arith in
     let there : a.at + a.size ≤ length a.s.now = c.requires.0 in
     let word = c.bit_word.ensures in
-    (omega arith, byte_more a.s.now a.at l.k _ _ (omega arith) refl word (omega (arith, c.requires.1, l.invariant.1.long)) c.put_eight.ensures l.invariant.1)
+    byte_more a.s.now a.at l.k _ _ (omega arith) refl word (omega (arith, c.requires.1, l.invariant.long)) c.put_eight.ensures l.invariant
 
 pub returns : goal.returns
 returns c =
     let a = c.args in
     let l = c.loop-k in
-    let e : l.k ≡ a.size = omega (arith, l.invariant.0, c.loop-k-test.false) in
-    subst (λ (j : ℕ). Puts a.row.now a.o (bit_letters (take j (drop a.at a.s.now))) l.row (a.o + 8 * j)) e l.invariant.1
+    let e : l.k ≡ a.size = omega arith in
+    subst (λ (j : ℕ). Puts a.row.now a.o (bit_letters (take j (drop a.at a.s.now))) l.row (a.o + 8 * j)) e l.invariant
 
 pub shape_of-row : goal.shape_of-row
-shape_of-row c = c.loop-k.invariant.1.long
+shape_of-row c = c.loop-k.invariant.long

@@ -8,32 +8,32 @@ use native.Mathlib.Omega.{arith}
 use Rattle.content_showing.proofs.put_truths.Goals as goal
 
 pub loop-k-init : goal.loop-k-init
-loop-k-init c = let a = c.args in (omega arith, truths-start a.s.now a.row.now a.at a.o (omega (arith, c.requires.1)))
+loop-k-init c = let a = c.args in truths-start a.s.now a.row.now a.at a.o (omega (arith, c.requires.1))
 
 pub overflow_mul-k : goal.overflow_mul-k
-overflow_mul-k c = record { fits = omega (arith, c.requires.1, c.loop-k-test.true) }
+overflow_mul-k c = record { fits = omega (arith, c.requires.1) }
 
 pub overflow_add-o : goal.overflow_add-o
-overflow_add-o c = record { fits = omega (arith, c.requires.1, c.loop-k-test.true) }
+overflow_add-o c = record { fits = omega (arith, c.requires.1) }
 
 pub put_truth-letter-requires : goal.put_truth-letter-requires
-put_truth-letter-requires c = omega (arith, c.requires.1, c.loop-k-test.true, c.loop-k.invariant.1.puts.long)
+put_truth-letter-requires c = omega (arith, c.requires.1, c.loop-k.invariant.puts.long)
 
 pub loop-k-preserved : goal.loop-k-preserved
 loop-k-preserved c =
     let a = c.args in
     let l = c.loop-k in
     let t = c.put_truth-letter.ensures in
-    let more : l.k < a.n = c.loop-k-test.true in
+    let more : l.k < a.n = omega arith in
     let there : a.at + a.n ≤ length a.s.now = c.requires.0 in
-    (omega arith, truth-more a.s.now a.at l.k _ _ _ (omega arith) refl t.0 t.1 l.invariant.1)
+    truth-more a.s.now a.at l.k _ _ _ (omega arith) refl t.0 t.1 l.invariant
 
 pub returns : goal.returns
 returns c =
     let a = c.args in
     let l = c.loop-k in
-    let e : l.k ≡ a.n = omega (arith, l.invariant.0, c.loop-k-test.false) in
-    subst (λ (j : ℕ). TruthsPut (take j (drop a.at a.s.now)) a.row.now a.o l.row (a.o + 2 * j) l.bad) e l.invariant.1
+    let e : l.k ≡ a.n = omega arith in
+    subst (λ (j : ℕ). TruthsPut (take j (drop a.at a.s.now)) a.row.now a.o l.row (a.o + 2 * j) l.bad) e l.invariant
 
 pub shape_of-row : goal.shape_of-row
-shape_of-row c = c.loop-k.invariant.1.puts.long
+shape_of-row c = c.loop-k.invariant.puts.long

@@ -9,7 +9,7 @@ pub returns-then-row-o : goal.returns-then-row-o
 returns-then-row-o c = puts_none _ _ c.requires.3
 
 pub is_padded-requires : goal.is_padded-requires
-is_padded-requires c = (c.requires.0, c.requires.1, c.requires.2)
+is_padded-requires c = (c.requires.1, c.requires.2)
 
 pub returns-then-not-is_padded : goal.returns-then-not-is_padded
 returns-then-not-is_padded c = puts_none _ _ c.requires.3

@@ -20,5 +20,5 @@ put_number-requires c =
 
 pub returns : goal.returns
 returns c =
-    puts-as (ap (λ (v : ℕ). sign c.args.z ++ digits 20 v) (c.magnitude.ensures ∙ ap nat_abs (to_z-of_z c.ranges.z)) ∙ signed c.args.z)
+    puts-as (ap (λ (v : ℕ). sign c.args.z ++ digits 20 v) (c.unsigned_abs.ensures.value ∙ ap nat_abs (to_z-of_z c.ranges.z)) ∙ signed c.args.z)
     (puts_then (puts-as (ap sign (to_z-of_z c.ranges.z)) c.put_sign-next.ensures) c.put_number.ensures)

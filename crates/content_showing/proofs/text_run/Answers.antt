@@ -23,7 +23,7 @@ returns-then-ahead-lt8 c =
     run_more is_itself (drop a.at a.s.now) k _ 8 c.loop-k.invariant.1
     (omega (arith, c.text_ahead-ahead.ensures, ap (λ (l : List ℕ). run is_itself (take 8 l)) (drop-drop k a.at a.s.now)))) in
     let a = c.args in
-    run-front is_itself (drop a.at a.s.now) _ a.n c.smaller.ensures.1 (omega (arith, c.smaller.ensures.0, longer))
+    run-front is_itself (drop a.at a.s.now) _ a.n (omega arith) (omega (arith, longer))
 
 pub loop-k-preserved : goal.loop-k-preserved
 loop-k-preserved c =

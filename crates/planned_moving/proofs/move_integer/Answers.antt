@@ -16,18 +16,15 @@ use Rattle.table.specs.Cell.{is_declared}
 use Rattle.table.specs.Shape.{Shape, Whole, shape}
 use Rattle.planned_moving.proofs.move_integer.Goals as goal
 
-pub returns-in_default : goal.returns-in_default
-returns-in_default c = λ from column one q n. puts_none c.args.row.now c.args.o (omega (arith, c.requires.1))
-
 pub returns-then-is_declared : goal.returns-then-is_declared
 returns-then-is_declared c = λ from column one q n. puts_none c.args.row.now c.args.o (omega (arith, c.requires.1))
 
 pub returns : goal.returns
 returns c =
     let kind-of : Shape = Whole (is_signed c.args.integer) (width_of c.args.integer) in
-    let value : ℤ = c.in-Element.z in
-    let next : ℕ = c.in-Element.next in
-    let stands : InBinary kind-of 1 c.args.s.now c.args.at next (value ∷ []) = subst (FindsOne (InBinary kind-of 1 c.args.s.now c.args.at)) c.in-Element.is c.binary_integer.ensures in
+    let value : ℤ = c.binary_integer-z.result.value in
+    let next : ℕ = c.binary_integer-z.result.next in
+    let stands : InBinary kind-of 1 c.args.s.now c.args.at next (value ∷ []) = c.binary_integer-z.ensures in
     let fits : to_z w64 (of_z w64 value) ≡ value = search rules in
     let a = c.args in
     let p = c.put_integer-e in

@@ -1,4 +1,5 @@
 -- planned_moving::move_wanted: by what the column's step wants, which is of a fixed column (of-fixed).
+use Rattle.std.specs.Prelude.{Some}
 use Prim.Native.Nat.{◌≤◌}
 use mathlib.Core.Bool.{false≢true, true}
 use mathlib.Core.Path.{◌∙◌, ◌≡◌, ap, subst, sym}
@@ -25,9 +26,6 @@ pub move_integer-requires : goal.move_integer-requires
 move_integer-requires c =
     (omega (arith, c.requires.0, size-most c.in-Integer.integer), omega (arith, c.requires.1))
 
-pub returns-in-Other : goal.returns-in-Other
-returns-in-Other c = λ from column t b q. puts_none c.args.row.now c.args.o (omega (arith, c.requires.1))
-
 -- a fixed column has some elements
 some : (c : Column) (f : OfFixed c) → Bounded c → 1 ≤ f.n
 some c f b = subst (λ (l : Len). 1 ≤ bound l) f.len_is b.0
@@ -37,8 +35,8 @@ returns-in-Bytes c =
     let m = c.move_bytes in
     let bytes : AreBytes c.args.s.now = are-bytes c.args.s.now (λ i. omega (arith, c.shared_slice_known-1.given i)) in
     λ from column t b q.
-    let w : (step_of column).want ≡ Want.Bytes = sym (ap (λ (y : Step). y.want) q) ∙ c.in-Bytes.is in
-    let f = of-fixed column Want.Bytes w (λ z. false≢true (ap wants_bytes z)) in
+    let w : (step_of column).want ≡ Some Want.Bytes = sym (ap (λ (y : Step). y.want) q) ∙ c.in_ok-step.was ∙ ap Some c.in-Bytes.is in
+    let f = of-fixed column (Some Want.Bytes) w (λ z. false≢true (ap wants_bytes z)) in
     passed-moved from c.args.to column f.n c.args.step.bytes c.args.s.now c.args.at c.args.row.now c.args.o m.new.row m.result t f.len_is (some column f b)
     (sym f.want_is ∙ w) (ap (λ (y : Step). y.bytes) q ∙ f.bytes-is) bytes (omega (arith, c.requires.0)) m.ensures
 
@@ -47,8 +45,8 @@ returns-in-Integer c =
     let integer = c.in-Integer.integer in
     let m = c.move_integer in
     λ from column t b q.
-    let w : (step_of column).want ≡ Want.Integer integer = sym (ap (λ (y : Step). y.want) q) ∙ c.in-Integer.is in
-    let f = of-fixed column (Want.Integer integer) w (λ z. false≢true (ap wants_integer z)) in
+    let w : (step_of column).want ≡ Some (Want.Integer integer) = sym (ap (λ (y : Step). y.want) q) ∙ c.in_ok-step.was ∙ ap Some c.in-Integer.is in
+    let f = of-fixed column (Some (Want.Integer integer)) w (λ z. false≢true (ap wants_integer z)) in
     let i = integer-wanted column.kind f.n integer (sym f.want_is ∙ w) in
     let len : column.len ≡ Len.Fixed 1 = f.len_is ∙ ap Len.Fixed i.0 in
     let one : is_scalar column ≡ true = ap is_one len in

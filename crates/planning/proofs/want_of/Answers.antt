@@ -1,7 +1,9 @@
 -- planning::want_of: by what the elements are, as the definition has it.
 use borrow.Author.Tests.{eq-eqb, ne_eqb}
+use Rattle.std.specs.Prelude.{Some}
+use mathlib.Core.Path.{ap}
 use Rattle.number.specs.declared.Elements.{Elements}
-use Rattle.planning.proofs.Steps.{one-integer, want-by}
+use Rattle.planning.proofs.Steps.{one-integer, want-by, wants-none}
 use Rattle.planning.specs.Plan.{want_of}
 use Rattle.planning.proofs.want_of.Goals as goal
 
@@ -17,21 +19,17 @@ returns-then-n-eq1 c =
     let a = c.args in
     let integer = c.in-Whole.integer in
     rw (← want-by (Elements.Whole integer) _ a.kind a.n c.in-Whole.is c.elements_of.ensures, eq-eqb _ 1 c.if-n-eq1.true)
-    (one-integer integer)
+    (ap Some (one-integer integer))
 
 pub returns-in-Truths : goal.returns-in-Truths
 unfolding want_of
-returns-in-Truths c = let a = c.args in want-by Elements.Truths _ a.kind a.n c.in-Truths.is c.elements_of.ensures
+returns-in-Truths c = let a = c.args in wants-none _ a.kind a.n c.in-Truths.is c.elements_of.ensures
 
 pub returns-else-n-eq0 : goal.returns-else-n-eq0
 unfolding want_of
 returns-else-n-eq0 c =
     let a = c.args in
     rw (← want-by Elements.Bits _ a.kind a.n c.in-Bits.is c.elements_of.ensures, ne_eqb _ 0 c.if-n-eq0.false)
-
-pub returns-in-Text : goal.returns-in-Text
-unfolding want_of
-returns-in-Text c = let a = c.args in want-by Elements.Text _ a.kind a.n c.in-Text.is c.elements_of.ensures
 
 pub returns-else-n-eq1 : goal.returns-else-n-eq1
 unfolding want_of

@@ -1,4 +1,5 @@
 -- row_moving::begin_text: four bytes of the number of `<TR>` are these bytes.
+use Rattle.std.specs.Prelude.{Ok}
 use Prim.Native.Nat.{◌+◌, ℕ}
 use mathlib.Core.Path.{◌≡◌, subst, sym}
 use lib.ListN.{drop, take}
@@ -27,7 +28,7 @@ returns-then-four_bytes-eq1012159038 c =
     let f = c.four_bytes in
     let b = are-bytes s (λ i. omega (arith, c.shared_slice_known-2-1.given i)) in
     let k = c.if-four_bytes-eq1012159038.true in
-    let Starts : ℕ → Type 0 = λ (i : ℕ). f.result ≡ of_digits 256 0 (take 4 (drop i s)) → Begins TableData c.args.count s c.args.at (Begin.Row 0 (i + 4)) in
+    let Starts : ℕ → Type 0 = λ (i : ℕ). f.result ≡ of_digits 256 0 (take 4 (drop i s)) → Begins TableData c.args.count s c.args.at (Ok (record { flags = 0; cells = i + 4 })) in
     elim c.if-s-at-eq10.branch [
       | then-s-at-eq10 w ↦ subst Starts (sym w.start-is) (begins-line c.args.count s c.args.at b c.requires.0 f.result k w.if-s-at-eq10.true) f.ensures
       | else-s-at-eq10 w ↦ subst Starts (sym w.start-is) (begins-bare c.args.count s c.args.at b c.requires.0 f.result k) f.ensures

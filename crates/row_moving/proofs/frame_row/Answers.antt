@@ -10,8 +10,8 @@ pub write_start-requires : goal.write_start-requires
 write_start-requires c =
     (omega (arith, start-most c.args.to c.args.count c.args.nulls c.requires.0, c.requires.1), c.requires.0)
 
-pub write_end-size-requires : goal.write_end-size-requires
-write_end-size-requires c =
+pub write_end-requires : goal.write_end-requires
+write_end-requires c =
     omega (arith, end-most c.args.to, c.if-row-end-lt-MOST_FRAME_BYTES.false, c.requires.2, wrote-long c.write_start.ensures)
 
 pub returns-then-row-end-lt-MOST_FRAME_BYTES : goal.returns-then-row-end-lt-MOST_FRAME_BYTES
@@ -20,7 +20,7 @@ returns-then-row-end-lt-MOST_FRAME_BYTES c = record { framed = omega (arith, c.i
 pub returns : goal.returns
 returns c =
     let w = c.write_start.ensures in
-    let z = c.write_end-size.ensures in
+    let z = c.write_end.ensures in
     let h = c.if-row-end-lt-MOST_FRAME_BYTES.false in
     let long = wrote-long z ∙ wrote-long w in
     record {

@@ -1,6 +1,7 @@
 -- row_moving::move_rows: rows made in the buffer and copied. Over columns: what is read of the row is what has been read and what is still to come
 -- (RowRead), and its cells stand in the buffer as they are written (RowMoved). Over rows: some rows more are moved (RowsMoved). A way out gives back
 -- what was done before, and says why no row is moved there (Stopping).
+use Rattle.std.specs.Prelude.{Some, None}
 use Prim.Native.Nat.{◌+◌, ◌-◌, ◌<◌, ◌≤◌, suc, ℕ}
 use mathlib.Core.Bool.{Bool}
 use mathlib.Core.List.{List, [], ◌++◌, ◌∷◌}
@@ -39,7 +40,7 @@ use Rattle.table.specs.declared.Column.{Column}
 use Rattle.table.specs.declared.Columns.{Columns}
 use Rattle.table.specs.declared.Rows.{Rows}
 use Rattle.row_moving.proofs.move_rows.Goals as goal
-use Rattle.row_moving.proofs.move_rows.Goals.{in-Careful+in-Cell-move_cell, in-Cell}
+use Rattle.row_moving.proofs.move_rows.Goals.{in-None+in-Some-move_cell, in-Some}
 
 pub start_size-first-requires : goal.start_size-first-requires
 start_size-first-requires c = omega (arith, c.requires.within.0.few, listed-length c.args.cols)
@@ -51,8 +52,8 @@ pub rows-init : goal.rows-init
 rows-init c =
     (rows_none c.args.from c.args.to (listed c.args.cols) c.args.s.now _ _ _ _ c.requires.place_in_bounds.0 c.requires.place_in_bounds.2, refl, refl)
 
-pub begin_quickly-b-requires : goal.begin_quickly-b-requires
-begin_quickly-b-requires c =
+pub begin_quickly-requires : goal.begin_quickly-requires
+begin_quickly-requires c =
     let cols-at : Columns = c.args.cols in
     let are : Within (listed cols-at) = c.requires.within.0 in
     let few : cols-at.count ≤ 64 = omega (arith, are.few, listed-length cols-at) in
@@ -65,11 +66,11 @@ loop-i-init c =
     let to_at : Rows = c.args.to in
     let cols-at : Columns = c.args.cols in
     let s-at : List ℕ = c.args.s.now in
-    let flags-at : ℕ = c.in-Row.f in
-    let body_at : ℕ = c.in-Row.a in
+    let flags-at : ℕ = c.in-Ok.begun.flags in
+    let body_at : ℕ = c.in-Ok.begun.cells in
     let within : (c.rows.place ≤ body_at) × (body_at ≤ length s-at) = (
-    let g = c.begin_quickly-b in
-    begun-within from_at (listed cols-at) cols-at.count (listed-length cols-at) s-at c.rows.place g.result g.ensures flags-at body_at c.in-Row.is) in
+    let g = c.begin_quickly in
+    begun-within from_at (listed cols-at) cols-at.count (listed-length cols-at) s-at c.rows.place g.result g.ensures c.in-Ok.begun c.in-Ok.is) in
     let roomy : c.start_size-first.result ≤ length c.rows.row = omega (arith, c.start_size-first.ensures.0, c.rows.invariant.2, c.requires.within.2) in
     (read-start from_at (listed cols-at) _ s-at body_at within.1, moved-start to_at (listed cols-at) c.rows.row _ roomy, refl)
 
@@ -128,7 +129,7 @@ move_cell-requires c =
     c.move_planned-planned.ensures column-at (listed-bounded cols-at c.loop-i.i are c.loop-i-test.true) step_is) in
     let declined : Puts c.loop-i.row c.loop-i.end [] planned-row c.loop-i.end = (
     let l = c.loop-i in
-    subst (MovesCell from_at to_at column-at flag_at s-at l.at l.row l.end planned-row) c.in-Careful.is by-plan) in
+    subst (MovesCell from_at to_at column-at flag_at s-at l.at l.row l.end planned-row) c.in-None.is by-plan) in
     let l = c.loop-i in (
       l.invariant.0.inside,
       listed-bound cols-at l.i are c.loop-i-test.true,
@@ -138,14 +139,6 @@ move_cell-requires c =
 
 pub add_flag-nulls-requires : goal.add_flag-nulls-requires
 add_flag-nulls-requires c =
-    let cols-at : Columns = c.args.cols in
-    let are : Within (listed cols-at) = c.requires.within.0 in
-    let few : cols-at.count ≤ 64 = omega (arith, are.few, listed-length cols-at) in
-    let few-turns : c.loop-i.i < 64 = omega (arith, few, c.loop-i-test.true) in
-    few-turns
-
-pub add_flag-nulls-requires-in-Careful : goal.add_flag-nulls-requires-in-Careful
-add_flag-nulls-requires-in-Careful c =
     let cols-at : Columns = c.args.cols in
     let are : Within (listed cols-at) = c.requires.within.0 in
     let few : cols-at.count ≤ 64 = omega (arith, are.few, listed-length cols-at) in
@@ -171,8 +164,8 @@ loop-i-preserved c =
     let cols-at : Columns = c.args.cols in
     let s-at : List ℕ = c.args.s.now in
     let are : Within (listed cols-at) = c.requires.within.0 in
-    let flags-at : ℕ = c.in-Row.f in
-    let body_at : ℕ = c.in-Row.a in
+    let flags-at : ℕ = c.in-Ok.begun.flags in
+    let body_at : ℕ = c.in-Ok.begun.cells in
     let column-at : Column = get_or cols-at.list c.loop-i.i no_column in
     let next-column : drop c.loop-i.i (listed cols-at) ≡ column-at ∷ drop (suc c.loop-i.i) (listed cols-at) = listed_next cols-at c.loop-i.i c.loop-i-test.true in
     let step_is : get_or c.plan_of-plan.result.list c.loop-i.i no_step ≡ step_of column-at = (
@@ -194,18 +187,17 @@ loop-i-preserved c =
     )) in
     let l = c.loop-i in
     elim c.match-planned.branch [
-      | in-Cell w ↦
-          let x = subst (MovesCell from_at to_at column-at flag_at s-at l.at l.row l.end planned-row) w.in-Cell.is by-plan in
-          let a = advance planned-row _ _ _ _ x w.add_flag-nulls.ensures in
-          rw (w.scratch-is, w.row-is, w.at-is, w.end-is, w.nulls-is) (a.0, a.1, l.invariant.2)
-      | in-Careful+in-Cell-move_cell w ↦
-          let declined = subst (MovesCell from_at to_at column-at flag_at s-at l.at l.row l.end planned-row) w.in-Careful.is by-plan in
+      | in-Some w ↦
+          let x = subst (MovesCell from_at to_at column-at flag_at s-at l.at l.row l.end planned-row) (w.in-Some.is ∙ ap Some (sym w.moved-is)) by-plan in
+          let a = advance planned-row _ _ _ _ x c.add_flag-nulls.ensures in
+          rw (w.scratch-is, w.row-is) (a.0, a.1, l.invariant.2)
+      | in-None+in-Some-move_cell w ↦
+          let declined = subst (MovesCell from_at to_at column-at flag_at s-at l.at l.row l.end planned-row) w.in-None.is by-plan in
           let m = w.move_cell in
-          let n = w.in-Cell-move_cell in
-          let y = subst (SettlesCell from_at to_at column-at flag_at s-at l.at planned-row l.end m.new.row) n.is m.ensures.settles_cell in
-          let x = settled-after from_at to_at column-at flag_at s-at l.at l.row l.end planned-row _ (Moved.Cell n.next n.e n.null) declined y in
-          let a = advance _ _ _ _ _ x w.add_flag-nulls-in-Careful.ensures in
-          rw (w.scratch-is, w.row-is, w.at-is, w.end-is, w.nulls-is) (a.0, a.1, m.ensures.scratch_len_unchanged ∙ l.invariant.2)
+          let y = subst (SettlesCell from_at to_at column-at flag_at s-at l.at planned-row l.end m.new.row) (w.in-Some-move_cell.is ∙ ap Some (sym w.moved-is)) m.ensures.settles_cell in
+          let x = settled-after from_at to_at column-at flag_at s-at l.at l.row l.end planned-row _ (Some c.match-planned.moved) declined y in
+          let a = advance _ _ _ _ _ x c.add_flag-nulls.ensures in
+          rw (w.scratch-is, w.row-is) (a.0, a.1, m.ensures.scratch_len_unchanged ∙ l.invariant.2)
     ]
 
 pub end_row-requires : goal.end_row-requires
@@ -228,13 +220,13 @@ put_row-bytes-requires c =
     let cols-at : Columns = c.args.cols in
     let starts : (nulls : ℕ) → length (start_bytes to_at cols-at.count nulls) ≡ c.start_size-first.result = λ nulls. c.start_size-first.ensures.1 nulls in
     let roomy : c.start_size-first.result ≤ length c.rows.row = omega (arith, c.start_size-first.ensures.0, c.rows.invariant.2, c.requires.within.2) in
-    let size-at : ℕ = c.in-Row-frame_row.size in
+    let size-at : ℕ = c.in-Some-frame_row.size in
     let framed-row : List ℕ = c.frame_row.new.row in
     let row-bytes : List ℕ = (let l = c.loop-i in
     start_bytes to_at cols-at.count l.nulls ++ (l.invariant.1.w ++ write_end to_at)) in
     let stands : (size-at ≤ length framed-row) × (take size-at framed-row ≡ row-bytes) = (let l = c.loop-i in
     let g = c.frame_row.ensures.framed in
-    let k = subst (FramedAs to_at cols-at.count l.nulls l.row l.end framed-row) c.in-Row-frame_row.is g in
+    let k = subst (FramedAs to_at cols-at.count l.nulls l.row l.end framed-row) c.in-Some-frame_row.is g in
     (k.0, k.1 l.invariant.1.w (take c.start_size-first.result c.rows.row) l.invariant.1.puts.front (length-take-le _ c.rows.row roomy ∙ sym (starts l.nulls)))) in
     (stands.0, omega (arith, c.if-out-bytes.false, c.rows.invariant.0.room))
 
@@ -244,21 +236,21 @@ overflow_add-rows c =
     let cols-at : Columns = c.args.cols in
     let s-at : List ℕ = c.args.s.now in
     let are : Within (listed cols-at) = c.requires.within.0 in
-    let flags-at : ℕ = c.in-Row.f in
-    let body_at : ℕ = c.in-Row.a in
+    let flags-at : ℕ = c.in-Ok.begun.flags in
+    let body_at : ℕ = c.in-Ok.begun.cells in
     let begun : read_row from_at (listed cols-at) (drop c.rows.place s-at) ≡ cells_end from_at (listed cols-at) (flags_in from_at cols-at.count flags-at) (drop body_at s-at) = (
-    let g = c.begin_quickly-b in
-    row-begun from_at (listed cols-at) cols-at.count (listed-length cols-at) s-at c.rows.place g.result g.ensures flags-at body_at c.in-Row.is) in
-    let next-at : ℕ = c.in-Closed.next in
+    let g = c.begin_quickly in
+    row-begun from_at (listed cols-at) cols-at.count (listed-length cols-at) s-at c.rows.place g.result g.ensures c.in-Ok.begun c.in-Ok.is) in
+    let next-at : ℕ = c.in-Ok-end_row.next in
     let past : length (listed cols-at) ≤ c.loop-i.i = omega (arith, listed-length cols-at, c.loop-i-test.false) in
     let whole : read_row from_at (listed cols-at) (drop c.rows.place s-at) ≡ good (c.loop-i.invariant.0.acc, drop next-at s-at) = (
     let l = c.loop-i in
     let z = c.end_row in
     let q = read-end from_at (listed cols-at) _ s-at body_at l.at l.i l.invariant.0 past in
-    begun ∙ cells-closed from_at (listed cols-at) _ s-at body_at _ _ q z.result z.ensures next-at c.in-Closed.is) in
+    begun ∙ cells-closed from_at (listed cols-at) _ s-at body_at _ _ q z.result z.ensures next-at c.in-Ok-end_row.is) in
     let onward : (c.rows.place < next-at) × (next-at ≤ length s-at) = (
     let z = c.end_row in
-    let w = closed-within from_at s-at c.loop-i.at z.result z.ensures next-at c.in-Closed.is in
+    let w = closed-within from_at s-at c.loop-i.at z.result z.ensures next-at c.in-Ok-end_row.is in
     (row-onward from_at (listed cols-at) s-at c.rows.place next-at _ are whole w.1, w.1)) in
     let f = rows-further c.rows.invariant.0 are c.requires.place_in_bounds.0 c.requires.place_in_bounds.1 in
     omega (arith, f.fewer, onward.0, onward.1)
@@ -269,21 +261,21 @@ rows-smaller c =
     let cols-at : Columns = c.args.cols in
     let s-at : List ℕ = c.args.s.now in
     let are : Within (listed cols-at) = c.requires.within.0 in
-    let flags-at : ℕ = c.in-Row.f in
-    let body_at : ℕ = c.in-Row.a in
+    let flags-at : ℕ = c.in-Ok.begun.flags in
+    let body_at : ℕ = c.in-Ok.begun.cells in
     let begun : read_row from_at (listed cols-at) (drop c.rows.place s-at) ≡ cells_end from_at (listed cols-at) (flags_in from_at cols-at.count flags-at) (drop body_at s-at) = (
-    let g = c.begin_quickly-b in
-    row-begun from_at (listed cols-at) cols-at.count (listed-length cols-at) s-at c.rows.place g.result g.ensures flags-at body_at c.in-Row.is) in
-    let next-at : ℕ = c.in-Closed.next in
+    let g = c.begin_quickly in
+    row-begun from_at (listed cols-at) cols-at.count (listed-length cols-at) s-at c.rows.place g.result g.ensures c.in-Ok.begun c.in-Ok.is) in
+    let next-at : ℕ = c.in-Ok-end_row.next in
     let past : length (listed cols-at) ≤ c.loop-i.i = omega (arith, listed-length cols-at, c.loop-i-test.false) in
     let whole : read_row from_at (listed cols-at) (drop c.rows.place s-at) ≡ good (c.loop-i.invariant.0.acc, drop next-at s-at) = (
     let l = c.loop-i in
     let z = c.end_row in
     let q = read-end from_at (listed cols-at) _ s-at body_at l.at l.i l.invariant.0 past in
-    begun ∙ cells-closed from_at (listed cols-at) _ s-at body_at _ _ q z.result z.ensures next-at c.in-Closed.is) in
+    begun ∙ cells-closed from_at (listed cols-at) _ s-at body_at _ _ q z.result z.ensures next-at c.in-Ok-end_row.is) in
     let onward : (c.rows.place < next-at) × (next-at ≤ length s-at) = (
     let z = c.end_row in
-    let w = closed-within from_at s-at c.loop-i.at z.result z.ensures next-at c.in-Closed.is in
+    let w = closed-within from_at s-at c.loop-i.at z.result z.ensures next-at c.in-Ok-end_row.is in
     (row-onward from_at (listed cols-at) s-at c.rows.place next-at _ are whole w.1, w.1)) in
     omega (arith, onward.0, onward.1)
 
@@ -294,25 +286,25 @@ rows-preserved c =
     let cols-at : Columns = c.args.cols in
     let s-at : List ℕ = c.args.s.now in
     let are : Within (listed cols-at) = c.requires.within.0 in
-    let flags-at : ℕ = c.in-Row.f in
-    let body_at : ℕ = c.in-Row.a in
+    let flags-at : ℕ = c.in-Ok.begun.flags in
+    let body_at : ℕ = c.in-Ok.begun.cells in
     let begun : read_row from_at (listed cols-at) (drop c.rows.place s-at) ≡ cells_end from_at (listed cols-at) (flags_in from_at cols-at.count flags-at) (drop body_at s-at) = (
-    let g = c.begin_quickly-b in
-    row-begun from_at (listed cols-at) cols-at.count (listed-length cols-at) s-at c.rows.place g.result g.ensures flags-at body_at c.in-Row.is) in
+    let g = c.begin_quickly in
+    row-begun from_at (listed cols-at) cols-at.count (listed-length cols-at) s-at c.rows.place g.result g.ensures c.in-Ok.begun c.in-Ok.is) in
     let starts : (nulls : ℕ) → length (start_bytes to_at cols-at.count nulls) ≡ c.start_size-first.result = λ nulls. c.start_size-first.ensures.1 nulls in
     let roomy : c.start_size-first.result ≤ length c.rows.row = omega (arith, c.start_size-first.ensures.0, c.rows.invariant.2, c.requires.within.2) in
-    let next-at : ℕ = c.in-Closed.next in
+    let next-at : ℕ = c.in-Ok-end_row.next in
     let past : length (listed cols-at) ≤ c.loop-i.i = omega (arith, listed-length cols-at, c.loop-i-test.false) in
     let whole : read_row from_at (listed cols-at) (drop c.rows.place s-at) ≡ good (c.loop-i.invariant.0.acc, drop next-at s-at) = (
     let l = c.loop-i in
     let z = c.end_row in
     let q = read-end from_at (listed cols-at) _ s-at body_at l.at l.i l.invariant.0 past in
-    begun ∙ cells-closed from_at (listed cols-at) _ s-at body_at _ _ q z.result z.ensures next-at c.in-Closed.is) in
+    begun ∙ cells-closed from_at (listed cols-at) _ s-at body_at _ _ q z.result z.ensures next-at c.in-Ok-end_row.is) in
     let onward : (c.rows.place < next-at) × (next-at ≤ length s-at) = (
     let z = c.end_row in
-    let w = closed-within from_at s-at c.loop-i.at z.result z.ensures next-at c.in-Closed.is in
+    let w = closed-within from_at s-at c.loop-i.at z.result z.ensures next-at c.in-Ok-end_row.is in
     (row-onward from_at (listed cols-at) s-at c.rows.place next-at _ are whole w.1, w.1)) in
-    let size-at : ℕ = c.in-Row-frame_row.size in
+    let size-at : ℕ = c.in-Some-frame_row.size in
     let framed-row : List ℕ = c.frame_row.new.row in
     let row-bytes : List ℕ = (let l = c.loop-i in
     start_bytes to_at cols-at.count l.nulls ++ (l.invariant.1.w ++ write_end to_at)) in
@@ -322,7 +314,7 @@ rows-preserved c =
     (omega (arith, past, l.invariant.0.upto, listed-length cols-at))) in
     let stands : (size-at ≤ length framed-row) × (take size-at framed-row ≡ row-bytes) = (let l = c.loop-i in
     let g = c.frame_row.ensures.framed in
-    let k = subst (FramedAs to_at cols-at.count l.nulls l.row l.end framed-row) c.in-Row-frame_row.is g in
+    let k = subst (FramedAs to_at cols-at.count l.nulls l.row l.end framed-row) c.in-Some-frame_row.is g in
     (k.0, k.1 l.invariant.1.w (take c.start_size-first.result c.rows.row) l.invariant.1.puts.front (length-take-le _ c.rows.row roomy ∙ sym (starts l.nulls)))) in
     let as_many : length row-bytes ≡ size-at = ap length (sym stands.1) ∙ length-take-le size-at framed-row stands.0 in
     let l = c.loop-i in
@@ -336,64 +328,33 @@ rows-preserved c =
       g.long ∙ l.invariant.1.puts.long ∙ c.rows.invariant.2,
     )
 
-pub returns-in-Refused : goal.returns-in-Refused
-returns-in-Refused c =
-    let from_at : Rows = c.args.from in
-    let to_at : Rows = c.args.to in
-    let cols-at : Columns = c.args.cols in
-    let s-at : List ℕ = c.args.s.now in
-    let LeftAt : Type 0 = RowLeft from_at to_at (listed cols-at) s-at c.rows.place c.rows.out c.rows.bytes (length c.args.row.now) in
-    let unbegun : LeftAt = (let g = c.begin_quickly-b in
-    unread-left from_at to_at (listed cols-at) s-at c.rows.place c.rows.out c.rows.bytes _ _
-    (row-unbegun from_at (listed cols-at) cols-at.count (listed-length cols-at) s-at c.rows.place g.result g.ensures _ c.in-Refused.is)) in
-    record {
-      moves_rows = record { moved = c.rows.invariant.0; stops = unbegun };
-      scratch_len_unchanged = c.rows.invariant.1;
-      row_len_unchanged = c.rows.invariant.2;
-    }
-
-pub shape_of-scratch-in_default : goal.shape_of-scratch-in_default
-shape_of-scratch-in_default c =
-    c.move_cell.ensures.scratch_len_unchanged ∙ c.loop-i.invariant.2 ∙ c.rows.invariant.1
-
-pub shape_of-row-in_default : goal.shape_of-row-in_default
-shape_of-row-in_default c =
-    let from_at : Rows = c.args.from in
-    let to_at : Rows = c.args.to in
-    let cols-at : Columns = c.args.cols in
-    let s-at : List ℕ = c.args.s.now in
-    let are : Within (listed cols-at) = c.requires.within.0 in
-    let column-at : Column = get_or cols-at.list c.loop-i.i no_column in
-    let next-column : drop c.loop-i.i (listed cols-at) ≡ column-at ∷ drop (suc c.loop-i.i) (listed cols-at) = listed_next cols-at c.loop-i.i c.loop-i-test.true in
-    let step_is : get_or c.plan_of-plan.result.list c.loop-i.i no_step ≡ step_of column-at = (
-    ap (λ (p : Plan). get_or p.list c.loop-i.i no_step) c.plan_of-plan.ensures ∙ plan-at (listed cols-at) c.loop-i.i column-at next-column) in
-    let flag_at : Bool = c.flag_of-flagged.result in
-    let planned-row : List ℕ = c.move_planned-planned.new.row in
-    let by-plan : let l = c.loop-i in MovesCell from_at to_at column-at flag_at s-at l.at l.row l.end planned-row c.move_planned-planned.result = (
-    c.move_planned-planned.ensures column-at (listed-bounded cols-at c.loop-i.i are c.loop-i-test.true) step_is) in
-    let declined : Puts c.loop-i.row c.loop-i.end [] planned-row c.loop-i.end = (
-    let l = c.loop-i in
-    subst (MovesCell from_at to_at column-at flag_at s-at l.at l.row l.end planned-row) c.in-Careful.is by-plan) in
-    let unmoved-cell : let l = c.loop-i in CellLeft from_at to_at column-at flag_at s-at l.at l.row l.end c.move_cell.new.row = (
-    let l = c.loop-i in
-    let m = c.move_cell in
-    settled-after from_at to_at column-at flag_at s-at l.at l.row l.end planned-row _ Moved.Careful declined
-    (subst (SettlesCell from_at to_at column-at _ s-at l.at planned-row l.end _) c.in_default.is m.ensures.settles_cell)) in
-    let l = c.loop-i in
-    unmoved-cell.puts.long ∙ l.invariant.1.puts.long ∙ c.rows.invariant.2
-
 pub returns-in_default : goal.returns-in_default
 returns-in_default c =
     let from_at : Rows = c.args.from in
     let to_at : Rows = c.args.to in
     let cols-at : Columns = c.args.cols in
     let s-at : List ℕ = c.args.s.now in
+    let LeftAt : Type 0 = RowLeft from_at to_at (listed cols-at) s-at c.rows.place c.rows.out c.rows.bytes (length c.args.row.now) in
+    let unbegun : LeftAt = (let g = c.begin_quickly in
+    unread-left from_at to_at (listed cols-at) s-at c.rows.place c.rows.out c.rows.bytes _ _
+    (row-unbegun from_at (listed cols-at) cols-at.count (listed-length cols-at) s-at c.rows.place g.result g.ensures _ c.in_default.is)) in
+    record {
+      moves_rows = record { moved = c.rows.invariant.0; stops = unbegun };
+      scratch_len_unchanged = c.rows.invariant.1;
+      row_len_unchanged = c.rows.invariant.2;
+    }
+
+pub shape_of-scratch-in_default-move_cell : goal.shape_of-scratch-in_default-move_cell
+shape_of-scratch-in_default-move_cell c =
+    c.move_cell.ensures.scratch_len_unchanged ∙ c.loop-i.invariant.2 ∙ c.rows.invariant.1
+
+pub shape_of-row-in_default-move_cell : goal.shape_of-row-in_default-move_cell
+shape_of-row-in_default-move_cell c =
+    let from_at : Rows = c.args.from in
+    let to_at : Rows = c.args.to in
+    let cols-at : Columns = c.args.cols in
+    let s-at : List ℕ = c.args.s.now in
     let are : Within (listed cols-at) = c.requires.within.0 in
-    let flags-at : ℕ = c.in-Row.f in
-    let body_at : ℕ = c.in-Row.a in
-    let begun : read_row from_at (listed cols-at) (drop c.rows.place s-at) ≡ cells_end from_at (listed cols-at) (flags_in from_at cols-at.count flags-at) (drop body_at s-at) = (
-    let g = c.begin_quickly-b in
-    row-begun from_at (listed cols-at) cols-at.count (listed-length cols-at) s-at c.rows.place g.result g.ensures flags-at body_at c.in-Row.is) in
     let column-at : Column = get_or cols-at.list c.loop-i.i no_column in
     let next-column : drop c.loop-i.i (listed cols-at) ≡ column-at ∷ drop (suc c.loop-i.i) (listed cols-at) = listed_next cols-at c.loop-i.i c.loop-i-test.true in
     let step_is : get_or c.plan_of-plan.result.list c.loop-i.i no_step ≡ step_of column-at = (
@@ -404,13 +365,44 @@ returns-in_default c =
     c.move_planned-planned.ensures column-at (listed-bounded cols-at c.loop-i.i are c.loop-i-test.true) step_is) in
     let declined : Puts c.loop-i.row c.loop-i.end [] planned-row c.loop-i.end = (
     let l = c.loop-i in
-    subst (MovesCell from_at to_at column-at flag_at s-at l.at l.row l.end planned-row) c.in-Careful.is by-plan) in
+    subst (MovesCell from_at to_at column-at flag_at s-at l.at l.row l.end planned-row) c.in-None.is by-plan) in
+    let unmoved-cell : let l = c.loop-i in CellLeft from_at to_at column-at flag_at s-at l.at l.row l.end c.move_cell.new.row = (
+    let l = c.loop-i in
+    let m = c.move_cell in
+    settled-after from_at to_at column-at flag_at s-at l.at l.row l.end planned-row _ None declined
+    (subst (SettlesCell from_at to_at column-at _ s-at l.at planned-row l.end _) c.in_default-move_cell.is m.ensures.settles_cell)) in
+    let l = c.loop-i in
+    unmoved-cell.puts.long ∙ l.invariant.1.puts.long ∙ c.rows.invariant.2
+
+pub returns-in_default-move_cell : goal.returns-in_default-move_cell
+returns-in_default-move_cell c =
+    let from_at : Rows = c.args.from in
+    let to_at : Rows = c.args.to in
+    let cols-at : Columns = c.args.cols in
+    let s-at : List ℕ = c.args.s.now in
+    let are : Within (listed cols-at) = c.requires.within.0 in
+    let flags-at : ℕ = c.in-Ok.begun.flags in
+    let body_at : ℕ = c.in-Ok.begun.cells in
+    let begun : read_row from_at (listed cols-at) (drop c.rows.place s-at) ≡ cells_end from_at (listed cols-at) (flags_in from_at cols-at.count flags-at) (drop body_at s-at) = (
+    let g = c.begin_quickly in
+    row-begun from_at (listed cols-at) cols-at.count (listed-length cols-at) s-at c.rows.place g.result g.ensures c.in-Ok.begun c.in-Ok.is) in
+    let column-at : Column = get_or cols-at.list c.loop-i.i no_column in
+    let next-column : drop c.loop-i.i (listed cols-at) ≡ column-at ∷ drop (suc c.loop-i.i) (listed cols-at) = listed_next cols-at c.loop-i.i c.loop-i-test.true in
+    let step_is : get_or c.plan_of-plan.result.list c.loop-i.i no_step ≡ step_of column-at = (
+    ap (λ (p : Plan). get_or p.list c.loop-i.i no_step) c.plan_of-plan.ensures ∙ plan-at (listed cols-at) c.loop-i.i column-at next-column) in
+    let flag_at : Bool = c.flag_of-flagged.result in
+    let planned-row : List ℕ = c.move_planned-planned.new.row in
+    let by-plan : let l = c.loop-i in MovesCell from_at to_at column-at flag_at s-at l.at l.row l.end planned-row c.move_planned-planned.result = (
+    c.move_planned-planned.ensures column-at (listed-bounded cols-at c.loop-i.i are c.loop-i-test.true) step_is) in
+    let declined : Puts c.loop-i.row c.loop-i.end [] planned-row c.loop-i.end = (
+    let l = c.loop-i in
+    subst (MovesCell from_at to_at column-at flag_at s-at l.at l.row l.end planned-row) c.in-None.is by-plan) in
     let LeftAt : Type 0 = RowLeft from_at to_at (listed cols-at) s-at c.rows.place c.rows.out c.rows.bytes (length c.args.row.now) in
     let unmoved-cell : let l = c.loop-i in CellLeft from_at to_at column-at flag_at s-at l.at l.row l.end c.move_cell.new.row = (
     let l = c.loop-i in
     let m = c.move_cell in
-    settled-after from_at to_at column-at flag_at s-at l.at l.row l.end planned-row _ Moved.Careful declined
-    (subst (SettlesCell from_at to_at column-at _ s-at l.at planned-row l.end _) c.in_default.is m.ensures.settles_cell)) in
+    settled-after from_at to_at column-at flag_at s-at l.at l.row l.end planned-row _ None declined
+    (subst (SettlesCell from_at to_at column-at _ s-at l.at planned-row l.end _) c.in_default-move_cell.is m.ensures.settles_cell)) in
     let uncelled : LeftAt = (
     let l = c.loop-i in
     let f = c.flag_of-flagged in
@@ -418,8 +410,8 @@ returns-in_default c =
     c.rows.row _ l.row l.end l.nulls l.invariant.1 c.start_size-first.ensures.0 c.rows.invariant.2 column-at next-column f.result f.ensures _ unmoved-cell) in
     record {
       moves_rows = record { moved = c.rows.invariant.0; stops = uncelled };
-      scratch_len_unchanged = shape_of-scratch-in_default c;
-      row_len_unchanged = shape_of-row-in_default c;
+      scratch_len_unchanged = shape_of-scratch-in_default-move_cell c;
+      row_len_unchanged = shape_of-row-in_default-move_cell c;
     }
 
 pub returns-in_default-end_row : goal.returns-in_default-end_row
@@ -428,11 +420,11 @@ returns-in_default-end_row c =
     let to_at : Rows = c.args.to in
     let cols-at : Columns = c.args.cols in
     let s-at : List ℕ = c.args.s.now in
-    let flags-at : ℕ = c.in-Row.f in
-    let body_at : ℕ = c.in-Row.a in
+    let flags-at : ℕ = c.in-Ok.begun.flags in
+    let body_at : ℕ = c.in-Ok.begun.cells in
     let begun : read_row from_at (listed cols-at) (drop c.rows.place s-at) ≡ cells_end from_at (listed cols-at) (flags_in from_at cols-at.count flags-at) (drop body_at s-at) = (
-    let g = c.begin_quickly-b in
-    row-begun from_at (listed cols-at) cols-at.count (listed-length cols-at) s-at c.rows.place g.result g.ensures flags-at body_at c.in-Row.is) in
+    let g = c.begin_quickly in
+    row-begun from_at (listed cols-at) cols-at.count (listed-length cols-at) s-at c.rows.place g.result g.ensures c.in-Ok.begun c.in-Ok.is) in
     let past : length (listed cols-at) ≤ c.loop-i.i = omega (arith, listed-length cols-at, c.loop-i-test.false) in
     let LeftAt : Type 0 = RowLeft from_at to_at (listed cols-at) s-at c.rows.place c.rows.out c.rows.bytes (length c.args.row.now) in
     let loop-scratch : length c.loop-i.scratch ≡ length c.args.scratch.now = c.loop-i.invariant.2 ∙ c.rows.invariant.1 in
@@ -451,19 +443,19 @@ returns-in_default-frame_row c =
     let to_at : Rows = c.args.to in
     let cols-at : Columns = c.args.cols in
     let s-at : List ℕ = c.args.s.now in
-    let flags-at : ℕ = c.in-Row.f in
-    let body_at : ℕ = c.in-Row.a in
+    let flags-at : ℕ = c.in-Ok.begun.flags in
+    let body_at : ℕ = c.in-Ok.begun.cells in
     let begun : read_row from_at (listed cols-at) (drop c.rows.place s-at) ≡ cells_end from_at (listed cols-at) (flags_in from_at cols-at.count flags-at) (drop body_at s-at) = (
-    let g = c.begin_quickly-b in
-    row-begun from_at (listed cols-at) cols-at.count (listed-length cols-at) s-at c.rows.place g.result g.ensures flags-at body_at c.in-Row.is) in
+    let g = c.begin_quickly in
+    row-begun from_at (listed cols-at) cols-at.count (listed-length cols-at) s-at c.rows.place g.result g.ensures c.in-Ok.begun c.in-Ok.is) in
     let starts : (nulls : ℕ) → length (start_bytes to_at cols-at.count nulls) ≡ c.start_size-first.result = λ nulls. c.start_size-first.ensures.1 nulls in
-    let next-at : ℕ = c.in-Closed.next in
+    let next-at : ℕ = c.in-Ok-end_row.next in
     let past : length (listed cols-at) ≤ c.loop-i.i = omega (arith, listed-length cols-at, c.loop-i-test.false) in
     let whole : read_row from_at (listed cols-at) (drop c.rows.place s-at) ≡ good (c.loop-i.invariant.0.acc, drop next-at s-at) = (
     let l = c.loop-i in
     let z = c.end_row in
     let q = read-end from_at (listed cols-at) _ s-at body_at l.at l.i l.invariant.0 past in
-    begun ∙ cells-closed from_at (listed cols-at) _ s-at body_at _ _ q z.result z.ensures next-at c.in-Closed.is) in
+    begun ∙ cells-closed from_at (listed cols-at) _ s-at body_at _ _ q z.result z.ensures next-at c.in-Ok-end_row.is) in
     let row-bytes : List ℕ = (let l = c.loop-i in
     start_bytes to_at cols-at.count l.nulls ++ (l.invariant.1.w ++ write_end to_at)) in
     let written_at : write_row to_at (listed cols-at) c.loop-i.invariant.0.acc ≡ good row-bytes = (
@@ -494,21 +486,21 @@ returns-then-out-bytes c =
     let to_at : Rows = c.args.to in
     let cols-at : Columns = c.args.cols in
     let s-at : List ℕ = c.args.s.now in
-    let flags-at : ℕ = c.in-Row.f in
-    let body_at : ℕ = c.in-Row.a in
+    let flags-at : ℕ = c.in-Ok.begun.flags in
+    let body_at : ℕ = c.in-Ok.begun.cells in
     let begun : read_row from_at (listed cols-at) (drop c.rows.place s-at) ≡ cells_end from_at (listed cols-at) (flags_in from_at cols-at.count flags-at) (drop body_at s-at) = (
-    let g = c.begin_quickly-b in
-    row-begun from_at (listed cols-at) cols-at.count (listed-length cols-at) s-at c.rows.place g.result g.ensures flags-at body_at c.in-Row.is) in
+    let g = c.begin_quickly in
+    row-begun from_at (listed cols-at) cols-at.count (listed-length cols-at) s-at c.rows.place g.result g.ensures c.in-Ok.begun c.in-Ok.is) in
     let starts : (nulls : ℕ) → length (start_bytes to_at cols-at.count nulls) ≡ c.start_size-first.result = λ nulls. c.start_size-first.ensures.1 nulls in
     let roomy : c.start_size-first.result ≤ length c.rows.row = omega (arith, c.start_size-first.ensures.0, c.rows.invariant.2, c.requires.within.2) in
-    let next-at : ℕ = c.in-Closed.next in
+    let next-at : ℕ = c.in-Ok-end_row.next in
     let past : length (listed cols-at) ≤ c.loop-i.i = omega (arith, listed-length cols-at, c.loop-i-test.false) in
     let whole : read_row from_at (listed cols-at) (drop c.rows.place s-at) ≡ good (c.loop-i.invariant.0.acc, drop next-at s-at) = (
     let l = c.loop-i in
     let z = c.end_row in
     let q = read-end from_at (listed cols-at) _ s-at body_at l.at l.i l.invariant.0 past in
-    begun ∙ cells-closed from_at (listed cols-at) _ s-at body_at _ _ q z.result z.ensures next-at c.in-Closed.is) in
-    let size-at : ℕ = c.in-Row-frame_row.size in
+    begun ∙ cells-closed from_at (listed cols-at) _ s-at body_at _ _ q z.result z.ensures next-at c.in-Ok-end_row.is) in
+    let size-at : ℕ = c.in-Some-frame_row.size in
     let framed-row : List ℕ = c.frame_row.new.row in
     let row-bytes : List ℕ = (let l = c.loop-i in
     start_bytes to_at cols-at.count l.nulls ++ (l.invariant.1.w ++ write_end to_at)) in
@@ -518,7 +510,7 @@ returns-then-out-bytes c =
     (omega (arith, past, l.invariant.0.upto, listed-length cols-at))) in
     let stands : (size-at ≤ length framed-row) × (take size-at framed-row ≡ row-bytes) = (let l = c.loop-i in
     let g = c.frame_row.ensures.framed in
-    let k = subst (FramedAs to_at cols-at.count l.nulls l.row l.end framed-row) c.in-Row-frame_row.is g in
+    let k = subst (FramedAs to_at cols-at.count l.nulls l.row l.end framed-row) c.in-Some-frame_row.is g in
     (k.0, k.1 l.invariant.1.w (take c.start_size-first.result c.rows.row) l.invariant.1.puts.front (length-take-le _ c.rows.row roomy ∙ sym (starts l.nulls)))) in
     let as_many : length row-bytes ≡ size-at = ap length (sym stands.1) ∙ length-take-le size-at framed-row stands.0 in
     let LeftAt : Type 0 = RowLeft from_at to_at (listed cols-at) s-at c.rows.place c.rows.out c.rows.bytes (length c.args.row.now) in
@@ -550,17 +542,17 @@ bounds-cols-i c =
     let few-turns : c.loop-i.i < 64 = omega (arith, few, c.loop-i-test.true) in
     few-turns
 
-pub shape_of-out-in-Refused : goal.shape_of-out-in-Refused
-shape_of-out-in-Refused c = wrote-long (returns-in-Refused c).moves_rows.moved.wrote
-
-pub shape_of-scratch-in-Refused : goal.shape_of-scratch-in-Refused
-shape_of-scratch-in-Refused c = (returns-in-Refused c).scratch_len_unchanged
-
-pub shape_of-row-in-Refused : goal.shape_of-row-in-Refused
-shape_of-row-in-Refused c = (returns-in-Refused c).row_len_unchanged
-
 pub shape_of-out-in_default : goal.shape_of-out-in_default
 shape_of-out-in_default c = wrote-long (returns-in_default c).moves_rows.moved.wrote
+
+pub shape_of-scratch-in_default : goal.shape_of-scratch-in_default
+shape_of-scratch-in_default c = (returns-in_default c).scratch_len_unchanged
+
+pub shape_of-row-in_default : goal.shape_of-row-in_default
+shape_of-row-in_default c = (returns-in_default c).row_len_unchanged
+
+pub shape_of-out-in_default-move_cell : goal.shape_of-out-in_default-move_cell
+shape_of-out-in_default-move_cell c = wrote-long (returns-in_default-move_cell c).moves_rows.moved.wrote
 
 pub shape_of-out-in_default-end_row : goal.shape_of-out-in_default-end_row
 shape_of-out-in_default-end_row c = wrote-long (returns-in_default-end_row c).moves_rows.moved.wrote

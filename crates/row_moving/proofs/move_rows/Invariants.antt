@@ -42,7 +42,7 @@ use Rattle.row_moving.proofs.move_rows.Given as goal
 
 abbrev pub invariant-loop-i : goal.invariant-loop-i
 invariant-loop-i l =
-    (k : RowRead l.from (listed l.cols) (flags_in l.from l.count l.flags) l.s l.body l.at l.i) × RowMoved l.to (listed l.cols) k.acc l.initial.row l.first l.row l.end l.nulls l.i
+    (k : RowRead l.from (listed l.cols) (flags_in l.from l.count l.begun.flags) l.s l.begun.cells l.at l.i) × RowMoved l.to (listed l.cols) k.acc l.initial.row l.first l.row l.end l.nulls l.i
     × (length l.scratch ≡ length l.initial.scratch)
 
 abbrev pub decreases-loop-i : goal.decreases-loop-i

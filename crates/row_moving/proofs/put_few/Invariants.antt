@@ -11,7 +11,4 @@ use Rattle.table.proofs.Places.{next1}
 use Rattle.row_moving.proofs.put_few.Given as goal
 
 abbrev pub invariant-loop-k : goal.invariant-loop-k
-invariant-loop-k l = ((l.k ≤ l.size) × (length l.out ≡ length l.initial.out)) × (l.out ≡ sets l.initial.out l.at (take l.k l.row))
-
-abbrev pub decreases-loop-k : goal.decreases-loop-k
-decreases-loop-k l = l.size - l.k
+invariant-loop-k l = (length l.out ≡ length l.initial.out) × (l.out ≡ sets l.initial.out l.at (take l.k l.row))

@@ -1,23 +1,12 @@
 -- `text_moving::move_content` meets its contract: by what may stand for null in the column.
-use mathlib.Core.Path.{◌≡◌, subst}
-use Rattle.cell_putting.specs.Clauses.{ScalarIs}
-use Rattle.cell_putting.specs.declared.Scalar.{Scalar}
-use borrow.Author.Rules.{rules}
 use Rattle.text_moving.proofs.move_content.Goals as goal
 
-pub returns-in-Integer : goal.returns-in-Integer
-returns-in-Integer c =
-    let scalar_is : (x : Scalar) → c.scalar_of.result ≡ x → ScalarIs c.args.column x = λ _ told. subst (ScalarIs c.args.column) told c.scalar_of.ensures in
-    let x = scalar_is _ c.in-Integer.is in
+pub returns-in-Some-Integer : goal.returns-in-Some-Integer
+returns-in-Some-Integer c =
+    let x = rw c.in-Some-Integer.field-0-is at c.in-Some-Integer.ensures in
     c.move_integer.ensures x.0 x.1
 
-pub returns-in-Truth : goal.returns-in-Truth
-returns-in-Truth c =
-    let scalar_is : (x : Scalar) → c.scalar_of.result ≡ x → ScalarIs c.args.column x = λ _ told. subst (ScalarIs c.args.column) told c.scalar_of.ensures in
-    let x = scalar_is _ c.in-Truth.is in
+pub returns-in-Some-Truth : goal.returns-in-Some-Truth
+returns-in-Some-Truth c =
+    let x = rw c.in-Some-Truth.field-0-is at c.in-Some-Truth.ensures in
     c.move_truth.ensures x.0 x.1
-
-pub returns-in-Never : goal.returns-in-Never
-returns-in-Never c =
-    let scalar_is : (x : Scalar) → c.scalar_of.result ≡ x → ScalarIs c.args.column x = λ _ told. subst (ScalarIs c.args.column) told c.scalar_of.ensures in
-    c.move_elements.ensures (scalar_is _ c.in-Never.is)

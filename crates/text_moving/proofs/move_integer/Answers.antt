@@ -21,15 +21,15 @@ use native.Mathlib.Omega.{arith}
 use borrow.Author.Rules.{rules}
 use Rattle.text_moving.proofs.move_integer.Goals as goal
 
-pub returns-in_default : goal.returns-in_default
-returns-in_default c = λ one q. puts_none _ _ (omega (arith, c.requires.2))
+pub returns-in_err-z : goal.returns-in_err-z
+returns-in_err-z c = rw c.from_residual.ensures (λ one q. puts_none _ _ (omega (arith, c.requires.2)))
 
 pub closes-requires : goal.closes-requires
 closes-requires c =
-    let value : ℤ = c.in-Element.z in
-    let end : ℕ = c.in-Element.end in
+    let value : ℤ = c.in_ok-z.field-0.value in
+    let end : ℕ = c.in_ok-z.field-0.next in
     let kind : Shape = Whole (is_signed c.args.integer) (width_of c.args.integer) in
-    let stands : let a = c.args in InText kind a.s.now a.from end (value ∷ []) = c.in-Element.ensures in
+    let stands : let a = c.args in InText kind a.s.now a.from end (value ∷ []) = c.in_ok-z.ensures in
     stands.spells.inside
 
 pub returns-then-not-closes : goal.returns-then-not-closes
@@ -37,16 +37,16 @@ returns-then-not-closes c = λ one q. puts_none _ _ (omega (arith, c.requires.2)
 
 pub overflow_add-end : goal.overflow_add-end
 overflow_add-end c =
-    let end : ℕ = c.in-Element.end in
+    let end : ℕ = c.in_ok-z.field-0.next in
     let ended : ClosesAt c.args.s.now end = c.closes.ensures (c.if-not-closes.false) in
     let h = ended.inside in search rules
 
 pub returns-then-is_declared : goal.returns-then-is_declared
 returns-then-is_declared c =
-    let value : ℤ = c.in-Element.z in
-    let end : ℕ = c.in-Element.end in
+    let value : ℤ = c.in_ok-z.field-0.value in
+    let end : ℕ = c.in_ok-z.field-0.next in
     let kind : Shape = Whole (is_signed c.args.integer) (width_of c.args.integer) in
-    let stands : let a = c.args in InText kind a.s.now a.from end (value ∷ []) = c.in-Element.ensures in
+    let stands : let a = c.args in InText kind a.s.now a.from end (value ∷ []) = c.in_ok-z.ensures in
     let fits : to_z w64 (of_z w64 value) ≡ value = search rules in
     let ended : ClosesAt c.args.s.now end = c.closes.ensures (c.if-not-closes.false) in
     let read : let a = c.args in is_scalar a.column ≡ true → shape a.column.kind ≡ kind → TextRead a.column a.s.now a.from (end + 5) (value ∷ []) = λ one q. let a = c.args in
@@ -60,10 +60,10 @@ returns-then-is_declared c =
 
 pub returns : goal.returns
 returns c =
-    let value : ℤ = c.in-Element.z in
-    let end : ℕ = c.in-Element.end in
+    let value : ℤ = c.in_ok-z.field-0.value in
+    let end : ℕ = c.in_ok-z.field-0.next in
     let kind : Shape = Whole (is_signed c.args.integer) (width_of c.args.integer) in
-    let stands : let a = c.args in InText kind a.s.now a.from end (value ∷ []) = c.in-Element.ensures in
+    let stands : let a = c.args in InText kind a.s.now a.from end (value ∷ []) = c.in_ok-z.ensures in
     let fits : to_z w64 (of_z w64 value) ≡ value = search rules in
     let ended : ClosesAt c.args.s.now end = c.closes.ensures (c.if-not-closes.false) in
     let read : let a = c.args in is_scalar a.column ≡ true → shape a.column.kind ≡ kind → TextRead a.column a.s.now a.from (end + 5) (value ∷ []) = λ one q. let a = c.args in
@@ -77,6 +77,6 @@ returns c =
 
 pub overflow_add-result : goal.overflow_add-result
 overflow_add-result c =
-    let end : ℕ = c.in-Element.end in
+    let end : ℕ = c.in_ok-z.field-0.next in
     let ended : ClosesAt c.args.s.now end = c.closes.ensures (c.if-not-closes.false) in
     let h = ended.inside in search rules

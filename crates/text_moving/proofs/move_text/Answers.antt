@@ -1,5 +1,5 @@
 -- `text_moving::move_text` meets its contract: by how the cell begins.
-use mathlib.Core.Path.{subst}
+use Rattle.std.specs.Prelude.{Some}
 use Rattle.moving.proofs.Puts.{puts_none}
 use Rattle.text_moving.proofs.Cells.{empty-moved, text-moved}
 use Rattle.text_moving.specs.Clauses.{OpensAs}
@@ -13,23 +13,19 @@ returns-then-row-o-lt-ROOM c = λ flagged. puts_none _ _ c.requires.2
 
 pub move_content-requires : goal.move_content-requires
 move_content-requires c =
-    let opened : let a = c.args in OpensAs a.s.now a.at (Opening.Content c.in-Content.from) = c.in-Content.ensures in
+    let opened : let a = c.args in OpensAs a.s.now a.at (Some (Opening.Content c.in-Content.from)) = rw c.in-Content.is at c.in_ok-next.ensures in
     (opened.2, c.requires.1, omega (arith, c.if-row-o-lt-ROOM.false, c.requires.2))
-
-pub returns-in-Careful : goal.returns-in-Careful
-returns-in-Careful c = λ flagged. puts_none _ _ c.requires.2
 
 pub returns-in-Empty : goal.returns-in-Empty
 returns-in-Empty c =
+    let opened : let a = c.args in OpensAs a.s.now a.at (Some (Opening.Empty c.in-Empty.next)) = rw c.in-Empty.is at c.in_ok-next.ensures in
     let a = c.args in
     let put = c.put_null in
-    λ flagged. empty-moved a.column a.s.now a.at a.to flagged a.row.now a.o put.new.row put.result c.in-Empty.next
-    (c.in-Empty.ensures) put.ensures
+    λ flagged. empty-moved a.column a.s.now a.at a.to flagged a.row.now a.o put.new.row put.result c.in-Empty.next opened put.ensures
 
 pub returns-in-Content : goal.returns-in-Content
 returns-in-Content c =
-    let opened : let a = c.args in OpensAs a.s.now a.at (Opening.Content c.in-Content.from) = c.in-Content.ensures in
+    let opened : let a = c.args in OpensAs a.s.now a.at (Some (Opening.Content c.in-Content.from)) = rw c.in-Content.is at c.in_ok-next.ensures in
     let a = c.args in
     let move = c.move_content in
-    λ flagged. text-moved a.column a.s.now a.at a.to flagged a.row.now a.o move.new.row move.result
-    c.in-Content.from opened move.ensures
+    λ flagged. text-moved a.column a.s.now a.at a.to flagged a.row.now a.o move.new.row move.result c.in-Content.from opened move.ensures

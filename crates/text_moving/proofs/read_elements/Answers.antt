@@ -13,40 +13,40 @@ use native.Mathlib.Omega.{arith}
 use borrow.Author.Rules.{rules}
 use Rattle.text_moving.proofs.read_elements.Goals as goal
 
-pub returns-in_default : goal.returns-in_default
-returns-in_default c =
-    let u = puts_lower {o = c.args.o} c.in_default.ensures (omega arith) in
-    λ never. (u, u)
+pub returns-in_err-count : goal.returns-in_err-count
+returns-in_err-count c =
+    let u = puts_lower {o = c.args.o} c.in_err-count.ensures (omega arith) in
+    rw c.from_residual.ensures (λ never. (u, u))
 
 pub closes-requires : goal.closes-requires
-closes-requires c = c.in-Elements.ensures.reads.spells.inside
+closes-requires c = c.in_ok-count.ensures.reads.spells.inside
 
 pub returns-then-not-closes : goal.returns-then-not-closes
 returns-then-not-closes c =
-    let untouched = puts_lower {o = c.args.o} c.in-Elements.ensures.puts (omega arith) in
+    let untouched = puts_lower {o = c.args.o} c.in_ok-count.ensures.puts (omega arith) in
     λ never. (untouched, untouched)
 
 pub returns-then-not-count_fits : goal.returns-then-not-count_fits
 returns-then-not-count_fits c =
-    let untouched = puts_lower {o = c.args.o} c.in-Elements.ensures.puts (omega arith) in
+    let untouched = puts_lower {o = c.args.o} c.in_ok-count.ensures.puts (omega arith) in
     λ never. (untouched, untouched)
 
 pub overflow_add-end : goal.overflow_add-end
 overflow_add-end c =
-    let ended : ClosesAt c.args.s.now c.in-Elements.end = c.closes.ensures (c.if-not-closes.false) in
+    let ended : ClosesAt c.args.s.now c.in_ok-count.field-0.next = c.closes.ensures (c.if-not-closes.false) in
     let h = ended.inside in search rules
 
 pub fill_up-requires : goal.fill_up-requires
 fill_up-requires c =
-    let fits : Counts c.args.column c.in-Elements.count = c.count_fits.ensures (c.if-not-count_fits.false) in
-    let u = c.in-Elements.ensures.puts in
+    let fits : Counts c.args.column c.in_ok-count.field-0.count = c.count_fits.ensures (c.if-not-count_fits.false) in
+    let u = c.in_ok-count.ensures.puts in
     (omega (arith, fits.few, c.requires.1), omega (arith, u.long, c.requires.2), omega (arith, u.room, u.long))
 
 pub returns : goal.returns
 returns c =
-    let ended : ClosesAt c.args.s.now c.in-Elements.end = c.closes.ensures (c.if-not-closes.false) in
-    let fits : Counts c.args.column c.in-Elements.count = c.count_fits.ensures (c.if-not-count_fits.false) in
+    let ended : ClosesAt c.args.s.now c.in_ok-count.field-0.next = c.closes.ensures (c.if-not-closes.false) in
+    let fits : Counts c.args.column c.in_ok-count.field-0.count = c.count_fits.ensures (c.if-not-count_fits.false) in
     let a = c.args in
     λ never. filled_in a.column never a.s.now a.from _
-    fits c.count_size.ensures.1 c.in-Elements.ensures ended
+    fits c.count_size.ensures.1 c.in_ok-count.ensures ended
     c.fill_up.ensures

@@ -7,8 +7,9 @@ use mathlib.Core.List.{List, ◌++◌}
 use mathlib.Core.Path.{◌∙◌, ◌≡◌, ap, subst, sym}
 use lib.ListN.{drop, length, length-drop, take}
 use lib.Seq.{drop-drop, length-take-le, take-add, take-take}
-use Rattle.content_copying.specs.Passing.{PassTo}
+use Rattle.content_reading.specs.Passing.{PassTo}
 use Rattle.integer_reading.proofs.Runs.{run-all, run-le}
+use Rattle.integer_reading.specs.Runs.{Passes}
 use Rattle.eights.specs.Marks.{run}
 use Rattle.moving.specs.Puts.{Puts}
 use Rattle.table.proofs.Laws.{all_append}
@@ -50,6 +51,9 @@ module _ {test : ℕ → Bool} {s : List ℕ} {i j : ℕ} (p : PassTo test s i j
       let q = pass-more r h e in
       let eight : r ≡ 8 = omega (arith, q.1) in
       subst (λ (n : ℕ). PassTo test s i (j + n)) eight q.0
+
+  pub pass-passes : Passes test s i (j - i)
+  pass-passes = record { inside = omega (arith, p.low, p.high); all = p.passing }
 
   pub pass-long : length (take (j - i) (drop i s)) ≡ j - i
   pass-long = length-take-le (j - i) (drop i s) (simp length-drop (omega (arith, p.high)))

@@ -1,0 +1,10 @@
+-- `content_reading::PlainTest::ahead` meets its contract: the bytes that are read are marked, and the first mark is found.
+use native.Mathlib.Omega.{arith}
+use Rattle.eights.proofs.Fronts.{are-bytes}
+use Rattle.integer_reading.proofs.Runs.{run-marked}
+use Rattle.content_reading.proofs.PlainTest.ahead.Goals as goal
+
+pub returns : goal.returns
+returns c =
+    let a = c.args in
+    run-marked a.s.now a.at (are-bytes a.s.now (λ i. omega (arith, c.type_inv.s i))) (omega arith) c.eight_bytes.ensures c.no_plain.ensures c.first_of.ensures
