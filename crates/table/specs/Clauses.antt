@@ -1,15 +1,10 @@
 -- What the contracts of the functions on cells say: each case of an answer as the definitions have it.
-use Rattle.std.specs.Prelude.{Result as Returned, Ok, Err, Option, None, Some, ◌≤◌, ℕ, Bool, false, true, List, [], ◌≡◌, ℤ, drop, length, take}
+use Rattle.std.specs.Prelude.{Result as Returned, Ok, Err, Option, None, Some, ◌≤◌, ℕ, List, [], ◌≡◌, ℤ, drop, length, take}
 use Rattle.table.specs.Cell.{Cell, null, shown}
 use Rattle.table.specs.Result.{Result, bad, good}
 use Rattle.table.specs.Reasons.{number_of}
 use Rattle.table.specs.declared.Found.{Found}
 use Rattle.table.specs.declared.Reason.{Reason}
-
--- a cell held by the code: null, or the first `count` elements of the scratch
-abbrev pub held : Bool → ℕ → List ℤ → Cell
-held true count scratch = null
-held false count scratch = shown (take count scratch)
 
 -- what is found of a cell, with its elements in the scratch: null, or so many of them
 abbrev pub shown_as : List ℤ → Option ℕ → Cell

@@ -59,14 +59,14 @@ after-front n (w ∷ word) [] = refl
 after-front n (w ∷ word) (b ∷ t) = go (eqb w b) refl (after-front n word t)
   where
     go : (x : Bool) → eqb w b ≡ x → after n word t ≡ cond (starts_with eqb t word) (good (drop (length word) t)) (bad n)
-      → after n (w ∷ word) (b ∷ t) ≡ cond (starts_with eqb (b ∷ t) (w ∷ word)) (good (drop (length word) t)) (bad n)
+        → after n (w ∷ word) (b ∷ t) ≡ cond (starts_with eqb (b ∷ t) (w ∷ word)) (good (drop (length word) t)) (bad n)
     go true q more = rw q more
     go false q more = rw q
 
 -- and the place after it is where the word ends
 module _ (s word : List ℕ) (at : ℕ) (h : at ≤ length s) where
   pub front-there : starts_with eqb (take (length s - at) (drop at s)) word ≡ true → length word ≤ length (take (length s - at) (drop at s))
-    → TagIs (λ n. after n word (drop at s)) s at (Some (at + length word))
+      → TagIs (λ n. after n word (drop at s)) s at (Some (at + length word))
   front-there e l =
       let rest = take_rest s at in
       record {

@@ -7,4 +7,3 @@ use Rattle.text.proofs.skip_white.Given as goal
 
 abbrev pub invariant-loop-i : goal.invariant-loop-i
 invariant-loop-i l = (l.at ≤ l.i) × (l.i ≤ length l.s) × (skip_white (drop l.at l.s) ≡ skip_white (drop l.i l.s))
-
