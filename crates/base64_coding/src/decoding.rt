@@ -237,6 +237,7 @@ pub fn decoded_size(s: &[u8], table: &LetterTable) -> Result<usize, Reason>
     if 128 <= highest(s) {
         return Err(Reason::Base64);
     }
+    // By place: a turn takes white space, a run or four characters, so an iterator would be no plainer.
     let mut i = 0;
     let mut n = 0;
     loop {
@@ -261,6 +262,7 @@ pub fn write_bytes(s: &[u8], table: &LetterTable, out: &mut [u8])
     requires { FitsAt 0 (decode s.now) (length out.old) }
     ensures { out.new ≡ buffer_with out.old 0 (decode s.now) }
 {
+    // By place, as in `decoded_size`.
     let mut i = 0;
     let mut n = 0;
     loop {
