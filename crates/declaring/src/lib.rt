@@ -54,6 +54,7 @@ pub fn declare(text: &[u8]) -> Result<Columns, Refused>
         let Some(e) = read_field(text, at) else {
             return refuse(Reason::Field, k);
         };
+        // Tried: `map_err` and `?`; the proof did not close, as what the closure promises has no name to cite.
         match judge(text, e) {
             Err(reason) => return refuse(reason, k),
             Ok(c) => {

@@ -17,7 +17,7 @@ use text::put_bytes;
 
 // ---- a cell is measured
 
-// The code of a char, 128 for what is none: one more code without a form, as an `Option` would only be a second way to have none.
+// The code of a char, 128 for what is none: a code without a form. An `Option` is no plainer: it would be a second way to have no form.
 fn code_of(z: i64) -> u32
     ensures { (form_of z ≡ form_of (pos result)) × (result ≤ 128) }
 {
