@@ -46,6 +46,7 @@ fn next_byte(s: &[u8], from: usize) -> Option<(u8, usize)>
     None
 }
 
+// The three that follow are the definition's: each has its own letters and test, so one over the number of bytes would be no plainer.
 fn one_byte(a: u8, b: u8, table: &LetterTable) -> Option<[u8; 1]>
     requires { (a < 128) × (b < 128) }
     ensures { bytes_as result ≡ one_byte a b }
