@@ -176,8 +176,7 @@ pub fn move_rows(
         let mut at = begun.cells;
         let mut end = first;
         let mut nulls: u64 = 0;
-        let mut i: usize = 0;
-        while i < count {
+        for i in 0..count {
             let flagged = flag_of(from, begun.flags, count, i);
             let step = plan.list[i];
             let planned = move_planned(from, to, step, flagged, s, at, row, end);
@@ -203,7 +202,6 @@ pub fn move_rows(
             at = moved.next;
             end = moved.end;
             nulls = add_flag(nulls, i, moved.null);
-            i += 1;
         }
         let Ok(next) = end_row(from, s, at) else {
             break 'rows;

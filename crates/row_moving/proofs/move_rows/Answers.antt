@@ -145,17 +145,6 @@ add_flag-nulls-requires c =
     let few-turns : c.loop-i.i < 64 = omega (arith, few, c.loop-i-test.true) in
     few-turns
 
-pub overflow_add-i : goal.overflow_add-i
-overflow_add-i c =
-    let cols-at : Columns = c.args.cols in
-    let are : Within (listed cols-at) = c.requires.within.0 in
-    let few : cols-at.count ≤ 64 = omega (arith, are.few, listed-length cols-at) in
-    let few-turns : c.loop-i.i < 64 = omega (arith, few, c.loop-i-test.true) in
-    omega (arith, few-turns)
-
-pub loop-i-smaller : goal.loop-i-smaller
-loop-i-smaller c = omega (arith, c.loop-i-test.true)
-
 pub loop-i-preserved : goal.loop-i-preserved
 unfolding read_more
 loop-i-preserved c =

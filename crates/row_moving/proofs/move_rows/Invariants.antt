@@ -45,9 +45,6 @@ invariant-loop-i l =
     (k : RowRead l.from (listed l.cols) (flags_in l.from l.count l.begun.flags) l.s l.begun.cells l.at l.i) × RowMoved l.to (listed l.cols) k.acc l.initial.row l.first l.row l.end l.nulls l.i
     × (length l.scratch ≡ length l.initial.scratch)
 
-abbrev pub decreases-loop-i : goal.decreases-loop-i
-decreases-loop-i l = l.count - l.i
-
 abbrev pub invariant-rows : goal.invariant-rows
 invariant-rows l =
     RowsMoved l.from l.to (listed l.cols) l.s l.initial.out l.initial.place l.initial.rows l.initial.bytes l.out l.place l.rows l.bytes × (length l.scratch ≡ length l.initial.scratch)
