@@ -2,7 +2,6 @@
 use mathlib.Core.List.{List}
 use mathlib.Core.Path.{◌∙◌, ◌≡◌, ap, sym}
 use Rattle.declaring.specs.Clauses.{Answered, result_of}
-use Rattle.declaring.specs.declared.Refused.{Refused}
 use Rattle.std.specs.Prelude.{Err, Ok, Result as Returned}
 use Rattle.table.specs.ColumnList.{listed}
 use Rattle.table.specs.Outcome.{Refusal, at}
@@ -10,6 +9,7 @@ use Rattle.table.specs.Reasons.{number_of}
 use Rattle.table.specs.Result.{Result, bad, good}
 use Rattle.table.specs.declared.Column.{Column}
 use Rattle.table.specs.declared.Columns.{Columns}
+use Rattle.table.specs.declared.Refused.{Refused}
 
 module _ (r : Result Refusal (List Column)) (d : Returned Columns Refused) (a : Answered r d) where
   -- an answer says what it answers
@@ -19,5 +19,5 @@ module _ (r : Result Refusal (List Column)) (d : Returned Columns Refused) (a : 
   pub accepted-is : (columns : Columns) → d ≡ Ok columns → r ≡ good (listed columns)
   accepted-is columns e = a.says ∙ ap result_of e
 
-  pub refused-is : (e : Refused) → d ≡ Err e → r ≡ bad (at e.place (number_of e.reason))
+  pub refused-is : (e : Refused) → d ≡ Err e → r ≡ bad (at e.column (number_of e.reason))
   refused-is e q = a.says ∙ ap result_of q
