@@ -4,7 +4,7 @@ use Prim.Native.Nat.{◌+◌, ◌≤◌, ℕ}
 use native.Mathlib.Omega.{arith}
 use mathlib.Core.Bool.{false}
 use mathlib.Core.List.{List}
-use mathlib.Core.Path.{◌∙◌, ◌≡◌, ap, subst, sym}
+use mathlib.Core.Path.{◌≡◌, subst}
 use lib.IntN.{ℤ}
 use lib.ListN.{length}
 use Rattle.binary.specs.Binary.{count_bytes, elements_bytes}

@@ -5,7 +5,7 @@ use native.Mathlib.Omega.{arith}
 use mathlib.Core.Bool.{Bool, false, true}
 use mathlib.Core.List.{List, []}
 use mathlib.Core.Path.{◌∙◌, ◌≡◌, ap, refl, subst, sym}
-use lib.Dec.{eqb, lit≤}
+use lib.Dec.{lit≤}
 use lib.IntN.{ℤ}
 use lib.ListN.{drop, length, length-drop, take}
 use lib.Seq.{drop-drop, length-take-le}
@@ -14,7 +14,6 @@ use Rattle.binary.specs.Binary.{content, content_bytes, count_in, first_bytes, r
 use Rattle.binary.specs.Reading.{read_counted}
 use Rattle.binary_moving.specs.Clauses.{MovesCounted, NotText, counted_cell, empty_as, flag_as, skipped}
 use Rattle.binary_reading.proofs.Cells.{binary2-counted, none_in}
-use Rattle.moving.proofs.Cells.{cell-moved}
 use Rattle.moving.specs.Cells.{MovesCell, MovesRead, PutsCell, shown_as}
 use Rattle.moving.specs.Contents.{InBinary}
 use Rattle.moving.specs.declared.Moved.{Moved}
@@ -22,7 +21,7 @@ use Rattle.number.specs.Clauses.{size}
 use Rattle.number.specs.declared.Integer.{Integer}
 use Rattle.rows.specs.Stream.{read_cell}
 use Rattle.table.proofs.Laws.{nil-not-null}
-use Rattle.table.specs.Cell.{Cell, empty_is_null, null, show, shown}
+use Rattle.table.specs.Cell.{Cell, empty_is_null, null, show}
 use Rattle.table.specs.Result.{Result, ◌>>=◌, good, bad}
 use Rattle.table.specs.Shape.{shape}
 use Rattle.table.specs.declared.Column.{Column}

@@ -5,7 +5,7 @@ use native.Mathlib.Nat.{sub_self}
 use native.Mathlib.Omega.{arith}
 use mathlib.Core.Bool.{cond, false, false≢true, true}
 use mathlib.Core.List.{List, [], ◌++◌, ◌∷◌, append_assoc, append-nil, map}
-use mathlib.Core.Path.{◌∙◌, ◌≡◌, ap, ap₂, refl, subst, sym}
+use mathlib.Core.Path.{◌∙◌, ◌≡◌, ap, refl, subst, sym}
 use lib.Dec.{lit≤}
 use lib.IntN.{ℤ}
 use lib.ListN.{length, length-map, replicate}
@@ -19,7 +19,7 @@ use Rattle.moving.specs.Puts.{Puts}
 use Rattle.moving.specs.declared.Moved.{Moved}
 use Rattle.number.proofs.Laws.{length_to}
 use Rattle.rows.specs.Stream.{write_cell}
-use Rattle.table.specs.Cell.{Cell, is_char, is_null, is_null_list, is_null_of_kind, is_one, is_scalar, null, room_in, show, shown, stands_for_null}
+use Rattle.table.specs.Cell.{is_char, is_null, is_null_list, is_null_of_kind, is_one, is_scalar, null, room_in, show, shown, stands_for_null}
 use Rattle.table.proofs.Laws.{bad-good}
 use Rattle.table.specs.Bytes.{bytes}
 use Rattle.table.specs.Clauses.{size_of}

@@ -1,12 +1,12 @@
 -- What a step says of its column, and that a cell moved as its step says is moved as its column wants: a step that wants something is of a fixed
 -- column, whose cells have no count; bytes that go as they stand are the bytes that their elements are written as.
 use Rattle.std.specs.Prelude.{Option, Some, None}
-use Prim.Native.Nat.{◌%◌, ◌*◌, ◌+◌, ◌≤◌, ℕ}
+use Prim.Native.Nat.{◌%◌, ◌+◌, ◌≤◌, ℕ}
 use native.Mathlib.Nat.{le_refl}
 use native.Mathlib.Omega.{arith}
 use mathlib.Core.Bool.{Bool, ◌||◌, cond, false, false≢true, true}
-use mathlib.Core.List.{List, [], ◌++◌, append-nil}
-use mathlib.Core.Path.{◌∙◌, ◌≡◌, ap, refl, subst, sym}
+use mathlib.Core.List.{List, append-nil}
+use mathlib.Core.Path.{◌∙◌, ◌≡◌, ap, refl, sym}
 use borrow.Author.Tests.{eqb-true, ne_eqb}
 use lib.Dec.{eqb}
 use lib.IntN.{ℤ}
@@ -33,7 +33,7 @@ use Rattle.planning.specs.Plan.{one_integer, step_for, step_of, want_of}
 use Rattle.planning.specs.declared.Want.{Want}
 use Rattle.rows.specs.Stream.{write_cell}
 use Rattle.table.specs.All.{AreBytes}
-use Rattle.table.specs.Cell.{bound, is_char, is_scalar, shown}
+use Rattle.table.specs.Cell.{is_char, shown}
 use Rattle.table.specs.Result.{good}
 use Rattle.table.specs.Shape.{Bits, Shape, Text, Truths, W1, W2, W4, W8, Whole, Width, shape}
 use Rattle.table.specs.declared.Column.{Column}
@@ -41,7 +41,6 @@ use Rattle.table.specs.declared.Kind.{Kind}
 use Rattle.table.specs.declared.Len.{Len}
 use Rattle.table.specs.declared.Len.TheVariants.{Bounded, Fixed, Free}
 use Rattle.table.specs.declared.Rows.{Rows}
-use Rattle.table.specs.declared.Rows.TheVariants.{Binary, Binary2, TableData}
 
 -- ---- tests
 

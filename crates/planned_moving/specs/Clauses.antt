@@ -1,5 +1,5 @@
 -- What the functions that move cells by a plan promise of bytes that go as they stand.
-use Rattle.std.specs.Prelude.{◌+◌, ℕ, Bool, false, true, List, [], ◌≡◌, drop, take, Option, Some, None}
+use Rattle.std.specs.Prelude.{◌+◌, ℕ, false, List, [], ◌≡◌, drop, take, Option, Some, None}
 use Rattle.cell_putting.specs.Clauses.{is_text}
 use Rattle.moving.specs.Puts.{Puts}
 use Rattle.moving.specs.declared.Moved.{Moved}

@@ -1,7 +1,5 @@
 -- binary_moving::is_skipped: by the kind of rows.
 use Rattle.binary_moving.specs.Clauses.{skipped}
-use borrow.Author.Rules.{rules}
-use native.Mathlib.Omega.{arith}
 use Rattle.binary_moving.proofs.is_skipped.Goals as goal
 
 pub returns-in-TableData : goal.returns-in-TableData

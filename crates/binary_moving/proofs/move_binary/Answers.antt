@@ -4,7 +4,6 @@ use Rattle.binary_moving.proofs.Counted.{whole-moved}
 use Rattle.binary_reading.specs.Clauses.{CountWithin, count_as}
 use Rattle.moving.proofs.Puts.{puts_none}
 use Rattle.table.specs.Cell.{bound}
-use borrow.Author.Rules.{rules}
 use native.Mathlib.Omega.{arith}
 use Rattle.binary_moving.proofs.move_binary.Goals as goal
 

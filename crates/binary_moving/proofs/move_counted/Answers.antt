@@ -1,12 +1,11 @@
 -- binary_moving::move_counted: null where it is skipped, else its elements.
-use mathlib.Core.Path.{◌∙◌, ◌≡◌, ap, sym}
+use mathlib.Core.Path.{◌∙◌, ap, sym}
 use Prim.Native.Nat.{◌+◌, ◌≤◌}
 use lib.ListN.{length}
 use Rattle.binary.specs.Binary.{content_bytes}
 use Rattle.binary_moving.proofs.Counted.{counted-moved, skipped-moved}
 use Rattle.moving.proofs.Puts.{puts_none}
 use Rattle.table.specs.Shape.{shape}
-use borrow.Author.Rules.{rules}
 use native.Mathlib.Omega.{arith}
 use Rattle.binary_moving.proofs.move_counted.Goals as goal
 

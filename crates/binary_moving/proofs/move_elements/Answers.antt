@@ -5,8 +5,6 @@ use Rattle.moving.specs.Cells.{MovesRead}
 use Rattle.moving.specs.Contents.{InBinary}
 use Rattle.table.specs.Shape.{shape}
 use Rattle.table.specs.declared.Rows.{Rows}
-use borrow.Author.Rules.{rules}
-use native.Mathlib.Omega.{arith}
 use Rattle.binary_moving.proofs.move_elements.Goals as goal
 
 pub returns-then-is_text : goal.returns-then-is_text

@@ -1,5 +1,5 @@
 -- binary_moving::move_integer: found by its value: null where that stands for it.
-use mathlib.Core.List.{List, [], ◌∷◌}
+use mathlib.Core.List.{[], ◌∷◌}
 use mathlib.Core.Path.{◌∙◌, ◌≡◌, ap, subst, sym}
 use Prim.Native.Nat.{ℕ}
 use lib.IntN.{ℤ}
@@ -7,7 +7,7 @@ use mir.Syntax.{w64}
 use mir.Val.{of_z, to_z}
 use Rattle.cell_putting.proofs.Elements.{null-moved}
 use Rattle.moving.proofs.Puts.{puts_none}
-use Rattle.moving.specs.Contents.{FindsOne, InBinary}
+use Rattle.moving.specs.Contents.{InBinary}
 use Rattle.number.specs.Clauses.{is_signed, width_of}
 use Rattle.table.specs.Cell.{is_declared}
 use Rattle.table.specs.Shape.{Shape, Whole, shape}

@@ -1,5 +1,5 @@
 -- binary_moving::move_truth: found by its value: null where that stands for it, else the value.
-use mathlib.Core.List.{List, [], ◌∷◌}
+use mathlib.Core.List.{[], ◌∷◌}
 use mathlib.Core.Path.{◌∙◌, ◌≡◌, ap, subst, sym}
 use Prim.Native.Nat.{ℕ}
 use lib.IntN.{ℤ}
@@ -8,7 +8,7 @@ use mir.Val.{of_z, to_z}
 use Rattle.cell_putting.proofs.Elements.{null-moved, value-moved}
 use Rattle.cell_putting.specs.Clauses.{one_form}
 use Rattle.moving.proofs.Puts.{puts-as, puts_none}
-use Rattle.moving.specs.Contents.{FindsOne, InBinary}
+use Rattle.moving.specs.Contents.{InBinary}
 use lib.IntN.{pos}
 use Rattle.table.specs.Cell.{same_integer}
 use Rattle.table.specs.Shape.{Shape, Truths, shape}

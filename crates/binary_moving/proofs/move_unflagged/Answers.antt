@@ -1,5 +1,5 @@
 -- binary_moving::move_unflagged: a scalar by its one element, everything else by all of them.
-use mathlib.Core.Path.{◌∙◌, subst, sym}
+use mathlib.Core.Path.{subst, sym}
 use Prim.Native.Nat.{ℕ}
 use Rattle.binary_moving.proofs.Counted.{size-most}
 use Rattle.cell_putting.specs.Clauses.{ScalarIs}
@@ -7,7 +7,6 @@ use Rattle.moving.proofs.Puts.{puts_none}
 use Rattle.moving.specs.Cells.{MovesRead}
 use Rattle.moving.specs.Contents.{InBinary}
 use Rattle.table.specs.Shape.{shape}
-use borrow.Author.Rules.{rules}
 use native.Mathlib.Omega.{arith}
 use Rattle.binary_moving.proofs.move_unflagged.Goals as goal
 

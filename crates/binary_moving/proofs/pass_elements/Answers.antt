@@ -1,6 +1,6 @@
 -- binary_moving::pass_elements: the content is put behind room for its count, then the count and what it is filled up with.
 use mathlib.Core.List.{List, []}
-use mathlib.Core.Path.{◌≡◌, refl, subst}
+use mathlib.Core.Path.{refl, subst}
 use Prim.Native.Nat.{◌+◌, ◌≤◌, ℕ}
 use Rattle.binary_moving.proofs.Contents.{bytes-moved}
 use Rattle.cell_putting.proofs.Elements.{binary-writes, binary2-writes}
@@ -10,7 +10,6 @@ use Rattle.moving.specs.Contents.{AsBinary, ContentMoved, InBinary, MovesContent
 use Rattle.moving.specs.Puts.{Puts}
 use Rattle.table.specs.Shape.{shape}
 use Rattle.table.specs.declared.Rows.TheVariants.{Binary, Binary2}
-use borrow.Author.Rules.{rules}
 use native.Mathlib.Omega.{arith}
 use Rattle.binary_moving.proofs.pass_elements.Goals as goal
 

@@ -7,7 +7,6 @@ use Rattle.moving.proofs.Puts.{puts-before, puts_then}
 use Rattle.moving.specs.Contents.{AsText, ContentMoved, InBinary, MovesContent}
 use Rattle.moving.specs.Puts.{Puts}
 use Rattle.table.specs.Shape.{shape}
-use borrow.Author.Rules.{rules}
 use native.Mathlib.Omega.{arith}
 use Rattle.binary_moving.proofs.show_elements.Goals as goal
 

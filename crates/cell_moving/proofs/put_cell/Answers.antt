@@ -1,7 +1,6 @@
 -- cell_moving::put_cell: a cell that has a size has a form, and with room for it that is what is put; with none, or with no size, it cannot be.
 use mathlib.Core.Path.{◌∙◌, ◌≡◌, ap, sym}
 use native.Mathlib.Omega.{arith}
-use borrow.Author.Rules.{rules}
 use Rattle.cell_moving.proofs.Cells.{cell-put, form-length, no-form, no_room, shown-null}
 use Rattle.moving.proofs.Puts.{puts_none}
 use Rattle.rows.specs.Stream.{write_cell}

@@ -1,6 +1,5 @@
 -- cell_moving::quick_cell: by the kind of rows.
 use mathlib.Core.Path.{◌∙◌, sym}
-use borrow.Author.Rules.{rules}
 use Rattle.binary_moving.specs.Clauses.{NotText}
 use Rattle.cell_putting.proofs.Cells.{no_text, text-is}
 use Rattle.cell_moving.proofs.quick_cell.Goals as goal

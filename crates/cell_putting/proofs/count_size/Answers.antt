@@ -3,8 +3,6 @@ use mathlib.Core.Path.{refl}
 use lib.Dec.{lit≤}
 use Rattle.binary.specs.Binary.{count_bytes}
 use Rattle.number.proofs.Laws.{length_to}
-use borrow.Author.Rules.{rules}
-use native.Mathlib.Omega.{arith}
 use Rattle.cell_putting.proofs.count_size.Goals as goal
 
 pub returns-in-Fixed : goal.returns-in-Fixed

@@ -1,8 +1,6 @@
 -- cell_putting::fill_size: what a fixed column of characters has room for behind them.
-use mathlib.Core.Path.{◌∙◌, ◌≡◌, ap, sym}
-use borrow.Author.Tests.{not-false, not-true}
+use mathlib.Core.Path.{◌∙◌, sym}
 use Rattle.cell_putting.specs.Clauses.{fill_size}
-use borrow.Author.Rules.{rules}
 use native.Mathlib.Omega.{arith}
 use Rattle.cell_putting.proofs.fill_size.Goals as goal
 

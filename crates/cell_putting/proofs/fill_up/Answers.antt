@@ -1,13 +1,12 @@
 -- cell_putting::fill_up: the count is stored in the room before the elements, the NULs behind them.
 use Prim.Native.Nat.{ℕ}
-use mathlib.Core.Path.{◌∙◌, ap, refl}
+use mathlib.Core.Path.{refl}
 use lib.ListN.{length-replicate}
 use Rattle.cell_putting.proofs.Cells.{elements-filled}
 use Rattle.cell_putting.proofs.Stores.{puts_lower}
 use Rattle.moving.proofs.Puts.{puts-wrote}
 use Rattle.cell_putting.proofs.Cells.{count_most}
 use Rattle.table.proofs.Wrote.{wrote-long}
-use borrow.Author.Rules.{rules}
 use native.Mathlib.Omega.{arith}
 use Rattle.cell_putting.proofs.fill_up.Goals as goal
 

@@ -10,7 +10,6 @@ use Rattle.rows.specs.Stream.{write_cell}
 use Rattle.table.specs.Cell.{is_null, null_element}
 use Rattle.table.specs.Clauses.{form_bytes, size_as, size_of}
 use Rattle.table.specs.Result.{Result, good}
-use borrow.Author.Rules.{rules}
 use native.Mathlib.Omega.{arith}
 use Rattle.cell_putting.proofs.put_declared.Goals as goal
 

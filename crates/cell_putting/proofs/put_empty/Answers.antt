@@ -4,7 +4,6 @@ use mathlib.Core.Path.{refl}
 use Rattle.cell_putting.proofs.Stores.{puts-front}
 use Rattle.number.specs.Number.{to_digits}
 use Rattle.table.specs.Bytes.{bytes}
-use borrow.Author.Rules.{rules}
 use native.Mathlib.Omega.{arith}
 use Rattle.cell_putting.proofs.put_empty.Goals as goal
 

@@ -5,7 +5,6 @@ use Rattle.binary_writing.proofs.Sizes.{zeros-length}
 use Rattle.moving.proofs.Puts.{puts_none, puts-wrote}
 use Rattle.rows.specs.Stream.{write_cell}
 use Rattle.table.specs.Cell.{is_null}
-use borrow.Author.Rules.{rules}
 use native.Mathlib.Omega.{arith}
 use Rattle.cell_putting.proofs.put_flagged.Goals as goal
 

@@ -13,7 +13,6 @@ use Rattle.tabledata.specs.TableData.{element_bytes, spaced, truth_text}
 use Rattle.number.proofs.Decimal.{shortest-most}
 use Rattle.number.specs.Clauses.{is_signed, width_of}
 use Rattle.table.specs.Shape.{Whole}
-use borrow.Author.Rules.{rules}
 use native.Mathlib.Omega.{arith}
 use Rattle.cell_putting.proofs.put_integer.Goals as goal
 

@@ -3,8 +3,6 @@ use mathlib.Core.Path.{refl}
 use Rattle.rows.specs.Stream.{write_cell}
 use Rattle.table.specs.Cell.{is_null}
 use Rattle.tabledata.specs.TableData.{write_text}
-use borrow.Author.Rules.{rules}
-use native.Mathlib.Omega.{arith}
 use Rattle.cell_putting.proofs.put_null.Goals as goal
 
 pub returns-in-TableData : goal.returns-in-TableData

@@ -9,7 +9,6 @@ use Rattle.table.specs.declared.Rows.{Rows}
 use Rattle.table.specs.declared.Rows.TheVariants.{Binary, Binary2, TableData}
 use Rattle.tabledata.specs.TableData.{element_bytes, spaced, truth_text}
 use Rattle.table.specs.Shape.{Truths}
-use borrow.Author.Rules.{rules}
 use native.Mathlib.Omega.{arith}
 use Rattle.cell_putting.proofs.put_truth.Goals as goal
 

@@ -1,10 +1,7 @@
 -- cell_putting::scalar_of: by its length, then by its kind.
 use mathlib.Core.Path.{◌∙◌, ap, sym}
-use borrow.Author.Tests.{not-false, not-true}
 use Rattle.cell_putting.proofs.Elements.{array-never, neither-never}
 use Rattle.number.specs.Clauses.{shape_as}
-use borrow.Author.Rules.{rules}
-use native.Mathlib.Omega.{arith}
 use Rattle.cell_putting.proofs.scalar_of.Goals as goal
 
 pub returns-then-not-is_scalar : goal.returns-then-not-is_scalar

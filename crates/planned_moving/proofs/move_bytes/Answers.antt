@@ -1,7 +1,6 @@
 -- planned_moving::move_bytes: not to text; else the bytes, copied.
 use mathlib.Core.Path.{◌∙◌, refl, sym}
 use native.Mathlib.Omega.{arith}
-use borrow.Author.Rules.{rules}
 use Rattle.moving.proofs.Puts.{puts_none}
 use Rattle.planned_moving.proofs.move_bytes.Goals as goal
 

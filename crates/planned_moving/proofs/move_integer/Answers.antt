@@ -10,7 +10,7 @@ use mir.Val.{of_z, to_z}
 use Rattle.cell_putting.proofs.Elements.{value-moved}
 use Rattle.cell_putting.specs.Clauses.{one_form}
 use Rattle.moving.proofs.Puts.{puts-as, puts_none}
-use Rattle.moving.specs.Contents.{FindsOne, InBinary}
+use Rattle.moving.specs.Contents.{InBinary}
 use Rattle.number.specs.Clauses.{is_signed, width_of}
 use Rattle.table.specs.Cell.{is_declared}
 use Rattle.table.specs.Shape.{Shape, Whole, shape}

@@ -4,12 +4,10 @@ use Prim.Native.Nat.{◌≤◌}
 use mathlib.Core.Bool.{false≢true, true}
 use mathlib.Core.Path.{◌∙◌, ◌≡◌, ap, subst, sym}
 use native.Mathlib.Omega.{arith}
-use borrow.Author.Rules.{rules}
 use lib.Dec.{lit≤}
 use Rattle.binary.specs.Binary.{content_bytes}
 use Rattle.binary_moving.proofs.Counted.{size-most}
 use Rattle.eights.proofs.Fronts.{are-bytes}
-use Rattle.moving.proofs.Puts.{puts_none}
 use Rattle.planned_moving.proofs.Planned.{OfFixed, fixed_moved, integer-wanted, of-fixed, passed-moved, wants_bytes, wants_integer}
 use Rattle.planning.specs.Plan.{step_of}
 use Rattle.planning.specs.declared.Step.{Step}

@@ -1,7 +1,6 @@
 -- row_moving::begin_flags: the front of eight bytes is the number of the bytes of flags.
 use mathlib.Core.Path.{refl}
 use native.Mathlib.Omega.{arith}
-use borrow.Author.Rules.{rules}
 use Rattle.binary.proofs.Digits.{unit-some}
 use Rattle.binary.specs.Binary.{bit_bytes}
 use Rattle.flags.proofs.FlagLaws.{are-bytes}

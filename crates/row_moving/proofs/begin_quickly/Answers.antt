@@ -1,6 +1,5 @@
 -- row_moving::begin_quickly: by the kind of rows, what the function for it promises.
 use native.Mathlib.Omega.{arith}
-use borrow.Author.Rules.{rules}
 use Rattle.row_reading.proofs.Ways.{begun-binary}
 use Rattle.row_moving.proofs.begin_quickly.Goals as goal
 

@@ -5,10 +5,8 @@ use mathlib.Core.Path.{◌≡◌, subst, sym}
 use lib.ListN.{drop, take}
 use Rattle.number.specs.Number.{of_digits}
 use Rattle.row_reading.specs.Clauses.{Begins}
-use Rattle.row_reading.specs.declared.Begin.{Begin}
 use Rattle.table.specs.declared.Rows.TheVariants.{TableData}
 use native.Mathlib.Omega.{arith}
-use borrow.Author.Rules.{rules}
 use Rattle.flags.proofs.FlagLaws.{are-bytes}
 use Rattle.row_moving.proofs.Beginning.{begins-bare, begins-line}
 use Rattle.row_moving.proofs.begin_text.Goals as goal

@@ -1,7 +1,6 @@
 -- row_moving::frame_row: what begins the row is stored in the room before its cells, what ends it behind them, where there is room.
 use mathlib.Core.Path.{◌∙◌, refl}
 use native.Mathlib.Omega.{arith}
-use borrow.Author.Rules.{rules}
 use Rattle.row_moving.proofs.Moving.{end-most, row-framed, start-most}
 use Rattle.table.proofs.Wrote.{wrote-long}
 use Rattle.row_moving.proofs.frame_row.Goals as goal

@@ -1,14 +1,8 @@
 -- `row_moving::put_eights` meets its contract: before each turn the first k bytes are put, and the last eight go over those of them that are among these.
-use Prim.Native.Nat.{◌+◌, ◌-◌, ◌<◌, ◌≤◌, ℕ}
-use native.Mathlib.Omega.{arith}
-use mathlib.Core.Path.{◌∙◌, ◌≡◌, ap, refl}
-use borrow.Author.Rules.{rules}
+use Prim.Native.Nat.{◌-◌, ◌≤◌}
+use mathlib.Core.Path.{◌≡◌}
 use lib.ListN.{length, take}
-use lib.Seq.{length-take-le, sets}
-use Rattle.eights.proofs.Fronts.{are-bytes, eight-back}
-use Rattle.number.proofs.Laws.{length_to}
-use Rattle.row_moving.proofs.Copying.{sets_last, sets_more}
-use Rattle.table.specs.All.{AreBytes}
+use lib.Seq.{sets}
 use Rattle.row_moving.proofs.put_eights.Given as goal
 
 abbrev pub invariant-loop-k : goal.invariant-loop-k

@@ -1,6 +1,5 @@
 -- row_moving::put_row: the part that is lent is the row.
 use native.Mathlib.Omega.{arith}
-use borrow.Author.Rules.{rules}
 use Prim.Native.Nat.{◌-◌, ℕ}
 use mathlib.Core.Path.{◌≡◌, ap}
 use lib.ListN.{take}

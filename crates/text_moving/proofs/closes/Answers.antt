@@ -5,7 +5,6 @@ use Rattle.eights.proofs.Fronts.{are-bytes}
 use Rattle.table.specs.All.{AreBytes}
 use Rattle.text_moving.proofs.Tags.{closes_at}
 use native.Mathlib.Omega.{arith}
-use borrow.Author.Rules.{rules}
 use Rattle.text_moving.proofs.closes.Goals as goal
 
 pub returns-then-s-at-lt5 : goal.returns-then-s-at-lt5

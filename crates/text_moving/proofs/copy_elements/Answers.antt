@@ -1,12 +1,5 @@
 -- `text_moving::copy_elements` meets its contract: the tags are put around what is copied, whose end tag stands behind it.
-use Prim.Native.Nat.{ℕ}
-use mathlib.Core.List.{[]}
-use mathlib.Core.Path.{subst}
-use borrow.Author.Tests.{not-false}
 use Rattle.moving.proofs.Puts.{puts-before, puts_then}
-use Rattle.moving.specs.Contents.{AsText, ContentMoved, InText, MovesContent}
-use Rattle.moving.specs.Puts.{Puts}
-use Rattle.table.specs.Shape.{shape}
 use Rattle.text_moving.proofs.Cells.{copied}
 use Rattle.text_moving.specs.Clauses.{ClosesAt}
 use native.Mathlib.Omega.{arith}

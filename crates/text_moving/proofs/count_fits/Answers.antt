@@ -4,7 +4,6 @@ use mathlib.Core.Path.{◌∙◌, sym}
 use borrow.Author.Tests.{eqb-true, leb-true}
 use Rattle.text_moving.proofs.Cells.{bounded-counts, char-counts, fixed-counts, free-counts}
 use native.Mathlib.Omega.{arith}
-use borrow.Author.Rules.{rules}
 use Rattle.text_moving.proofs.count_fits.Goals as goal
 
 pub returns-then-count-eq0 : goal.returns-then-count-eq0

@@ -5,7 +5,6 @@ use Rattle.moving.specs.Cells.{MovesRead}
 use Rattle.table.specs.declared.Rows.{Rows}
 use Rattle.table.specs.declared.Rows.TheVariants.{TableData}
 use Rattle.text_moving.specs.Clauses.{TextRead}
-use borrow.Author.Rules.{rules}
 use Rattle.text_moving.proofs.move_elements.Goals as goal
 
 pub returns-then-is_text : goal.returns-then-is_text

@@ -2,15 +2,14 @@
 use Prim.Native.Nat.{◌+◌, ℕ}
 use mathlib.Core.Bool.{true}
 use mathlib.Core.List.{[], ◌∷◌}
-use mathlib.Core.Path.{◌∙◌, ◌≡◌, ap, subst, sym}
-use borrow.Author.Tests.{not-false}
+use mathlib.Core.Path.{◌∙◌, ◌≡◌, ap, sym}
 use lib.IntN.{ℤ}
 use mir.Syntax.{w64}
 use mir.Val.{of_z, to_z}
 use Rattle.cell_putting.proofs.Elements.{null-moved, value-moved}
 use Rattle.cell_putting.specs.Clauses.{one_form}
 use Rattle.moving.proofs.Puts.{puts-as, puts_none}
-use Rattle.moving.specs.Contents.{FindsOne, InText}
+use Rattle.moving.specs.Contents.{InText}
 use Rattle.number.specs.Clauses.{is_signed, width_of}
 use Rattle.table.specs.Cell.{is_declared, is_scalar}
 use Rattle.table.specs.Shape.{Shape, Whole, shape}

@@ -5,7 +5,6 @@ use Rattle.text_moving.proofs.Cells.{empty-moved, text-moved}
 use Rattle.text_moving.specs.Clauses.{OpensAs}
 use Rattle.text_moving.specs.declared.Opening.{Opening}
 use native.Mathlib.Omega.{arith}
-use borrow.Author.Rules.{rules}
 use Rattle.text_moving.proofs.move_text.Goals as goal
 
 pub returns-then-row-o-lt-ROOM : goal.returns-then-row-o-lt-ROOM

@@ -3,7 +3,6 @@ use Rattle.eights.proofs.Fronts.{are-bytes}
 use Rattle.table.specs.All.{AreBytes}
 use Rattle.text_moving.proofs.Tags.{opens-content, opens-empty}
 use native.Mathlib.Omega.{arith}
-use borrow.Author.Rules.{rules}
 use Rattle.text_moving.proofs.open_cell.Goals as goal
 
 pub returns-then-x-eq1012155454 : goal.returns-then-x-eq1012155454

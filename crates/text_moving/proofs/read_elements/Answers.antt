@@ -1,12 +1,5 @@
 -- `text_moving::read_elements` meets its contract: the bytes are put behind room for their count, which is filled in when the end tag is met.
-use Prim.Native.Nat.{◌+◌, ℕ}
-use mathlib.Core.List.{[]}
-use mathlib.Core.Path.{subst}
-use borrow.Author.Tests.{not-false}
 use Rattle.cell_putting.proofs.Stores.{puts_lower}
-use Rattle.moving.specs.Contents.{AsBinary, ContentMoved, InText, MovesContent}
-use Rattle.moving.specs.Puts.{Puts}
-use Rattle.table.specs.Shape.{shape}
 use Rattle.text_moving.proofs.Cells.{filled_in}
 use Rattle.text_moving.specs.Clauses.{ClosesAt, Counts}
 use native.Mathlib.Omega.{arith}
