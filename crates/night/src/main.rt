@@ -314,14 +314,12 @@ fn bar(s: &[u8], from: usize) -> usize
     requires { from ≤ length s.now }
     ensures { (from ≤ result) × (result ≤ length s.now) }
 {
-    let mut i = from;
-    while i < s.len() {
+    for i in from..s.len() {
         if s[i] == b'|' {
             return i;
         }
-        i += 1;
     }
-    i
+    s.len()
 }
 
 fn behind(s: &[u8], i: usize) -> usize
