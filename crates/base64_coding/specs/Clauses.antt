@@ -99,11 +99,6 @@ pub record LettersTo (s : List ℕ) (from to : ℕ) : Type 0 where
 
 -- ---- a whole text
 
--- a size, or the refusal's number
-abbrev pub size_as : Outcome ℕ Reason → Result ℕ ℕ
-size_as (Ok n) = good n
-size_as (Err e) = bad (number_of e)
-
 -- how many bytes, with n before them; or the refusal's number
 unfoldable pub decoded_size : ℕ → Result ℕ (List ℕ) → Result ℕ ℕ
 decoded_size n (bad e) = bad e

@@ -3,7 +3,8 @@
 ghost use Rattle.std.specs.Prelude.{◌+◌, ◌-◌, ◌/◌, ◌<◌, ◌≤◌, [], ◌∷◌, ◌≡◌, drop, length};
 ghost use Rattle.std.proofs.lemmas.List.Edits.{sets};
 ghost use Rattle.base64_rules.specs.Base64.{decode, one_byte, three_bytes, two_bytes};
-ghost use Rattle.base64_coding.specs.Clauses.{Bounded, FitsAt, FourIs, LettersTo, Low, NextIs, buffer_with, bytes_as, decoded_size, four_number, four_sum, fours_bytes, highest_from, number_bytes, size_as, values_at};
+ghost use Rattle.base64_coding.specs.Clauses.{Bounded, FitsAt, FourIs, LettersTo, Low, NextIs, buffer_with, bytes_as, decoded_size, four_number, four_sum, fours_bytes, highest_from, number_bytes, values_at};
+ghost use Rattle.table.specs.Clauses.{size_as};
 ghost use Rattle.base64_letters.specs.Letters.{none};
 
 use base64_letters::letters::{LetterTable, NONE};

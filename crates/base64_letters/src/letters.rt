@@ -20,7 +20,23 @@ const VALUES: [u32; 128] = [
     45, 46, 47, 48, 49, 50, 51, NONE, NONE, NONE, NONE, NONE,
 ];
 
-// The table. It is made once in a call and lent from there on: named where it is used it would be made anew at each use.
+// The table of each character's value.
+pub fn letter_table() -> [u32; 128]
+    ensures { TableIs result }
+{
+    VALUES
+}
+
+// A character's value, by the table.
+pub fn letter_value(c: u8, values: &[u32; 128]) -> u32
+    requires { (c < 128) × TableIs values.now }
+    ensures { result ≡ letter_value c }
+{
+    let place = c as usize;
+    values[place]
+}
+
+// The table with what it says. It is made once in a call and lent from there on: named where it is used it would be made anew at each use.
 #[derive(Clone, Copy)]
 pub struct LetterTable {
     pub values: [u32; 128],
@@ -29,7 +45,9 @@ pub struct LetterTable {
 
 impl LetterTable {
     pub fn new() -> Self {
-        LetterTable { values: VALUES }
+        LetterTable {
+            values: letter_table(),
+        }
     }
 
     // A character's value.
@@ -37,6 +55,6 @@ impl LetterTable {
         requires { c < 128 }
         ensures { result ≡ letter_value c }
     {
-        self.values[c as usize]
+        letter_value(c, &self.values)
     }
 }

@@ -12,8 +12,8 @@ use lib.Seq.{drop-cons, get_or-take, length-take-le}
 use Rattle.binary.specs.Binary.{flag_bit}
 use Rattle.compare.specs.Compare.{same_cell, same_elements}
 use Rattle.number.specs.Number.{to_digits}
-use Rattle.std.specs.Prelude.{None, Ok, Option, Some}
-use Rattle.row_comparing.specs.Clauses.{CellsRead, EndsRows, OneUnread, PairsCell, PairsRow, differing_bits, unread-first, unread-second}
+use Rattle.std.specs.Prelude.{Err, None, Ok, Option, Result as Returned, Some}
+use Rattle.row_comparing.specs.Clauses.{EndsRows, OneUnread, PairsCell, PairsRow, differing_bits, pair_of, unread-first, unread-second}
 use Rattle.row_comparing.specs.declared.RowPair.{RowPair}
 use Rattle.row_reading.proofs.Parts.{cells-stopped, row-onward}
 use Rattle.row_reading.specs.Clauses.{cells_end}
@@ -25,6 +25,7 @@ use Rattle.table.specs.Outcome.{at}
 use Rattle.table.specs.Result.{Result, bad, good}
 use Rattle.table.specs.declared.Column.{Column}
 use Rattle.table.specs.declared.Found.{Found}
+use Rattle.table.specs.declared.Reason.{Reason}
 use Rattle.table.specs.declared.Rows.{Rows}
 
 -- ---- elements
@@ -63,18 +64,19 @@ none_left n a b i p q = rw (p, q)
 
 -- ---- a cell of each
 
-module _ {d : Result ℕ (Cell × List ℕ)} {s : List ℕ} {i : ℕ} {a₀ a : List ℤ} {e : Result ℕ (Cell × List ℕ)} {t : List ℕ} {j : ℕ} {b₀ b : List ℤ} where
-  pub paired : {f g : Found} {same : Bool} → Reads d s i a₀ a (Ok f) → Reads e t j b₀ b (Ok g) → same ≡ same_cell (shown_as a f.shown) (shown_as b g.shown)
-      → CellsRead d s i e t j same f.next g.next
-  paired {f} {g} h k q = record {
+module _ (d : Result ℕ (Cell × List ℕ)) (s : List ℕ) (i : ℕ) (a₀ a : List ℤ) (e : Result ℕ (Cell × List ℕ)) (t : List ℕ) (j : ℕ) (b₀ b : List ℤ) where
+  pub paired : (f g : Returned Found Reason) → Reads d s i a₀ a f → Reads e t j b₀ b g → PairsCell d s i e t j (pair_of a f b g)
+  paired (Ok f) (Ok g) h k = record {
     x = shown_as a f.shown;
     y = shown_as b g.shown;
     found = h.found;
     found-other = k.found;
-    shows = q;
+    shows = refl;
     within = (h.within.0, h.within.1);
     within-other = (k.within.0, k.within.1);
   }
+  paired (Ok f) (Err n) h k = unread-second k.found
+  paired (Err n) g h k = unread-first h.found
 
 -- ---- a bit for each column
 

@@ -1,5 +1,5 @@
 -- What the functions that compare a row of each of two inputs promise: each case of an answer as the definitions have it.
-use Rattle.std.specs.Prelude.{Option, None, Some, ◌≤◌, ℕ, Bool, false, not, true, List, [], ◌∷◌, ◌≡◌, ℤ, drop, length, take}
+use Rattle.std.specs.Prelude.{Err, None, Ok, Option, Result as Returned, Some, ◌≤◌, ℕ, Bool, false, not, true, List, [], ◌∷◌, ◌≡◌, ℤ, drop, length, take}
 use Rattle.binary.specs.Binary.{flag_bit}
 use Rattle.compare.specs.Compare.{same_cell, same_elements}
 use Rattle.number.specs.Number.{to_digits}
@@ -7,8 +7,11 @@ use Rattle.row_comparing.specs.declared.CellPair.{CellPair}
 use Rattle.row_comparing.specs.declared.RowPair.{RowPair}
 use Rattle.rows.specs.Stream.{read_end}
 use Rattle.table.specs.Cell.{Cell}
+use Rattle.table.specs.Clauses.{shown_as}
 use Rattle.table.specs.Outcome.{Refusal}
 use Rattle.table.specs.Result.{Result, bad, good}
+use Rattle.table.specs.declared.Found.{Found}
+use Rattle.table.specs.declared.Reason.{Reason}
 use Rattle.table.specs.declared.Rows.{Rows}
 
 -- one of the two does not read
@@ -27,6 +30,12 @@ pub record CellsRead (d : Result ℕ (Cell × List ℕ)) (s : List ℕ) (i : ℕ
   pub shows : same ≡ same_cell x y
   pub within : (i ≤ next) × (next ≤ length s)
   pub within-other : (j ≤ other) × (other ≤ length t)
+
+-- what two readers found of a column, as one answer: read where both read
+abbrev pub pair_of : List ℤ → Returned Found Reason → List ℤ → Returned Found Reason → Option CellPair
+pair_of a (Ok f) b (Ok g) = Some (record { same = same_cell (shown_as a f.shown) (shown_as b g.shown); next = f.next; other = g.next })
+pair_of a (Ok f) b (Err e) = None
+pair_of a (Err e) b g = None
 
 abbrev pub PairsCell : Result ℕ (Cell × List ℕ) → List ℕ → ℕ → Result ℕ (Cell × List ℕ) → List ℕ → ℕ → Option CellPair → Type 0
 PairsCell d s i e t j (Some p) = CellsRead d s i e t j p.same p.next p.other

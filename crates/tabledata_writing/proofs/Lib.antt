@@ -1,1 +1,3 @@
+pub mod Complement
+pub mod Taken
 pub mod Writing

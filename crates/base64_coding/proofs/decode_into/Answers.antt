@@ -4,7 +4,8 @@ use Rattle.table.specs.Outcome.{most_input}
 use Rattle.base64_rules.proofs.Laws.{decode-refused-6}
 use Rattle.std.specs.Prelude.{Err}
 use Rattle.std.proofs.lemmas.Result.{err_from_is_err_and}
-use Rattle.base64_coding.specs.Clauses.{answer_as, size_as}
+use Rattle.base64_coding.specs.Clauses.{answer_as}
+use Rattle.table.specs.Clauses.{size_as}
 use Rattle.base64_coding.proofs.Calls.{decode-bad, decode-long, decode-made, fits, made-refusal}
 use Rattle.base64_coding.proofs.decode_into.Goals as goal
 

@@ -1,4 +1,4 @@
--- row_comparing::compare_cell: what two readers found of a column is one answer (paired), or one of them read nothing.
+-- row_comparing::compare_cell: what two readers found of a column is one answer (paired).
 use Rattle.row_comparing.proofs.Pairs.{paired}
 use Rattle.row_comparing.specs.Clauses.{unread-first, unread-second}
 use Rattle.row_comparing.proofs.compare_cell.Goals as goal
@@ -13,4 +13,8 @@ pub returns : goal.returns
 returns c =
     let f = c.in-Ok.ensures in
     let g = c.in-Ok-read_cell.ensures in
-    record { pairs_cell = paired f g c.shows_same.ensures; a_len_unchanged = f.long; b_len_unchanged = g.long }
+    record {
+      pairs_cell = rw c.shows_same.ensures (paired _ _ _ _ _ _ _ _ _ _ _ _ f g);
+      a_len_unchanged = f.long;
+      b_len_unchanged = g.long;
+    }
