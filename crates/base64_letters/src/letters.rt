@@ -44,7 +44,9 @@ pub struct LetterTable {
 }
 
 impl LetterTable {
-    pub fn new() -> Self {
+    pub fn new() -> Self
+        ensures { TableIs result.values }
+    {
         LetterTable {
             values: letter_table(),
         }
