@@ -35,7 +35,9 @@ fn highest(s: &[u8]) -> u8
     most
 }
 
-// The next byte that is no white space, and the place after it.
+// The next byte that is no white space, and the place after it. Never a call, as `three_bytes` and `next_four` are none: what it finds would go
+// through memory.
+#[inline(always)]
 fn next_byte(s: &[u8], from: usize) -> Option<(u8, usize)>
     requires { from ≤ length s.now }
     ensures { NextIs s.now from result }
@@ -79,6 +81,7 @@ fn two_bytes(a: u8, b: u8, c: u8, table: &LetterTable) -> Option<[u8; 2]>
     Some([(w * 4 + x / 16) as u8, (x % 16 * 16 + y / 4) as u8])
 }
 
+#[inline(always)]
 fn three_bytes(a: u8, b: u8, c: u8, d: u8, table: &LetterTable) -> Option<[u8; 3]>
     requires { (a < 128) × (b < 128) × (c < 128) × (d < 128) }
     ensures { bytes_as result ≡ three_bytes a b c d }
@@ -98,6 +101,7 @@ fn three_bytes(a: u8, b: u8, c: u8, d: u8, table: &LetterTable) -> Option<[u8; 3
 }
 
 // What the next four characters give, with white space among them skipped; nothing at the end of the text.
+#[inline(always)]
 fn next_four(s: &[u8], i: usize, table: &LetterTable) -> Option<Four>
     requires { (i ≤ length s.now) × Low s.now }
     ensures { FourIs s.now i result }
@@ -192,7 +196,8 @@ fn put3(out: &mut [u8], n: usize, bytes: [u8; 3])
     out[n + 2] = bytes[2];
 }
 
-// The place behind the fours of letters that stand from a place on.
+// The place behind the fours of letters that stand from a place on. A call, as `write_fours` is, so that its loop has the registers to itself.
+#[inline(never)]
 fn fours_end(s: &[u8], from: usize, table: &LetterTable) -> usize
     requires { (from ≤ length s.now) × Low s.now }
     ensures { LettersTo s.now from result }
@@ -209,6 +214,7 @@ fn fours_end(s: &[u8], from: usize, table: &LetterTable) -> usize
 }
 
 // Writes their bytes, and gives the same place.
+#[inline(never)]
 fn write_fours(s: &[u8], from: usize, table: &LetterTable, out: &mut [u8], n: usize) -> usize
     requires { (from ≤ length s.now) × Low s.now × FitsAt n (decode (drop from s.now)) (length out.old) }
     ensures place { LettersTo s.now from result }

@@ -70,6 +70,7 @@ fn put_flagged(column: Column, next: usize, row: &mut [u8], o: usize) -> Option<
 }
 
 // "Null in BINARY: the declared null, `?` for a scalar boolean, count 0 for bounded and free, NULs for fixed char; else 15."
+#[inline(always)]
 fn put_declared(column: Column, next: usize, row: &mut [u8], o: usize) -> Option<Moved>
     requires { (bound column.len ≤ most_elements) × (o ≤ length row.old) }
     ensures { PutsCell Binary column null next row.old o row.new result }
@@ -88,7 +89,8 @@ fn put_declared(column: Column, next: usize, row: &mut [u8], o: usize) -> Option
     })
 }
 
-// A null that ends at a place of the input.
+// A null that ends at a place of the input. Never a call: what it hands back would go through memory.
+#[inline(always)]
 pub fn put_null(to: Rows, column: Column, next: usize, row: &mut [u8], o: usize) -> Option<Moved>
     requires { (bound column.len ≤ most_elements) × (o + most_room ≤ length row.old) }
     ensures { PutsCell to column null next row.old o row.new result }

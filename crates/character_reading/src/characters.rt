@@ -37,7 +37,8 @@ fn semicolon(s: &[u8], from: usize) -> Option<usize>
     None
 }
 
-// What a reference means, from after its `&`.
+// What a reference means, from after its `&`. A call, so that what most characters take needs no room on the stack.
+#[inline(never)]
 fn refer(s: &[u8], from: usize) -> Result<Item, Reason>
     requires { from ≤ length s.now }
     ensures { ItemIs Markup (characters (reference []) (drop from s.now)) s.now from result }
@@ -68,7 +69,9 @@ fn line_end(s: &[u8], at: usize) -> Item
     Item::Code(10, next)
 }
 
-// The character at a place, or where the text ends: only markup has tags, references and line ends, and an end that is asked for.
+// The character at a place, or where the text ends: only markup has tags, references and line ends, and an end that is asked for. In its callers'
+// loops, since as a call it would hand each character back through memory.
+#[inline(always)]
 pub fn character_at(s: &[u8], at: usize, source: Source) -> Result<Item, Reason>
     requires { at ≤ length s.now }
     ensures { ItemIs source (characters_of source (drop at s.now)) s.now at result }

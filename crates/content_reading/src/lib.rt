@@ -105,6 +105,15 @@ impl Test for Plain {
     }
 }
 
+// The end of a run of them. A call, so that its loop has the registers to itself.
+#[inline(never)]
+fn plain_end(s: &[u8], from: usize) -> usize
+    requires { from ≤ length s.now }
+    ensures { PassTo is_plain s.now from result }
+{
+    run_end::<Plain>(s, from)
+}
+
 // A character and the place after it.
 #[derive(Clone, Copy)]
 pub struct Letter {
@@ -171,7 +180,7 @@ fn read_text(s: &[u8], from: usize, row: &mut [u8], first: usize) -> Option<Cont
     let mut at = from;
     let mut o = first;
     loop {
-        let end = run_end::<Plain>(s, at);
+        let end = plain_end(s, at);
         let n = end - at;
         if s.len() - end < 8 {
             return None;

@@ -41,7 +41,8 @@ fn belongs(class: Class, c: u8) -> bool
     }
 }
 
-// The first place from `from` on whose byte does not belong to the class.
+// The first place from `from` on whose byte does not belong to the class. A call, so that its loop has the registers to itself.
+#[inline(never)]
 pub fn span_end(s: &[u8], from: usize, class: Class) -> usize
     requires { from ≤ length s.now }
     ensures { SpanEnd class s.now from result }

@@ -20,7 +20,6 @@ use planning::plan_of;
 use row_reading::{Begin, begin_row, end_row, flag_of};
 use row_writing::{start_size, write_end, write_start};
 use table::{Columns, Reason, Rows};
-use text::put_bytes;
 
 // Rows that are done: the place in the input where they end, how many they are, and the bytes written.
 #[derive(Clone, Copy)]
@@ -76,18 +75,17 @@ fn put_eights(row: &[u8], size: usize, out: &mut [u8], at: usize) -> usize
     put_eight(out, at + last, eight_bytes(row, last))
 }
 
-// A short row is not worth a call that copies; a long one is.
+// A short row is not worth vectors; a long one is, and the compiler makes them of the loop. (`copy_from_slice` would be plainer, but a copy of any
+// length by it calls memmove, which an archive for C would need from outside.)
 fn put_row(row: &[u8], size: usize, out: &mut [u8], at: usize) -> usize
     requires { (size ≤ length row.now) × (at + size ≤ length out.old) }
     ensures { Wrote out.old at (take size row.now) out.new result }
 {
-    if size < 8 {
-        return put_few(row, size, out, at);
+    if 8 <= size && size <= MOST_BY_EIGHTS {
+        put_eights(row, size, out, at)
+    } else {
+        put_few(row, size, out, at)
     }
-    if size <= MOST_BY_EIGHTS {
-        return put_eights(row, size, out, at);
-    }
-    put_bytes(out, at, &row[0..size])
 }
 
 // ---- the start of a row: what is plain is told from eight bytes at once, all else by `begin_row`
