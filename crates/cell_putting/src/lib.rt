@@ -112,6 +112,7 @@ pub fn put_null(to: Rows, column: Column, next: usize, row: &mut [u8], o: usize)
 // ---- one element of a scalar that stands for no null
 
 // Rows that have tags.
+#[tactic(auto, unfolding(crate::specs::Clauses::is_text))]
 pub fn is_text(rows: Rows) -> bool
     ensures { result ≡ is_text rows }
 {

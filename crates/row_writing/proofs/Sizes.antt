@@ -6,7 +6,7 @@ use mathlib.Core.Path.{◌∙◌, ◌≡◌, ap, sym}
 use lib.Dec.{eqb, lit≤}
 use lib.IntN.{negsuc, pos, ℤ}
 use lib.ListN.{length, length-append, length-map}
-use Rattle.binary_writing.proofs.Sizes.{Few, binary-size, binary2-size}
+use Rattle.binary_writing.proofs.Sizes.{Few, binary-size, binary2-size, shown-few}
 use Rattle.binary.proofs.Laws.{length-pack}
 use Rattle.binary.specs.Binary.{bit_bytes, write_binary, write_binary2}
 use Rattle.number.proofs.Laws.{length_to}
@@ -19,7 +19,7 @@ use Rattle.table.proofs.Laws.{all_map, bad-good, cond_cases, fails-at, holds-bin
 use Rattle.table.specs.All.{All}
 use Rattle.table.specs.Bytes.{byte, bytes}
 use Rattle.table.specs.Cell.{Cell, bound, most_elements, null, shown}
-use Rattle.table.specs.Clauses.{form_bytes, size_as, size_of}
+use Rattle.table.specs.Clauses.{ShownUpTo, form_bytes, shown_as, size_as, size_of}
 use Rattle.table.specs.Result.{Holds, Result, bad, good, holds, refuses}
 use Rattle.table.specs.Shape.{Bits, Shape, Text, Truths, Whole, shape}
 use Rattle.table.specs.declared.Column.{Column}
@@ -27,7 +27,7 @@ use Rattle.table.specs.declared.Rows.{Rows}
 use Rattle.table.specs.declared.Rows.TheVariants.{Binary, Binary2, TableData}
 use Rattle.table.specs.declared.Reason.{Reason}
 use Rattle.table.specs.Reasons.{number_of}
-use Rattle.std.specs.Prelude.{Err, Ok, Result as Returned}
+use Rattle.std.specs.Prelude.{Err, Ok, Option, Result as Returned}
 use Rattle.tabledata_writing.proofs.Writing.{truth-long}
 use Rattle.tabledata.specs.TableData.{bit_text, close-TD, element_bytes, element_text, escaped, form_of, forms, is_text, open-TD, spaced, tagged, truth_text, write_text}
 
@@ -108,6 +108,11 @@ size-within to c x (Err r) h e = omega (arith, (fails-at (write-cell-fails to c 
 
 pub sized : (to : Rows) (c : Column) (x : Cell) (r : Returned ℕ Reason) → bound c.len ≤ most_elements → Few c x → size_as r ≡ size_of (write_cell to c x) → (size_as r ≡ size_of (write_cell to c x)) × SizeWithin r
 sized to c x r b f e = (e, size-within to c x r (cell-small to c x b f) e)
+
+-- the same of what is shown in a scratch
+pub measured : (to : Rows) (c : Column) (o : Option ℕ) (scratch : List ℤ) (r : Returned ℕ Reason) → bound c.len ≤ most_elements → ShownUpTo (bound c.len) o
+    → size_as r ≡ size_of (write_cell to c (shown_as scratch o)) → (size_as r ≡ size_of (write_cell to c (shown_as scratch o))) × SizeWithin r
+measured to c o scratch r b few e = sized to c (shown_as scratch o) r b (shown-few c o scratch few) e
 
 -- ---- what begins a row that is written
 

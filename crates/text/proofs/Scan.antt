@@ -4,7 +4,7 @@ use Prim.Native.Nat.{◌+◌, ◌-◌, ◌<◌, ◌≤◌, ℕ}
 use native.Mathlib.Omega.{arith}
 use mathlib.Core.Bool.{Bool, false, true}
 use mathlib.Core.List.{List, [], ◌++◌, ◌∷◌}
-use mathlib.Core.Path.{◌∙◌, ◌≡◌, ap, refl, sym}
+use mathlib.Core.Path.{◌∙◌, ◌≡◌, ap, refl, subst, sym}
 use lib.Dec.{eqb}
 use lib.ListN.{drop, get_or, length, length-drop, take}
 use lib.Pointwise.{pointwise}
@@ -22,14 +22,15 @@ use Rattle.std.specs.Prelude.{Option, None, Some}
 
 -- ---- white space
 
+-- `looked` is where the byte was looked at: a place that is not `i` is refused by its value, and not by its form
 module _ (s : List ℕ) (i : ℕ) where
-  pub skip-more : i < length s → is_white (get_or s i 0) ≡ true → skip_white (drop i s) ≡ skip_white (drop (i + 1) s)
+  pub skip-more : {looked : ℕ} → i < length s → is_white (get_or s looked 0) ≡ true → looked ≡ i → skip_white (drop i s) ≡ skip_white (drop (i + 1) s)
   unfolding skip_white
-  skip-more h w = rw (next1 s i h) (rw w)
+  skip-more h w here = rw (next1 s i h) (rw (subst (λ k. is_white (get_or s k 0) ≡ true) here w))
 
-  pub skip-here : i < length s → is_white (get_or s i 0) ≡ false → skip_white (drop i s) ≡ drop i s
+  pub skip-here : {looked : ℕ} → i < length s → is_white (get_or s looked 0) ≡ false → looked ≡ i → skip_white (drop i s) ≡ drop i s
   unfolding skip_white
-  skip-here h w = rw (next1 s i h) (rw w)
+  skip-here h w here = rw (next1 s i h) (rw (subst (λ k. is_white (get_or s k 0) ≡ false) here w))
 
   pub skip-end : length s ≤ i → skip_white (drop i s) ≡ drop i s
   unfolding skip_white

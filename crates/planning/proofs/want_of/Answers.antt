@@ -1,4 +1,6 @@
--- planning::want_of: by what the elements are, as the definition has it.
+-- planning::want_of: by what the elements are, as the definition has it. The test of bits is named as the definition has it, and follows from the code's.
+use Prim.Native.Nat.{◌%◌}
+use native.Mathlib.Omega.{arith}
 use borrow.Author.Tests.{eq-eqb, ne_eqb}
 use Rattle.std.specs.Prelude.{Some}
 use mathlib.Core.Path.{ap}
@@ -11,7 +13,7 @@ pub returns-then-n-eq0 : goal.returns-then-n-eq0
 unfolding want_of
 returns-then-n-eq0 c =
     let a = c.args in
-    rw (← want-by Elements.Bits _ a.kind a.n c.in-Bits.is c.elements_of.ensures, eq-eqb _ 0 c.if-n-eq0.true)
+    rw (← want-by Elements.Bits _ a.kind a.n c.in-Bits.is c.elements_of.ensures, eq-eqb (a.n % 8) 0 (omega (arith, c.if-n-eq0.true)))
 
 pub returns-then-n-eq1 : goal.returns-then-n-eq1
 unfolding want_of
@@ -29,7 +31,7 @@ pub returns-else-n-eq0 : goal.returns-else-n-eq0
 unfolding want_of
 returns-else-n-eq0 c =
     let a = c.args in
-    rw (← want-by Elements.Bits _ a.kind a.n c.in-Bits.is c.elements_of.ensures, ne_eqb _ 0 c.if-n-eq0.false)
+    rw (← want-by Elements.Bits _ a.kind a.n c.in-Bits.is c.elements_of.ensures, ne_eqb (a.n % 8) 0 (omega (arith, c.if-n-eq0.false)))
 
 pub returns-else-n-eq1 : goal.returns-else-n-eq1
 unfolding want_of
