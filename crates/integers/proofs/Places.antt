@@ -1,14 +1,16 @@
 -- Bytes at a place of a text: numbers read one after the other are one number, and so are numbers stored.
 use Prim.Native.Nat.{◌%◌, ◌*◌, ◌+◌, ◌/◌, ◌<◌, ◌^◌, ◌≤◌, suc, zero, ℕ}
+use native.Mathlib.Numerals.{add-one}
 use native.Mathlib.Nat.{div-one, pow-zero}
 use native.Mathlib.Omega.{arith}
 use mathlib.Core.List.{List, [], ◌++◌, ◌∷◌}
 use mathlib.Core.Path.{◌∙◌, ◌≡◌, ap, ap₂, refl, sym}
-use lib.ListN.{drop, get_or, length, length-drop, take}
+use lib.ListN.{drop, get_or, length, length-drop, set, take}
 use lib.Seq.{drop-cons, drop-drop, get_or-drop, length-take-le, take-add, take-suc}
 use Rattle.std.specs.Int.{bytes_high_first}
 use Rattle.number.proofs.Laws.{of-append, of-from}
 use Rattle.number.specs.Number.{of_digits, to_digits}
+use Rattle.table.specs.Wrote.{Wrote}
 
 -- ---- numbers one after the other
 
@@ -49,3 +51,16 @@ unfolding to_digits
 high_first zero n = refl
 high_first (suc zero) n = rw (pow-zero, div-one)
 high_first (suc (suc w)) n = ap (λ (ds : List ℕ). n / 256 ^ suc w % 256 ∷ ds) (high_first (suc w) n)
+
+-- ---- one byte, two bytes
+
+pub store-one : (l : List ℕ) (i x n : ℕ) → n ≡ x % 256 → Wrote l i (to_digits 256 1 x) (set l i n) (i + 1)
+unfolding to_digits
+store-one l i x n e = record { now-is = ap (set l i) (e ∙ omega arith); next-is = refl }
+
+pub store_two : (l : List ℕ) (i x : ℕ) → x < 65536 → Wrote l i (to_digits 256 2 x) (set (set l i (x / 256)) (i + 1) (x % 256)) (i + 2)
+unfolding to_digits
+store_two l i x h = record {
+  now-is = rw (add-one i) (ap₂ (λ (a b : ℕ). set (set l i a) (suc i) b) (omega arith) (omega arith));
+  next-is = refl;
+}

@@ -40,5 +40,5 @@ returns-in-Int c =
 pub returns-in-Long : goal.returns-in-Long
 returns-in-Long c =
     let a = c.args in
-    to_z-of_z {w = w64} (record { sfits = c.cast_signed-in-Long.type_inv }) ∙ c.cast_signed-in-Long.ensures ∙ signed_is w64 8 refl c.eight_bytes.result
-    ∙ ap (of_pattern true 8) c.eight_bytes.ensures ∙ sym (ap (read a.s.now a.at) c.in-Long.is)
+    to_z-of_z {w = w64} (record { sfits = c.cast_signed-in-Long.type_inv }) ∙ c.cast_signed-in-Long.ensures ∙ signed_is w64 8 refl c.eight_by_sums.result
+    ∙ ap (of_pattern true 8) c.eight_by_sums.ensures ∙ sym (ap (read a.s.now a.at) c.in-Long.is)
