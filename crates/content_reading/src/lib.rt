@@ -105,7 +105,7 @@ impl Test for Plain {
     }
 }
 
-// The end of a run of them. A call, so that its loop has the registers to itself.
+// The end of a run of bytes that stand for themselves. A call, so that its loop has the registers to itself.
 #[inline(never)]
 fn plain_end(s: &[u8], from: usize) -> usize
     requires { from ≤ length s.now }

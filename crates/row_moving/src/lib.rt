@@ -75,8 +75,8 @@ fn put_eights(row: &[u8], size: usize, out: &mut [u8], at: usize) -> usize
     put_eight(out, at + last, eight_bytes(row, last))
 }
 
-// A short row is not worth vectors; a long one is, and the compiler makes them of the loop. (`copy_from_slice` would be plainer, but a copy of any
-// length by it calls memmove, which an archive for C would need from outside.)
+// From 8 bytes to MOST_BY_EIGHTS by eights; others by the loop, of which the compiler makes vectors for the long ones. (`copy_from_slice` would be
+// plainer, but a copy of any length by it calls memmove, which an archive for C would need from outside.)
 fn put_row(row: &[u8], size: usize, out: &mut [u8], at: usize) -> usize
     requires { (size ≤ length row.now) × (at + size ≤ length out.old) }
     ensures { Wrote out.old at (take size row.now) out.new result }
